@@ -1,0 +1,4 @@
+pub mod All
+pub mod Upto
+pub mod Range
+pub mod Thousandth

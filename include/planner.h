@@ -1,0 +1,166 @@
+/*
+ * The round planner, for C and C++ hosts.
+ *
+ * Link the archive libplanner.a that `rt staticlib planner` writes. It is for
+ * x86-64 Linux.
+ */
+#ifndef PLANNER_H
+#define PLANNER_H
+
+#include <stddef.h>
+#include <stdint.h>
+
+#ifdef __cplusplus
+extern "C" {
+#endif
+
+/*
+ * THE SHEET is one run of bytes, little-endian, with no padding and no
+ * alignment: any address will do. f64 is an IEEE 754 double, given by its eight
+ * bytes. NaN, the infinities and negative zero are out of every range.
+ *
+ * Header, at byte 0:
+ *
+ *   offset  type     field
+ *        0  u16      rows R, 0 to 101
+ *        2  u16      vehicles V, 0 to 16
+ *        4  u8       method, 0 to 4, see enum planner_method
+ *        5  u8       time table, 0 or 1
+ *        6  10 bytes zero
+ *
+ * Row r, at byte 16 + 48 * r. The depots are the leading rows marked as such;
+ * row 0 is a depot even unmarked.
+ *
+ *   offset  type     field
+ *        0  i32      horizontal coordinate, -1,000,000 to 1,000,000
+ *        4  i32      vertical coordinate, the same
+ *        8  i32      demand, 0 to 1,000,000
+ *       12  u32      marks, 0 to 7: sum of PLANNER_DEPOT, PLANNER_WINDOW and
+ *                    PLANNER_PENALTY
+ *       16  f64      service, 0 to 10^9
+ *       24  f64      ready, 0 to due       (zero without PLANNER_WINDOW)
+ *       32  f64      due, ready to 10^9    (zero without PLANNER_WINDOW)
+ *       40  f64      penalty, 0 to 10^6    (zero without PLANNER_PENALTY)
+ *
+ * Vehicle v, at byte 16 + 48 * R + 72 * v:
+ *
+ *   offset  type     field
+ *        0  u32      id, different for each vehicle
+ *        4  u32      depot, a row below the number of depots
+ *        8  i32      capacity, 0 or more
+ *       12  u32      marks, 0 to 7: sum of PLANNER_MAX_DISTANCE,
+ *                    PLANNER_MAX_DURATION and PLANNER_REST
+ *       16  f64      cost per distance, 0, or 0.001 to 10^6
+ *       24  f64      fixed cost, 0 to 10^9
+ *       32  f64      max distance, 0 to 10^12   (zero if not marked)
+ *       40  f64      max duration, 0 to 10^12   (zero if not marked)
+ *       48  f64      earliest start of the rest, 0 to latest (zero if not
+ *                    marked)
+ *       56  f64      latest start of the rest, earliest to 10^9 (zero if not
+ *                    marked)
+ *       64  f64      rest duration, 0 to 10^9   (zero if not marked)
+ *
+ * Distances, at byte 16 + 48 * R + 72 * V: R * R f64, 0 to 10^9; the leg from
+ * row a to row b is number a * R + b.
+ *
+ * Times, only if the time table byte is 1: R * R f64 more, laid out and ranged
+ * alike. Without them the distances serve as times.
+ *
+ * "Zero" is all zero bits. The sheet ends here: not a byte more.
+ *
+ * THE PLAN has exactly 16 + 80 * R bytes.
+ */
+enum {
+    PLANNER_HEADER_BYTES = 16,
+    PLANNER_ROW_BYTES = 48,
+    PLANNER_VEHICLE_BYTES = 72,
+    PLANNER_LEG_BYTES = 8,
+    PLANNER_MOST_ROWS = 101,
+    PLANNER_MOST_VEHICLES = 16,
+    PLANNER_PLAN_HEADER_BYTES = 16,
+    PLANNER_PLAN_ROW_BYTES = 80
+};
+
+enum planner_method {
+    PLANNER_SAVINGS = 0,
+    PLANNER_INSERTION = 1,
+    PLANNER_NEAREST_NEIGHBOR = 2,
+    PLANNER_NN_TW = 3,
+    PLANNER_SWEEP = 4
+};
+
+/* Marks of a row. */
+enum {
+    PLANNER_DEPOT = 1,
+    PLANNER_WINDOW = 2,
+    PLANNER_PENALTY = 4
+};
+
+/* Marks of a vehicle. */
+enum {
+    PLANNER_MAX_DISTANCE = 1,
+    PLANNER_MAX_DURATION = 2,
+    PLANNER_REST = 4
+};
+
+/* Bytes of a sheet. time_table is 0 or 1. */
+#define PLANNER_SHEET_BYTES(rows, vehicles, time_table)            \
+    ((size_t)PLANNER_HEADER_BYTES                                  \
+     + (size_t)PLANNER_ROW_BYTES * (size_t)(rows)                  \
+     + (size_t)PLANNER_VEHICLE_BYTES * (size_t)(vehicles)          \
+     + (size_t)PLANNER_LEG_BYTES * (size_t)(rows) * (size_t)(rows) \
+           * (1u + (size_t)(time_table)))
+
+/* Bytes of the plan of a sheet with so many rows. */
+#define PLANNER_PLAN_BYTES(rows)          \
+    ((size_t)PLANNER_PLAN_HEADER_BYTES    \
+     + (size_t)PLANNER_PLAN_ROW_BYTES * (size_t)(rows))
+
+/*
+ * Why a sheet is turned back. The conditions are tested in this order, rows,
+ * matrix entries and vehicles ascending, and the first that holds is the answer.
+ */
+enum planner_refusal {
+    /* No condition holds. */
+    PLANNER_ACCEPTED = 0,
+    /* Sheet under 16 bytes, time table byte above 1, or a zero byte of the
+       header set. */
+    PLANNER_BAD_HEADER = 1,
+    /* Rows above 101 or vehicles above 16. */
+    PLANNER_TOO_MANY = 2,
+    /* Method above 4. */
+    PLANNER_BAD_METHOD = 3,
+    /* Sheet or plan not of its exact length. */
+    PLANNER_BAD_LENGTH = 4,
+    /* Field or mark of a row out of range, or an unmarked field not zero. */
+    PLANNER_BAD_ROW = 5,
+    /* Distance or time out of range. */
+    PLANNER_BAD_MATRIX = 6,
+    /* Field, mark or depot of a vehicle out of range, an unmarked field not
+       zero, or an id twice. */
+    PLANNER_BAD_VEHICLE = 7,
+    /* No vehicle, for savings, insertion or sweep. */
+    PLANNER_NO_VEHICLE = 8
+};
+
+/*
+ * Whether a sheet would be planned: PLANNER_ACCEPTED, or the first refusal of
+ * enum planner_refusal that holds. Every byte string of every length has an
+ * answer.
+ *
+ *   sheet      the sheet's bytes, not NULL; with sheet_len 0 nothing is read
+ *   sheet_len  how many bytes are lent: no other byte is read
+ *   plan_len   the length of the buffer that the plan would go to, for refusal
+ *              4; PLANNER_PLAN_BYTES(rows) is the only one accepted
+ *
+ * It writes nothing, keeps no state, calls nothing outside the archive, and
+ * always returns; several threads may call it at once. No other thread may write
+ * the lent bytes during the call.
+ */
+uint32_t check_sheet(const uint8_t *sheet, size_t sheet_len, size_t plan_len);
+
+#ifdef __cplusplus
+}
+#endif
+
+#endif

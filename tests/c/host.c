@@ -1,0 +1,174 @@
+/*
+ * A host in C: builds sheet A of document 01, asks the planner whether it would
+ * be planned, then damages it in the way of each refusal's example.
+ */
+#include <stdint.h>
+#include <stdio.h>
+#include <string.h>
+
+#include "planner.h"
+
+enum { ROWS = 3, VEHICLES = 1 };
+
+/* Offsets in a row, a vehicle and the header that this host names. */
+enum { AT_VERTICAL = 4, AT_DEMAND = 8, AT_MARKS = 12, AT_READY = 24, AT_DUE = 32 };
+enum { AT_DEPOT = 4, AT_CAPACITY = 8, AT_COST_PER_DISTANCE = 16 };
+enum { AT_ROWS = 0, AT_VEHICLES = 2, AT_METHOD = 4 };
+
+/* A sheet with room for one byte too many. */
+struct sheet {
+    uint8_t bytes[PLANNER_SHEET_BYTES(ROWS, VEHICLES, 0) + 1];
+    size_t len;
+};
+
+static void put(uint8_t *at, uint64_t value, int width)
+{
+    for (int i = 0; i < width; i++)
+        at[i] = (uint8_t)(value >> (8 * i));
+}
+
+static void put_u16(uint8_t *at, unsigned value)
+{
+    put(at, value, 2);
+}
+
+static void put_i32(uint8_t *at, int32_t value)
+{
+    put(at, (uint32_t)value, 4);
+}
+
+static void put_f64(uint8_t *at, double value)
+{
+    uint64_t bits;
+    memcpy(&bits, &value, sizeof bits);
+    put(at, bits, 8);
+}
+
+static uint8_t *row(struct sheet *s, unsigned r)
+{
+    return s->bytes + PLANNER_HEADER_BYTES + PLANNER_ROW_BYTES * r;
+}
+
+static uint8_t *vehicle(struct sheet *s, unsigned v)
+{
+    return row(s, ROWS) + PLANNER_VEHICLE_BYTES * v;
+}
+
+static void put_leg(struct sheet *s, unsigned from, unsigned to, double distance)
+{
+    put_f64(vehicle(s, VEHICLES) + PLANNER_LEG_BYTES * (from * ROWS + to), distance);
+}
+
+/* Both ways. */
+static void put_legs(struct sheet *s, unsigned a, unsigned b, double distance)
+{
+    put_leg(s, a, b, distance);
+    put_leg(s, b, a, distance);
+}
+
+static struct sheet sheet_a(void)
+{
+    struct sheet s;
+    memset(&s, 0, sizeof s);
+    s.len = PLANNER_SHEET_BYTES(ROWS, VEHICLES, 0);
+    put_u16(s.bytes + AT_ROWS, ROWS);
+    put_u16(s.bytes + AT_VEHICLES, VEHICLES);
+    s.bytes[AT_METHOD] = PLANNER_NEAREST_NEIGHBOR;
+    put_i32(row(&s, 0) + AT_MARKS, PLANNER_DEPOT);
+    put_i32(row(&s, 1) + AT_VERTICAL, 10);
+    put_i32(row(&s, 1) + AT_DEMAND, 1);
+    put_i32(row(&s, 2) + AT_VERTICAL, -10);
+    put_i32(row(&s, 2) + AT_DEMAND, 1);
+    put_i32(vehicle(&s, 0), 7);
+    put_i32(vehicle(&s, 0) + AT_CAPACITY, 2);
+    put_f64(vehicle(&s, 0) + AT_COST_PER_DISTANCE, 1.0);
+    put_legs(&s, 0, 1, 10.0);
+    put_legs(&s, 0, 2, 10.0);
+    put_legs(&s, 1, 2, 4.0);
+    return s;
+}
+
+/* Sheet A without its vehicle: the distances move up. */
+static struct sheet without_vehicle(int method)
+{
+    struct sheet s = sheet_a();
+    memmove(vehicle(&s, 0), vehicle(&s, 1), PLANNER_LEG_BYTES * ROWS * ROWS);
+    s.len -= PLANNER_VEHICLE_BYTES;
+    put_u16(s.bytes + AT_VEHICLES, 0);
+    s.bytes[AT_METHOD] = (uint8_t)method;
+    return s;
+}
+
+static const char *words(uint32_t answer)
+{
+    switch (answer) {
+    case PLANNER_ACCEPTED: return "accepted";
+    case PLANNER_BAD_HEADER: return "refused 1, no header";
+    case PLANNER_TOO_MANY: return "refused 2, too many rows or vehicles";
+    case PLANNER_BAD_METHOD: return "refused 3, no such method";
+    case PLANNER_BAD_LENGTH: return "refused 4, not of its exact length";
+    case PLANNER_BAD_ROW: return "refused 5, a row out of range";
+    case PLANNER_BAD_MATRIX: return "refused 6, a distance or time out of range";
+    case PLANNER_BAD_VEHICLE: return "refused 7, a vehicle out of range";
+    case PLANNER_NO_VEHICLE: return "refused 8, no vehicle";
+    }
+    return "an answer that is no refusal";
+}
+
+/* Asks with a plan of the exact length for ROWS rows and so many bytes more. */
+static void ask_with_plan(const char *what, const struct sheet *s, size_t more)
+{
+    uint32_t answer = check_sheet(s->bytes, s->len, PLANNER_PLAN_BYTES(ROWS) + more);
+    printf("%s: %s\n", what, words(answer));
+}
+
+static void ask(const char *what, const struct sheet *s)
+{
+    ask_with_plan(what, s, 0);
+}
+
+int main(void)
+{
+    struct sheet s = sheet_a();
+    ask("sheet A: 3 rows, 1 vehicle, nearest neighbour", &s);
+
+    s = sheet_a();
+    s.len = 0;
+    ask("0 bytes", &s);
+
+    s = sheet_a();
+    put_u16(s.bytes + AT_ROWS, 102);
+    ask("102 rows", &s);
+
+    s = sheet_a();
+    s.bytes[AT_METHOD] = 5;
+    ask("method 5", &s);
+
+    s = sheet_a();
+    s.len += 1;
+    ask("sheet A, one byte too many", &s);
+
+    s = sheet_a();
+    ask_with_plan("sheet A, one byte too many in the plan", &s, 1);
+
+    s = sheet_a();
+    put_i32(row(&s, 1) + AT_MARKS, PLANNER_WINDOW);
+    put_f64(row(&s, 1) + AT_READY, 4.0);
+    put_f64(row(&s, 1) + AT_DUE, 3.0);
+    ask("stop 1 ready 4, due 3", &s);
+
+    s = sheet_a();
+    put(vehicle(&s, VEHICLES), UINT64_C(0x7ff8000000000000), 8);
+    ask("a distance that is NaN", &s);
+
+    s = sheet_a();
+    put_i32(vehicle(&s, 0) + AT_DEPOT, 1);
+    ask("vehicle 7 at depot 1 of 1", &s);
+
+    s = without_vehicle(PLANNER_INSERTION);
+    ask("insertion, 0 vehicles", &s);
+
+    s = without_vehicle(PLANNER_NEAREST_NEIGHBOR);
+    ask("nearest neighbour, 0 vehicles", &s);
+    return 0;
+}

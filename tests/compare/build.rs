@@ -1,0 +1,75 @@
+//! Lays the u-routing sources, unchanged, and the glue around them into OUT_DIR, and tells the
+//! linker where the planner's library is.
+//!
+//! U_ROUTING_SRC names the folder that holds the sources' `src`; without it they are looked for
+//! beside the repository. PLANNER_LIB is the whole path of the folder of libplanner.a; without it
+//! the commands that need no planner still build.
+
+#![deny(warnings)]
+
+use std::path::{Path, PathBuf};
+use std::{env, fs, io};
+
+/// The sources that are compared with, and the glue: module lists, and the file that
+/// evaluation/mod.rs declares and the copy lacks.
+const SOURCES: [&str; 15] = [
+    "constructive/clarke_wright.rs",
+    "constructive/multi_depot.rs",
+    "constructive/nearest_neighbor.rs",
+    "constructive/nn_tw.rs",
+    "constructive/solomon_i1.rs",
+    "constructive/sweep.rs",
+    "distance/matrix.rs",
+    "evaluation/evaluator.rs",
+    "evaluation/mod.rs",
+    "evaluation/schedule.rs",
+    "fleet.rs",
+    "models/customer.rs",
+    "models/route.rs",
+    "models/solution.rs",
+    "models/vehicle.rs",
+];
+const GLUE: [&str; 5] =
+    ["lib.rs", "constructive/mod.rs", "distance/mod.rs", "evaluation/check.rs", "models/mod.rs"];
+
+fn main() {
+    let here = PathBuf::from(env::var_os("CARGO_MANIFEST_DIR").expect("set by cargo"));
+    let out = PathBuf::from(env::var_os("OUT_DIR").expect("set by cargo")).join("u_routing");
+    println!("cargo::rerun-if-env-changed=U_ROUTING_SRC");
+    let sources = match env::var_os("U_ROUTING_SRC") {
+        Some(folder) => PathBuf::from(folder),
+        None => here.join("../../../shared/docs/src"),
+    };
+    let sources = SOURCES.map(|file| (sources.join("src").join(file), out.join(file)));
+    let glue = GLUE.map(|file| (here.join("glue").join(file), out.join(file)));
+    for (from, to) in sources.iter().chain(&glue) {
+        if let Err(error) = lay(from, to) {
+            let from = from.display();
+            println!("cargo::error={from}: {error} (U_ROUTING_SRC names the u-routing folder)");
+            return;
+        }
+    }
+    link();
+}
+
+/// Copies one file. A last line that is a doc comment of an item the copy lacks gets an empty
+/// item to stand on; every other byte is the original's.
+fn lay(from: &Path, to: &Path) -> io::Result<()> {
+    println!("cargo::rerun-if-changed={}", from.display());
+    let mut text = fs::read_to_string(from)?;
+    if text.lines().last().is_some_and(|line| line.starts_with("///")) {
+        text.push_str("const _: () = ();\n");
+    }
+    fs::create_dir_all(to.parent().expect("a file has a folder"))?;
+    fs::write(to, text)
+}
+
+fn link() {
+    println!("cargo::rerun-if-env-changed=PLANNER_LIB");
+    println!("cargo::rustc-check-cfg=cfg(planner)");
+    if let Ok(folder) = env::var("PLANNER_LIB") {
+        println!("cargo::rerun-if-changed={folder}/libplanner.a");
+        println!("cargo::rustc-link-search=native={folder}");
+        println!("cargo::rustc-cfg=planner");
+    }
+}

@@ -1,0 +1,3 @@
+mod matrix;
+
+pub use matrix::DistanceMatrix;

@@ -1,0 +1,5 @@
+pub mod constructive;
+pub mod distance;
+pub mod evaluation;
+pub mod fleet;
+pub mod models;

@@ -1,0 +1,59 @@
+//! Compares the planner with the u-routing sources, built as they are, and with an implementation
+//! of document 01's bytes of its own.
+//!
+//!     compare selftest               the harness against document 01's examples
+//!     compare refusals COUNT SEED    the planner's check on COUNT sheets
+//!     compare freeze COUNT SEED DIR  writes DIR/stdin and DIR/stdout, a sample to keep
+//!
+//! build.rs says where the sources and the planner's library are looked for. The exit status is
+//! 0 if all is well, 1 for a failure or a difference, 2 if the command could not be run.
+
+#![deny(warnings)]
+
+mod damage;
+mod freeze;
+mod generate;
+mod listing;
+mod plan;
+mod planner;
+mod random;
+mod reference;
+mod refusal;
+mod refusals;
+mod selftest;
+mod sheet;
+mod stream;
+
+use std::path::Path;
+use std::process::ExitCode;
+
+const USAGE: &str = "usage: compare selftest | refusals COUNT SEED | freeze COUNT SEED DIR";
+
+fn main() -> ExitCode {
+    let words: Vec<String> = std::env::args().skip(1).collect();
+    let words: Vec<&str> = words.iter().map(String::as_str).collect();
+    let done = match words[..] {
+        ["selftest"] => Some(selftest::run()),
+        ["refusals", count, seed] => numbers(count, seed).map(|(c, s)| refusals::run(c, s)),
+        ["freeze", count, seed, folder] => numbers(count, seed).map(|(c, s)| freeze(c, s, folder)),
+        _ => None,
+    };
+    done.unwrap_or_else(|| {
+        eprintln!("{USAGE}");
+        ExitCode::from(2)
+    })
+}
+
+fn numbers(count: &str, seed: &str) -> Option<(usize, u64)> {
+    Some((count.parse().ok()?, seed.parse().ok()?))
+}
+
+fn freeze(count: usize, seed: u64, folder: &str) -> ExitCode {
+    match freeze::run(count, seed, Path::new(folder)) {
+        Ok(()) => ExitCode::SUCCESS,
+        Err(error) => {
+            eprintln!("compare: {folder}: {error}");
+            ExitCode::from(2)
+        }
+    }
+}

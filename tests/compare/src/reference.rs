@@ -1,0 +1,138 @@
+//! The reference answers: the Rust's own, as plan bytes.
+
+use u_routing::constructive::{
+    clarke_wright_savings, construct_by_depot, nearest_neighbor, nearest_neighbor_tw, solomon_i1,
+    sweep,
+};
+use u_routing::distance::DistanceMatrix;
+use u_routing::evaluation::RouteEvaluator;
+use u_routing::fleet::limit_routes;
+use u_routing::models::{num_depots, Customer, Solution, TimeWindow, Vehicle, VehicleBreak};
+
+use crate::plan::{encode, plan_len, Chains};
+use crate::refusal::{accepted, limiter_accepted};
+use crate::sheet::{self, Header, Row, Sheet};
+
+/// An accepted sheet in the Rust's types.
+pub struct Problem {
+    method: u8,
+    customers: Vec<Customer>,
+    distances: DistanceMatrix,
+    vehicles: Vec<Vehicle>,
+}
+
+/// The planner's answer: a refusal or the plan's bytes.
+pub fn plan(bytes: &[u8]) -> Result<Vec<u8>, u32> {
+    let sheet = accepted(bytes, &[len_for(bytes)])?;
+    Ok(encode(sheet.rows.len(), &Problem::taken(&sheet).solution()))
+}
+
+/// The limiter's answer: a refusal or the plan out.
+pub fn limit(bytes: &[u8], plan_in: &[u8], greatest: u32) -> Result<Vec<u8>, u32> {
+    let (sheet, chains) = limiter_accepted(bytes, plan_in, len_for(bytes))?;
+    let solution = Problem::taken(&sheet).limited(chains, greatest as usize);
+    Ok(encode(sheet.rows.len(), &solution))
+}
+
+/// The length of the plan buffer that a caller lends for a sheet.
+fn len_for(bytes: &[u8]) -> usize {
+    if bytes.len() < sheet::HEADER {
+        return 0;
+    }
+    plan_len(Header::of(bytes).rows)
+}
+
+impl Problem {
+    /// `None` if one of the Rust's constructors turns a value down, or it counts other depots.
+    pub fn of(sheet: &Sheet) -> Option<Problem> {
+        let depots = sheet.depots();
+        let rows = sheet.rows.iter().enumerate();
+        let customers: Vec<Customer> =
+            rows.map(|(id, row)| customer(id, row, id < depots)).collect::<Option<_>>()?;
+        let distances = DistanceMatrix::from_data(sheet.rows.len(), sheet.distances.clone())?;
+        let distances = match &sheet.times {
+            Some(times) => distances.with_travel_times(times.clone())?,
+            None => distances,
+        };
+        let problem = Problem {
+            method: sheet.method,
+            customers,
+            distances,
+            vehicles: sheet.vehicles.iter().map(vehicle).collect(),
+        };
+        (num_depots(&problem.customers) == depots).then_some(problem)
+    }
+
+    fn taken(sheet: &Sheet) -> Problem {
+        Problem::of(sheet).expect("the Rust takes every accepted sheet")
+    }
+
+    pub fn solution(&self) -> Solution {
+        let Problem { customers, distances, vehicles, .. } = self;
+        construct_by_depot(customers, distances, vehicles, |c, d, v| match self.method {
+            0 => clarke_wright_savings(c, d, &v[0]),
+            1 => solomon_i1(c, d, &v[0]),
+            2 => nearest_neighbor(c, d, v),
+            3 => nearest_neighbor_tw(c, d, v),
+            4 => sweep(c, d, &v[0]),
+            _ => unreachable!("refused as 3"),
+        })
+    }
+
+    fn limited(&self, chains: Chains, greatest: usize) -> Solution {
+        let Problem { customers, distances, vehicles, .. } = self;
+        let index = |id: u32| {
+            let found = vehicles.iter().position(|vehicle| vehicle.id() == id as usize);
+            found.expect("refused as 10")
+        };
+        let (ids, routes): (Vec<u32>, Vec<Vec<usize>>) = chains.rounds.into_iter().unzip();
+        let driven = ids.into_iter().map(index).collect();
+        let limited = limit_routes(routes, driven, vehicles, greatest, distances, customers);
+
+        let mut solution = Solution::new();
+        for (stops, &driver) in limited.routes.iter().zip(&limited.vehicles) {
+            let evaluator = RouteEvaluator::new(customers, distances, &vehicles[driver]);
+            solution.add_route(evaluator.build_route(stops).0);
+        }
+        let mut aside = [chains.aside, limited.unserved].concat();
+        aside.sort_unstable();
+        aside.into_iter().for_each(|stop| solution.add_unassigned(stop));
+        solution.price(|route| &vehicles[index(route.vehicle_id() as u32)]);
+        solution
+    }
+}
+
+/// A depot mark after the leading rows means nothing, and row 0 is a depot even unmarked.
+fn customer(id: usize, row: &Row, depot: bool) -> Option<Customer> {
+    let (x, y) = (row.x.into(), row.y.into());
+    let mut customer = if depot && row.marks & sheet::DEPOT != 0 {
+        Customer::depot_at(id, x, y)
+    } else {
+        Customer::new(id, x, y, row.demand, row.service)
+    };
+    if row.marks & sheet::WINDOW != 0 {
+        customer = customer.with_time_window(TimeWindow::new(row.ready, row.due)?);
+    }
+    if row.marks & sheet::PENALTY != 0 {
+        customer = customer.with_lateness_penalty(row.penalty)?;
+    }
+    Some(customer)
+}
+
+fn vehicle(from: &sheet::Vehicle) -> Vehicle {
+    let mut vehicle = Vehicle::new(from.id as usize, from.capacity)
+        .with_depot(from.depot as usize)
+        .with_cost_per_distance(from.cost_per_distance)
+        .with_fixed_cost(from.fixed_cost);
+    if from.marks & sheet::MAX_DISTANCE != 0 {
+        vehicle = vehicle.with_max_distance(from.max_distance);
+    }
+    if from.marks & sheet::MAX_DURATION != 0 {
+        vehicle = vehicle.with_max_duration(from.max_duration);
+    }
+    if from.marks & sheet::REST != 0 {
+        let rest = VehicleBreak::new(from.earliest, from.latest, from.rest_duration);
+        vehicle = vehicle.with_break(rest);
+    }
+    vehicle
+}

@@ -1,0 +1,253 @@
+//! `compare selftest`: the harness itself against document 01's examples.
+
+use std::fmt::Debug;
+use std::process::ExitCode;
+
+use crate::listing::listing;
+use crate::plan::{chains, plan_len, round_at, stop_at};
+use crate::reference::{limit, plan};
+use crate::refusal::{limiter_accepted, refusal};
+use crate::sheet::{field, Row, Sheet, Vehicle};
+use crate::sheet::{DEPOT, MAX_DISTANCE, REST, WINDOW};
+
+const SAVINGS: u8 = 0;
+const INSERTION: u8 = 1;
+const NEAREST: u8 = 2;
+const NEAREST_WINDOWS: u8 = 3;
+const SWEEP: u8 = 4;
+
+const LISTING: &str = "\
+rounds 1 aside 0
+round 7 first 1 load 2 rest 0 4038000000000000 4038000000000000
+stop 1 next 2 load 1 4024000000000000 4024000000000000
+stop 2 next 0 load 2 402C000000000000 402C000000000000
+";
+
+#[derive(Default)]
+struct Tally {
+    run: usize,
+    failed: usize,
+}
+
+impl Tally {
+    fn expect<T: Debug + PartialEq>(&mut self, name: &str, got: T, want: T) {
+        self.run += 1;
+        if got != want {
+            self.failed += 1;
+            println!("failed: {name}: got {got:?}, want {want:?}");
+        }
+    }
+}
+
+pub fn run() -> ExitCode {
+    let mut tally = Tally::default();
+    relatives(&mut tally);
+    rests(&mut tally);
+    turned_back(&mut tally);
+    turned_back_by_limiter(&mut tally);
+    limited(&mut tally);
+    costs(&mut tally);
+    println!("selftest: {} run, {} failed", tally.run, tally.failed);
+    ExitCode::from(u8::from(tally.failed > 0))
+}
+
+fn sheet_a(method: u8) -> Sheet {
+    let row = |y, demand, marks| Row { y, demand, marks, ..Row::default() };
+    let vehicle = Vehicle { id: 7, capacity: 2, cost_per_distance: 1.0, ..Vehicle::default() };
+    Sheet {
+        method,
+        rows: vec![row(0, 0, DEPOT), row(10, 1, 0), row(-10, 1, 0)],
+        vehicles: vec![vehicle],
+        distances: vec![0.0, 10.0, 10.0, 10.0, 0.0, 4.0, 10.0, 4.0, 0.0],
+        times: None,
+    }
+}
+
+fn with_max_distance(method: u8, max_distance: f64) -> Sheet {
+    let mut sheet = sheet_a(method);
+    sheet.vehicles[0].marks = MAX_DISTANCE;
+    sheet.vehicles[0].max_distance = max_distance;
+    sheet
+}
+
+fn with_due(due: f64) -> Sheet {
+    let mut sheet = sheet_a(INSERTION);
+    sheet.rows[1].marks = WINDOW;
+    sheet.rows[1].due = due;
+    sheet
+}
+
+fn with_capacity(method: u8, capacity: i32) -> Sheet {
+    let mut sheet = sheet_a(method);
+    sheet.vehicles[0].capacity = capacity;
+    sheet
+}
+
+fn with_rest(earliest_and_latest: f64) -> Sheet {
+    let mut sheet = sheet_a(SAVINGS);
+    let vehicle = &mut sheet.vehicles[0];
+    vehicle.marks = REST;
+    vehicle.earliest = earliest_and_latest;
+    vehicle.latest = earliest_and_latest;
+    vehicle.rest_duration = 5.0;
+    sheet
+}
+
+fn with_depots() -> Sheet {
+    let mut sheet = sheet_a(SAVINGS);
+    sheet.rows[1].marks = DEPOT;
+    sheet
+}
+
+type Rounds = &'static [&'static [usize]];
+
+/// The stops of each round, then those set aside.
+type Stands = (Vec<Vec<usize>>, Vec<usize>);
+
+fn stands(plan: &[u8], sheet: &Sheet) -> Stands {
+    let chains = chains(plan, sheet).expect("every stop once");
+    (chains.rounds.into_iter().map(|(_, stops)| stops).collect(), chains.aside)
+}
+
+fn planned(sheet: &Sheet) -> Vec<u8> {
+    plan(&sheet.encode()).expect("an accepted sheet")
+}
+
+/// Rows 1 to 10, 14 and 15 of "Sheet A and its relatives", and the listing of the first.
+fn relatives(tally: &mut Tally) {
+    let cases: [(&str, Sheet, Rounds, &[usize]); 12] = [
+        ("1", sheet_a(SAVINGS), &[&[1, 2]], &[]),
+        ("2", sheet_a(INSERTION), &[&[2, 1]], &[]),
+        ("3", sheet_a(NEAREST), &[&[1, 2]], &[]),
+        ("4", sheet_a(NEAREST_WINDOWS), &[&[1, 2]], &[]),
+        ("5", sheet_a(SWEEP), &[&[2, 1]], &[]),
+        ("6", with_max_distance(SAVINGS, 24.0), &[&[1, 2]], &[]),
+        ("7", with_max_distance(SAVINGS, 23.0), &[&[1], &[2]], &[]),
+        ("8", with_max_distance(SAVINGS, 19.0), &[], &[1, 2]),
+        ("9", with_due(10.0), &[&[1, 2]], &[]),
+        ("10", with_due(9.0), &[&[2]], &[1]),
+        ("14", with_capacity(SAVINGS, 0), &[&[1], &[2]], &[]),
+        ("15", with_capacity(INSERTION, 0), &[], &[1, 2]),
+    ];
+    for (name, sheet, rounds, aside) in cases {
+        let rounds = rounds.iter().map(|stops| stops.to_vec()).collect();
+        tally.expect(name, stands(&planned(&sheet), &sheet), (rounds, aside.to_vec()));
+    }
+    tally.expect("listing", listing(&sheet_a(SAVINGS).encode()), LISTING.into());
+    let mut long = sheet_a(SAVINGS).encode();
+    long[0] = 49;
+    tally.expect("listing of 49 rows", listing(&long), "refused 2\n".into());
+    long[6] = 1;
+    tally.expect("listing, spare byte", listing(&long), "refused 1\n".into());
+}
+
+/// Rows 11 to 13: the round 1, 2 as the limiter leaves it, and whether it has a schedule at all,
+/// which is whether savings make it.
+fn rests(tally: &mut Tally) {
+    let round = planned(&sheet_a(SAVINGS));
+    let cases: [(&str, f64, u16, f64, f64, Stands); 3] = [
+        ("11", 12.0, 1, 12.0, 31.0, (vec![vec![1, 2]], vec![])),
+        ("12", 24.0, 0, 0.0, 24.0, (vec![vec![1, 2]], vec![])),
+        ("13", 9.0, 0, 0.0, 24.0, (vec![], vec![1, 2])),
+    ];
+    for (name, at, place, start, duration, made) in cases {
+        let sheet = with_rest(at);
+        let limited = limit(&sheet.encode(), &round, 1).expect("a lawful plan in");
+        let float = |k| f64::from_le_bytes(field(&limited, round_at(0) + k));
+        let got = (u16::from_le_bytes(field(&limited, round_at(0) + 10)), float(48), float(24));
+        tally.expect(name, got, (place, start, duration));
+        tally.expect(name, stands(&planned(&sheet), &sheet), made);
+    }
+}
+
+/// The examples of "Turned back" that planner and limiter share.
+fn turned_back(tally: &mut Tally) {
+    let sheet = sheet_a(INSERTION);
+    let mut early = with_due(3.0);
+    early.rows[1].ready = 4.0;
+    let mut not_a_number = sheet.clone();
+    not_a_number.distances[4] = f64::NAN;
+    let mut elsewhere = sheet.clone();
+    elsewhere.vehicles[0].depot = 1;
+    let without = Sheet { vehicles: vec![], ..sheet.clone() };
+    let mut rows = sheet.encode();
+    rows[0] = 102;
+    let mut longer = sheet.encode();
+    longer.push(0);
+    let examples = [
+        (0, sheet.encode()),
+        (1, vec![]),
+        (2, rows),
+        (3, Sheet { method: 5, ..sheet.clone() }.encode()),
+        (4, longer),
+        (5, early.encode()),
+        (6, not_a_number.encode()),
+        (7, elsewhere.encode()),
+        (8, without.encode()),
+    ];
+    let round = planned(&sheet);
+    for (number, bytes) in examples {
+        tally.expect("planner", refusal(&bytes, plan_len(3)), number);
+        tally.expect("limiter", limiter_refusal(&bytes, &round, plan_len(3)), number);
+    }
+    let bytes = sheet.encode();
+    tally.expect("longer plan", refusal(&bytes, plan_len(3) + 1), 4);
+    tally.expect("longer plan out", limiter_refusal(&bytes, &round, plan_len(3) + 1), 4);
+    tally.expect("no plan in", limiter_refusal(&bytes, &[], plan_len(3)), 4);
+}
+
+fn limiter_refusal(sheet: &[u8], plan_in: &[u8], plan_out_len: usize) -> u32 {
+    limiter_accepted(sheet, plan_in, plan_out_len).err().unwrap_or(0)
+}
+
+/// 9 and 10, the limiter's own.
+fn turned_back_by_limiter(tally: &mut Tally) {
+    let depots = with_depots().encode();
+    let round = planned(&sheet_a(SAVINGS));
+    tally.expect("planner, 2 depots", refusal(&depots, plan_len(3)), 0);
+    tally.expect("limiter, 2 depots", limiter_refusal(&depots, &round, plan_len(3)), 9);
+    let next_of = |row| stop_at(3, row);
+    let damages: [(&str, usize, u8); 7] = [
+        ("next of 2 is 2", next_of(2), 2),
+        ("next of 2 is 1", next_of(2), 1),
+        ("a link to no stop", next_of(2), 3),
+        ("a stop in no chain", next_of(1), 0),
+        ("a stop set aside too", 2, 2),
+        ("an unknown id", round_at(0), 8),
+        ("more rounds than rows", 0, 4),
+    ];
+    let bytes = sheet_a(SAVINGS).encode();
+    for (name, at, value) in damages {
+        let mut plan = round.clone();
+        plan[at] = value;
+        tally.expect(name, limit(&bytes, &plan, 1), Err(10));
+    }
+}
+
+/// What the limiter does to lawful plans.
+fn limited(tally: &mut Tally) {
+    let sheet = sheet_a(SAVINGS);
+    let bytes = sheet.encode();
+    let round = planned(&sheet);
+    let apart = planned(&with_max_distance(SAVINGS, 23.0));
+    tally.expect("within the limit", limit(&bytes, &apart, 2), Ok(apart.clone()));
+    tally.expect("two rounds to one", limit(&bytes, &apart, 1), Ok(round.clone()));
+    let none = limit(&bytes, &round, 0).expect("a lawful plan in");
+    tally.expect("no round left", stands(&none, &sheet), (vec![], vec![1, 2]));
+    let aside = planned(&with_max_distance(SAVINGS, 19.0));
+    tally.expect("set aside before", limit(&bytes, &aside, 1), Ok(aside.clone()));
+}
+
+/// The cost of a plan without rounds: a sum of none is -0.0, but a depot alone is not priced.
+fn costs(tally: &mut Tally) {
+    let cost = |plan: &[u8]| u64::from_le_bytes(field(plan, 8));
+    let mut alone = sheet_a(SAVINGS);
+    alone.rows.truncate(1);
+    alone.distances.truncate(1);
+    let unpriced = planned(&alone);
+    tally.expect("cost of 1, 2", cost(&planned(&sheet_a(SAVINGS))), 24.0f64.to_bits());
+    tally.expect("all aside", cost(&planned(&with_capacity(INSERTION, 0))), 1 << 63);
+    tally.expect("a depot alone", cost(&unpriced), 0);
+    let limited = limit(&alone.encode(), &unpriced, 0).expect("a lawful plan in");
+    tally.expect("a depot alone, limited", cost(&limited), 1 << 63);
+}
