@@ -1,6 +1,6 @@
 -- The entries of the tables lie within the sheet. Assumes nothing.
-use mathlib.Core.Path.{_≡_, sym, ap, _∙_, subst}
-use Prim.Native.Nat.{ℕ, suc, _+_, _*_, _≤_, _<_}
+use mathlib.Core.Path.{_≡_, ap, _∙_}
+use Prim.Native.Nat.{ℕ, _+_, _*_, _≤_, _<_}
 use native.Mathlib.Nat.{mul-le-mul, one-mul, zero-mul, zero-add}
 use native.Mathlib.Omega.{arith}
 use mathlib.Core.List.{List}

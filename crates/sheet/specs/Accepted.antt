@@ -1,16 +1,15 @@
 -- What an accepted sheet is: each range of document 01 a named clause. The refusal is 0 exactly for these sheets, with a plan buffer of the exact length.
-use mathlib.Core.Path.{_≡_, refl, sym, _∙_, subst}
-use Prim.Native.Nat.{ℕ, zero, suc, _+_, _*_, _^_, _≤_, _<_}
+use mathlib.Core.Path.{_≡_, refl, sym, subst}
+use Prim.Native.Nat.{ℕ, suc, _^_, _≤_, _<_}
 use native.Mathlib.Omega.{arith}
-use mathlib.Core.Bool.{Bool, true, false, not, _&&_, _||_}
+use mathlib.Core.Bool.{Bool, true, false, not, _&&_}
 use mathlib.Core.List.{List}
 use lib.Dec.{T, leb, ltb, eqb, leb→le, le→leb, eqb→eq, T-not, not-T}
 use borrow.Author.Tests.{eq-eqb}
 use lib.Ieee.Fits.{and-l, and-r}
 use lib.ListN.{length}
-use Rattle.wire.specs.Bytes.{u64At}
 use Rattle.numbers.specs.Range.{whole}
-use Rattle.numbers.specs.All.{all, all-at, all-of}
+use Rattle.numbers.specs.All.{all-at, all-of}
 use Rattle.sheet.specs.Fields.{rowsOf, vehiclesOf, methodOf, timesOf, spareOf, rowAt, xField, yField, demandField, rowMarks, serviceAt, readyAt, penaltyAt, vehicleAt, idField, depotField, capacityField, vehicleMarks, costAt, fixedAt, maxDistanceAt, maxDurationAt, earliestAt, restAt, entriesOf, entryAt, sheetLength, planLength, marked}
 use Rattle.sheet.specs.Depots.{depotsOf}
 use Rattle.sheet.specs.Ranges.{coordinate, demand, capacity, marks, amount, optional, interval, costPerDistance, servingInRange, rowInRange, maximaInRange, restInRange, vehicleInRange, sameId, newId, rowsInRange, entriesInRange, vehiclesInRange}

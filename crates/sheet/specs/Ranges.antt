@@ -1,14 +1,14 @@
 -- Document 01, "Ranges, ends included", "An unmarked field is all zero bits" and "Vehicle ids differ": each range a test of its own, then all of a record.
-use Prim.Native.Nat.{ℕ, suc, _+_, _*_, _^_, _≤_, _<_}
+use Prim.Native.Nat.{ℕ, _+_, _^_}
 use mathlib.Core.Bool.{Bool, true, false, not, _&&_, _||_}
 use mathlib.Core.List.{List}
 use lib.Dec.{leb, ltb, eqb}
 use lib.IntN.{ℤ, pos, negsuc, natAbs}
-use lib.Ieee.{Float, binary64, ofBits, le}
+use lib.Ieee.{Float, le}
 use Rattle.wire.specs.Bytes.{u64At, f64At}
 use Rattle.numbers.specs.Range.{inRange, whole, fraction}
 use Rattle.numbers.specs.All.{all}
-use Rattle.sheet.specs.Fields.{rowsOf, vehiclesOf, methodOf, rowAt, xField, yField, demandField, rowMarks, serviceAt, readyAt, penaltyAt, vehicleAt, idField, depotField, capacityField, vehicleMarks, costAt, fixedAt, maxDistanceAt, maxDurationAt, earliestAt, restAt, entriesOf, entryAt, marked}
+use Rattle.sheet.specs.Fields.{rowsOf, vehiclesOf, rowAt, xField, yField, demandField, rowMarks, serviceAt, readyAt, penaltyAt, vehicleAt, idField, depotField, capacityField, vehicleMarks, costAt, fixedAt, maxDistanceAt, maxDurationAt, earliestAt, restAt, entriesOf, entryAt, marked}
 use Rattle.sheet.specs.Depots.{depotsOf}
 
 -- "coordinates ±1,000,000"

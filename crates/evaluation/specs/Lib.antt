@@ -1,0 +1,11 @@
+pub mod Sums
+pub mod Routed
+pub mod Window
+pub mod Serve
+pub mod Clock
+pub mod Walk
+pub mod Limits
+pub mod Feasible
+pub mod Checks
+pub mod Bounds
+pub mod Finite

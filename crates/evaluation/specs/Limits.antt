@@ -1,0 +1,34 @@
+-- What a vehicle asks of a round besides its capacity.
+use mathlib.Core.Bool.{Bool, true, false, _&&_}
+use lib.Ieee.{Float, le}
+use Rattle.sheet.specs.declared.vehicle.Limit.{Limit}
+use Rattle.sheet.specs.declared.vehicle.Limit.the-variants.{Unlimited, Max}
+use Rattle.sheet.specs.declared.vehicle.Rest.{Rest}
+use Rattle.sheet.specs.declared.vehicle.Rest.the-variants.{NoRest, Required}
+use Rattle.sheet.specs.declared.vehicle.Vehicle.{Vehicle}
+use Rattle.evaluation.specs.declared.limits.RouteLimits.{RouteLimits}
+
+-- its maxima and its rest, each there where it is marked
+abbrev pub limitsOf : Vehicle → RouteLimits
+limitsOf v = record { «max_distance» = v .«max_distance»; «max_duration» = v .«max_duration»; rest = v .rest }
+
+abbrev pub noMaximum : Limit → Bool
+noMaximum Unlimited = true
+noMaximum (Max end) = false
+
+abbrev pub noRest : Rest → Bool
+noRest NoRest = true
+noRest (Required b) = false
+
+-- nothing to keep: no maximum and no rest
+unfoldable pub isUnlimited : RouteLimits → Bool
+isUnlimited l = noMaximum (l .«max_distance») && (noMaximum (l .«max_duration») && noRest (l .rest))
+
+-- "limits are inclusive"
+abbrev pub withinOf : Limit → Float → Bool
+withinOf Unlimited x = true
+withinOf (Max end) x = le x end
+
+-- "Over a marked maximum fails."
+unfoldable pub allowOf : RouteLimits → Float → Float → Bool
+allowOf l distance duration = withinOf (l .«max_distance») distance && withinOf (l .«max_duration») duration

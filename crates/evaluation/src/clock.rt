@@ -1,0 +1,153 @@
+// The clock of a round with a rest: one label with the rest still to take, and one with it taken.
+use crate::label;
+use crate::label::Label;
+use crate::label::RestAnswer;
+use crate::label::Served;
+use sheet::customer;
+use sheet::customer::Stop;
+use sheet::matrix;
+use sheet::vehicle::VehicleBreak;
+ghost use mathlib.Core.Path.{_≡_};
+ghost use Prim.Native.Nat.{_+_, _<_};
+ghost use Rattle.sheet.specs.Fields.{rowsOf};
+ghost use Rattle.evaluation.specs.Routed.{Clocked};
+ghost use Rattle.evaluation.specs.Clock.{homeOf, endOf, started, movedOf, aliveOf, pushedOf, finishOf};
+
+// What a round comes to, depot to depot.
+pub struct Schedule {
+    pub distance: f64,
+    pub duration: f64,
+    pub lateness: f64,
+    pub lateness_cost: f64,
+    pub rest: RestAnswer,
+}
+
+pub enum Scheduled {
+    Lawful(Schedule),
+    Unlawful,
+}
+
+pub struct BreakClock {
+    pub rest: VehicleBreak,
+    pub before: Served,
+    pub after: Served,
+    pub prev: usize,
+    pub place: u16,
+}
+
+pub struct Pushed {
+    pub clock: BreakClock,
+    pub alive: bool,
+}
+
+// The label back at the depot.
+pub fn home(label: Label, distance: f64, back: f64, rest: RestAnswer) -> Schedule
+    ensures { λ r. ⌜ r ≡ homeOf label distance back rest ⌝ }
+{
+    Schedule {
+        distance,
+        duration: label.time + back,
+        lateness: label.lateness,
+        lateness_cost: label.lateness_cost,
+        rest,
+    }
+}
+
+fn ended(after: Served, distance: f64, back: f64) -> Scheduled
+    ensures { λ r. ⌜ r ≡ endOf after distance back ⌝ }
+{
+    match after {
+        Served::Done(l) => {
+            let rest = l.rest;
+            Scheduled::Lawful(home(l, distance, back, rest))
+        }
+        Served::Refused => Scheduled::Unlawful,
+    }
+}
+
+impl BreakClock {
+    // At the depot at 0, with the rest to take.
+    pub fn new(rest: VehicleBreak, depot: usize) -> Self
+        ensures { λ r. ⌜ r ≡ started rest depot ⌝ }
+    {
+        BreakClock {
+            rest,
+            before: Served::Done(label::start()),
+            after: Served::Refused,
+            prev: depot,
+            place: 1,
+        }
+    }
+
+    // One stop further, at `row`.
+    fn moved(self, travel: f64, stop: Stop, row: usize) -> Self
+        requires { ⌜ self .place < 0xffff ⌝ }
+        ensures { λ r. ⌜ r ≡ movedOf self travel stop row ⌝ }
+    {
+        let rest = self.rest;
+        let before = self.before;
+        let after = self.after;
+        let place = self.place;
+        let skipped = label::step(before, travel, stop);
+        let here = label::step_rested(before, travel, stop, place, rest);
+        let carried = label::step(after, travel, stop);
+        let taken = label::earlier(carried, here);
+        let next = place + 1;
+        BreakClock {
+            rest,
+            before: skipped,
+            after: taken,
+            prev: row,
+            place: next,
+        }
+    }
+
+    // Whether some way of placing the rest serves the stops so far.
+    fn alive(self) -> bool
+        ensures { λ r. ⌜ r ≡ aliveOf self ⌝ }
+    {
+        let before = self.before;
+        let after = self.after;
+        match before {
+            Served::Done(_) => true,
+            Served::Refused => match after {
+                Served::Done(_) => true,
+                Served::Refused => false,
+            },
+        }
+    }
+
+    // Drives on to `row`. Where the clock is not alive after it, no longer round is.
+    pub fn pushed(self, sheet: &[u8], row: usize) -> Pushed
+        requires { ⌜ Clocked (now sheet) self ⌝ }
+        requires { ⌜ row < rowsOf (now sheet) ⌝ }
+        ensures { λ r. ⌜ r ≡ pushedOf (now (sheet .entry)) self row ⌝ }
+    {
+        let travel = matrix::travel_time(sheet, self.prev, row);
+        let clock = self.moved(travel, customer::stop_at(sheet, row), row);
+        Pushed {
+            clock,
+            alive: clock.alive(),
+        }
+    }
+
+    // The way home, with `distance` driven in all: without the rest if the return is not after `earliest`.
+    pub fn finish(self, sheet: &[u8], distance: f64, depot: usize) -> Scheduled
+        requires { ⌜ Clocked (now sheet) self ⌝ }
+        requires { ⌜ depot < rowsOf (now sheet) ⌝ }
+        ensures { λ r. ⌜ r ≡ finishOf (now (sheet .entry)) self distance depot ⌝ }
+    {
+        let back = matrix::travel_time(sheet, self.prev, depot);
+        let before = self.before;
+        let after = self.after;
+        match before {
+            Served::Done(l) => {
+                if l.time + back <= self.rest.earliest {
+                    return Scheduled::Lawful(home(l, distance, back, RestAnswer::NoRest));
+                }
+                ended(after, distance, back)
+            }
+            Served::Refused => ended(after, distance, back),
+        }
+    }
+}

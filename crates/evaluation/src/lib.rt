@@ -1,0 +1,98 @@
+// What a round is worth: its times, its lateness and its rest, and whether its vehicle allows it.
+pub mod checks;
+pub mod clock;
+pub mod label;
+pub mod lent;
+pub mod limits;
+pub mod schedule;
+pub mod window;
+
+use clock::Schedule;
+use clock::Scheduled;
+use limits::RouteLimits;
+use sheet::vehicle::Rest;
+ghost use mathlib.Core.Path.{_≡_};
+ghost use Rattle.evaluation.specs.Routed.{Routed};
+ghost use Rattle.evaluation.specs.Feasible.{scheduledOf, keptBy, routeFeasible, evalBy, routeEval, pricedDistance, costOf, effectiveCost};
+
+pub enum RouteEval {
+    Allowed(Schedule),
+    NotAllowed,
+}
+
+// The walk of a round: the plain one, or the clock's where a rest is required.
+fn scheduled(sheet: &[u8], route: &[u16], depot: usize, rest: Rest) -> Scheduled
+    requires { ⌜ Routed (now sheet) depot (now route) ⌝ }
+    ensures { λ r. ⌜ r ≡ scheduledOf (now (sheet .entry)) depot rest (now (route .entry)) ⌝ }
+{
+    match rest {
+        Rest::NoRest => schedule::walk(sheet, route, depot),
+        Rest::Required(b) => schedule::schedule(sheet, route, depot, b),
+    }
+}
+
+fn kept_by(limits: RouteLimits, scheduled: Scheduled) -> bool
+    ensures { λ r. ⌜ r ≡ keptBy limits scheduled ⌝ }
+{
+    match scheduled {
+        Scheduled::Lawful(s) => limits.allow(s.distance, s.duration),
+        Scheduled::Unlawful => false,
+    }
+}
+
+// Whether a round from `depot` and back misses no hard window, has its rest placed or needs none, and keeps the limits.
+// Capacity is not asked here.
+pub fn route_feasible(sheet: &[u8], route: &[u16], depot: usize, limits: RouteLimits) -> bool
+    requires { ⌜ Routed (now sheet) depot (now route) ⌝ }
+    ensures { λ r. ⌜ r ≡ routeFeasible (now (sheet .entry)) depot limits (now (route .entry)) ⌝ }
+{
+    let rest = limits.rest;
+    kept_by(limits, scheduled(sheet, route, depot, rest))
+}
+
+fn eval_by(limits: RouteLimits, scheduled: Scheduled) -> RouteEval
+    ensures { λ r. ⌜ r ≡ evalBy limits scheduled ⌝ }
+{
+    match scheduled {
+        Scheduled::Lawful(s) => {
+            if limits.allow(s.distance, s.duration) {
+                return RouteEval::Allowed(s);
+            }
+            RouteEval::NotAllowed
+        }
+        Scheduled::Unlawful => RouteEval::NotAllowed,
+    }
+}
+
+// The figures of a round, where it is feasible.
+pub fn route_eval(sheet: &[u8], route: &[u16], depot: usize, limits: RouteLimits) -> RouteEval
+    requires { ⌜ Routed (now sheet) depot (now route) ⌝ }
+    ensures { λ r. ⌜ r ≡ routeEval (now (sheet .entry)) depot limits (now (route .entry)) ⌝ }
+{
+    let rest = limits.rest;
+    eval_by(limits, scheduled(sheet, route, depot, rest))
+}
+
+// Lateness is priced like distance.
+pub fn priced_distance(figures: Schedule) -> f64
+    ensures { λ r. ⌜ r ≡ pricedDistance figures ⌝ }
+{
+    figures.distance + figures.lateness_cost
+}
+
+fn cost(eval: RouteEval) -> f64
+    ensures { λ r. ⌜ r ≡ costOf eval ⌝ }
+{
+    match eval {
+        RouteEval::Allowed(s) => priced_distance(s),
+        RouteEval::NotAllowed => f64::from_bits(0x7ff0_0000_0000_0000),
+    }
+}
+
+// What a search minimises: infinite where the round is not allowed.
+pub fn effective_cost(sheet: &[u8], route: &[u16], depot: usize, limits: RouteLimits) -> f64
+    requires { ⌜ Routed (now sheet) depot (now route) ⌝ }
+    ensures { λ r. ⌜ r ≡ effectiveCost (now (sheet .entry)) depot limits (now (route .entry)) ⌝ }
+{
+    cost(route_eval(sheet, route, depot, limits))
+}

@@ -1,0 +1,65 @@
+// What a vehicle asks of a round besides its capacity.
+use sheet::vehicle::Limit;
+use sheet::vehicle::Rest;
+use sheet::vehicle::Vehicle;
+ghost use mathlib.Core.Path.{_≡_};
+ghost use Rattle.evaluation.specs.Limits.{limitsOf, isUnlimited, withinOf, allowOf};
+
+pub struct RouteLimits {
+    pub max_distance: Limit,
+    pub max_duration: Limit,
+    pub rest: Rest,
+}
+
+// An end that is reached is kept.
+fn within(max: Limit, x: f64) -> bool
+    ensures { λ r. ⌜ r ≡ withinOf max x ⌝ }
+{
+    match max {
+        Limit::Unlimited => true,
+        Limit::Max(end) => x <= end,
+    }
+}
+
+pub fn limits_of(vehicle: Vehicle) -> RouteLimits
+    ensures { λ r. ⌜ r ≡ limitsOf vehicle ⌝ }
+{
+    let max_distance = vehicle.max_distance;
+    let max_duration = vehicle.max_duration;
+    let rest = vehicle.rest;
+    RouteLimits {
+        max_distance,
+        max_duration,
+        rest,
+    }
+}
+
+impl RouteLimits {
+    // Whether there is no maximum and no rest.
+    pub fn is_unlimited(self) -> bool
+        ensures { λ r. ⌜ r ≡ isUnlimited self ⌝ }
+    {
+        let max_distance = self.max_distance;
+        let max_duration = self.max_duration;
+        let rest = self.rest;
+        let Limit::Unlimited = max_distance else {
+            return false;
+        };
+        let Limit::Unlimited = max_duration else {
+            return false;
+        };
+        if let Rest::NoRest = rest { true } else { false }
+    }
+
+    // Whether a round keeps both maxima.
+    pub fn allow(self, distance: f64, duration: f64) -> bool
+        ensures { λ r. ⌜ r ≡ allowOf self distance duration ⌝ }
+    {
+        let max_distance = self.max_distance;
+        let max_duration = self.max_duration;
+        if !within(max_distance, distance) {
+            return false;
+        }
+        within(max_duration, duration)
+    }
+}

@@ -1,0 +1,56 @@
+// The walk of a round from `depot` and back, without a rest and with one.
+use crate::clock;
+use crate::clock::BreakClock;
+use crate::clock::Scheduled;
+use crate::label;
+use crate::label::RestAnswer;
+use crate::label::Served;
+use sheet::customer;
+use sheet::matrix;
+use sheet::vehicle::VehicleBreak;
+ghost use mathlib.Core.Path.{_≡_};
+ghost use Rattle.evaluation.specs.Routed.{Routed};
+ghost use Rattle.evaluation.specs.Walk.{walkOf, scheduleOf};
+
+// Without a rest, up to the first hard window that is missed.
+pub fn walk(sheet: &[u8], route: &[u16], depot: usize) -> Scheduled
+    requires { ⌜ Routed (now sheet) depot (now route) ⌝ }
+    ensures { λ r. ⌜ r ≡ walkOf (now (sheet .entry)) depot (now (route .entry)) ⌝ }
+{
+    let mut label = label::start();
+    let mut distance = 0.0;
+    let mut prev = depot;
+    for i in 0..route.len() {
+        let row = route[i] as usize;
+        distance = distance + matrix::distance(sheet, prev, row);
+        let travel = matrix::travel_time(sheet, prev, row);
+        let Served::Done(next) = label::serve(label, travel, customer::stop_at(sheet, row)) else {
+            return Scheduled::Unlawful;
+        };
+        label = next;
+        prev = row;
+    }
+    distance = distance + matrix::distance(sheet, prev, depot);
+    let back = matrix::travel_time(sheet, prev, depot);
+    Scheduled::Lawful(clock::home(label, distance, back, RestAnswer::NoRest))
+}
+
+// With a rest, for as long as the clock is alive.
+pub fn schedule(sheet: &[u8], route: &[u16], depot: usize, rest: VehicleBreak) -> Scheduled
+    requires { ⌜ Routed (now sheet) depot (now route) ⌝ }
+    ensures { λ r. ⌜ r ≡ scheduleOf (now (sheet .entry)) depot rest (now (route .entry)) ⌝ }
+{
+    let mut clock = BreakClock::new(rest, depot);
+    let mut distance = 0.0;
+    for i in 0..route.len() {
+        let row = route[i] as usize;
+        distance = distance + matrix::distance(sheet, clock.prev, row);
+        let pushed = clock.pushed(sheet, row);
+        if !pushed.alive {
+            return Scheduled::Unlawful;
+        }
+        clock = pushed.clock;
+    }
+    distance = distance + matrix::distance(sheet, clock.prev, depot);
+    clock.finish(sheet, distance, depot)
+}

@@ -1,0 +1,226 @@
+// A round's record: what each stop's visit and the whole round come to, and what a plan costs.
+use evaluation::clock::Scheduled;
+use evaluation::label::RestAnswer;
+use evaluation::schedule;
+use evaluation::window;
+use sheet::customer;
+use sheet::customer::Gate;
+use sheet::matrix;
+use sheet::vehicle::Rest;
+use sheet::vehicle::Vehicle;
+ghost use mathlib.Core.Path.{_≡_};
+ghost use Prim.Native.Nat.{_+_, _*_, _≤_, _<_};
+ghost use Rattle.sheet.specs.Accepted.{Accepted};
+ghost use Rattle.sheet.specs.Fields.{rowsOf};
+ghost use Rattle.evaluation.specs.Routed.{Routed};
+ghost use Rattle.evaluator.specs.Record.{answerOf, placedOf, readyFor, departsAt, lateAfter, costAfter, beginOf, visitedOf, recordOf, buildRoute, routeCost, priceStart, priceWith};
+ghost use Rattle.evaluator.specs.Driven.{Driven};
+
+// The round so far: its last visit, and what it has come to. `load` is after that visit.
+pub struct Progress {
+    pub arrival: f64,
+    pub departure: f64,
+    pub load: u32,
+    pub distance: f64,
+    pub lateness: f64,
+    pub lateness_cost: f64,
+    pub prev: usize,
+    pub place: u16,
+}
+
+// What a whole round comes to.
+pub struct Record {
+    pub load: u32,
+    pub distance: f64,
+    pub duration: f64,
+    pub lateness: f64,
+    pub lateness_cost: f64,
+    pub rest: RestAnswer,
+}
+
+// The rest of a round: where it stands, and how long it is.
+pub struct Placed {
+    pub answer: RestAnswer,
+    pub duration: f64,
+}
+
+fn answer(scheduled: Scheduled) -> RestAnswer
+    ensures { λ r. ⌜ r ≡ answerOf scheduled ⌝ }
+{
+    match scheduled {
+        Scheduled::Lawful(s) => s.rest,
+        Scheduled::Unlawful => RestAnswer::NoRest,
+    }
+}
+
+// The rest that a vehicle takes on a round; none where the round has no schedule.
+pub fn place_rest(sheet: &[u8], route: &[u16], depot: usize, rest: Rest) -> Placed
+    requires { ⌜ Routed (now sheet) depot (now route) ⌝ }
+    ensures { λ r. ⌜ r ≡ placedOf (now (sheet .entry)) depot rest (now (route .entry)) ⌝ }
+{
+    match rest {
+        Rest::NoRest => {
+            let none = RestAnswer::NoRest;
+            Placed {
+                answer: none,
+                duration: 0.0,
+            }
+        }
+        Rest::Required(b) => {
+            let answer = answer(schedule::schedule(sheet, route, depot, b));
+            Placed {
+                answer,
+                duration: b.duration,
+            }
+        }
+    }
+}
+
+// When the vehicle is ready for the stop counted `place`: on arrival, or after the rest before it.
+fn ready_for(answer: RestAnswer, duration: f64, place: u16, arrival: f64) -> f64
+    ensures { λ r. ⌜ r ≡ readyFor answer duration place arrival ⌝ }
+{
+    match answer {
+        RestAnswer::NoRest => arrival,
+        RestAnswer::Before(at, start) => {
+            if at == place {
+                return start + duration;
+            }
+            arrival
+        }
+    }
+}
+
+fn departure(gate: Gate, ready: f64, service: f64) -> f64
+    ensures { λ r. ⌜ r ≡ departsAt gate ready service ⌝ }
+{
+    match gate {
+        Gate::Open => ready + service,
+        Gate::Hard(w) => (ready + window::waiting(w, ready)) + service,
+        Gate::Soft(w, _) => (ready + window::waiting(w, ready)) + service,
+    }
+}
+
+fn late_after(gate: Gate, ready: f64, late: f64) -> f64
+    ensures { λ r. ⌜ r ≡ lateAfter gate ready late ⌝ }
+{
+    match gate {
+        Gate::Open => late,
+        Gate::Hard(_) => late,
+        Gate::Soft(w, _) => {
+            if window::violated(w, ready) {
+                return late + window::lateness(w, ready);
+            }
+            late
+        }
+    }
+}
+
+fn cost_after(gate: Gate, ready: f64, cost: f64) -> f64
+    ensures { λ r. ⌜ r ≡ costAfter gate ready cost ⌝ }
+{
+    match gate {
+        Gate::Open => cost,
+        Gate::Hard(_) => cost,
+        Gate::Soft(w, penalty) => {
+            if window::violated(w, ready) {
+                return cost + penalty * window::lateness(w, ready);
+            }
+            cost
+        }
+    }
+}
+
+impl Progress {
+    // At the depot at 0.
+    pub fn new(depot: usize) -> Self
+        ensures { λ r. ⌜ r ≡ beginOf depot ⌝ }
+    {
+        Progress {
+            arrival: 0.0,
+            departure: 0.0,
+            load: 0,
+            distance: 0.0,
+            lateness: 0.0,
+            lateness_cost: 0.0,
+            prev: depot,
+            place: 1,
+        }
+    }
+
+    // The visit of one row more.
+    pub fn visited(self, sheet: &[u8], placed: Placed, row: usize) -> Self
+        requires { ⌜ Driven (now sheet) self ⌝ }
+        requires { ⌜ row < rowsOf (now sheet) ⌝ }
+        ensures { λ r. ⌜ r ≡ visitedOf (now (sheet .entry)) placed self row ⌝ }
+    {
+        let prev = self.prev;
+        let arrival = self.departure + matrix::travel_time(sheet, prev, row);
+        let answer = placed.answer;
+        let ready = ready_for(answer, placed.duration, self.place, arrival);
+        let stop = customer::stop_at(sheet, row);
+        let gate = stop.gate;
+        Progress {
+            arrival,
+            departure: departure(gate, ready, stop.service),
+            load: self.load + stop.demand,
+            distance: self.distance + matrix::distance(sheet, prev, row),
+            lateness: late_after(gate, ready, self.lateness),
+            lateness_cost: cost_after(gate, ready, self.lateness_cost),
+            prev: row,
+            place: self.place + 1,
+        }
+    }
+
+    // Home at `depot`.
+    pub fn record(self, sheet: &[u8], depot: usize, rest: RestAnswer) -> Record
+        requires { ⌜ Accepted (now sheet) ⌝ }
+        requires { ⌜ (self .prev < rowsOf (now sheet)) × (depot < rowsOf (now sheet)) ⌝ }
+        ensures { λ r. ⌜ r ≡ recordOf (now (sheet .entry)) depot rest self ⌝ }
+    {
+        let prev = self.prev;
+        Record {
+            load: self.load,
+            distance: self.distance + matrix::distance(sheet, prev, depot),
+            duration: self.departure + matrix::travel_time(sheet, prev, depot),
+            lateness: self.lateness,
+            lateness_cost: self.lateness_cost,
+            rest,
+        }
+    }
+}
+
+// The figures of a round from `depot` and back.
+pub fn build_route(sheet: &[u8], route: &[u16], depot: usize, rest: Rest) -> Record
+    requires { ⌜ Routed (now sheet) depot (now route) ⌝ }
+    ensures { λ r. ⌜ r ≡ buildRoute (now (sheet .entry)) depot rest (now (route .entry)) ⌝ }
+{
+    let placed = place_rest(sheet, route, depot, rest);
+    let mut progress = Progress::new(depot);
+    for i in 0..route.len() {
+        progress = progress.visited(sheet, placed, route[i] as usize);
+    }
+    let answer = placed.answer;
+    progress.record(sheet, depot, answer)
+}
+
+// What a round of `distance` costs.
+pub fn route_cost(vehicle: Vehicle, distance: f64) -> f64
+    ensures { λ r. ⌜ r ≡ routeCost vehicle distance ⌝ }
+{
+    vehicle.fixed_cost + vehicle.cost_per_distance * distance
+}
+
+// The cost of a plan without rounds.
+pub fn price_start() -> f64
+    ensures { λ r. ⌜ r ≡ priceStart ⌝ }
+{
+    f64::from_bits(0x8000_0000_0000_0000)
+}
+
+// The cost of a plan with one round more. Lateness is priced like distance.
+pub fn price_with(total: f64, vehicle: Vehicle, figures: Record) -> f64
+    ensures { λ r. ⌜ r ≡ priceWith total vehicle figures ⌝ }
+{
+    total + route_cost(vehicle, figures.distance + figures.lateness_cost)
+}

@@ -1,0 +1,1 @@
+// A lawful round, as a definition over natural numbers. The crate's substance is its specs.
