@@ -1,9 +1,9 @@
 //! Lays the u-routing sources, unchanged, and the glue around them into OUT_DIR, and tells the
-//! linker where the planner's library is.
+//! linker where the planner's library and the probe's are.
 //!
 //! U_ROUTING_SRC names the folder that holds the sources' `src`; without it they are looked for
-//! beside the repository. PLANNER_LIB is the whole path of the folder of libplanner.a; without it
-//! the commands that need no planner still build.
+//! beside the repository. PLANNER_LIB is the whole path of the folder of libplanner.a, PROBE_LIB
+//! of that of libprobe.a; without one the commands that do not need it still build.
 
 #![deny(warnings)]
 
@@ -49,7 +49,8 @@ fn main() {
             return;
         }
     }
-    link();
+    link("planner", "PLANNER_LIB");
+    link("probe", "PROBE_LIB");
 }
 
 /// Copies one file. A last line that is a doc comment of an item the copy lacks gets an empty
@@ -64,12 +65,13 @@ fn lay(from: &Path, to: &Path) -> io::Result<()> {
     fs::write(to, text)
 }
 
-fn link() {
-    println!("cargo::rerun-if-env-changed=PLANNER_LIB");
-    println!("cargo::rustc-check-cfg=cfg(planner)");
-    if let Ok(folder) = env::var("PLANNER_LIB") {
-        println!("cargo::rerun-if-changed={folder}/libplanner.a");
+/// A library whose folder is named is linked, and its `cfg` set.
+fn link(library: &str, variable: &str) {
+    println!("cargo::rerun-if-env-changed={variable}");
+    println!("cargo::rustc-check-cfg=cfg({library})");
+    if let Ok(folder) = env::var(variable) {
+        println!("cargo::rerun-if-changed={folder}/lib{library}.a");
         println!("cargo::rustc-link-search=native={folder}");
-        println!("cargo::rustc-cfg=planner");
+        println!("cargo::rustc-cfg={library}");
     }
 }

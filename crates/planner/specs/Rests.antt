@@ -12,7 +12,7 @@ use Rattle.evaluation.specs.Walk.{onward, scheduleOf}
 use Rattle.evaluation.specs.Feasible.{scheduledOf}
 use Rattle.evaluation.specs.declared.clock.Scheduled.{Scheduled}
 use Rattle.evaluation.specs.declared.clock.Scheduled.the-variants.{Lawful, Unlawful}
-use Rattle.planner.specs.Cases.{header, rows, table, f64s, one}
+use Rattle.plan.specs.SheetA.{header, rows, table, f64s, one}
 
 -- 5, 9, 12, 24 and 31 as f64
 abbrev five : ℕ

@@ -3,6 +3,8 @@
 //!
 //!     compare selftest               the harness against document 01's examples
 //!     compare refusals COUNT SEED    the planner's check on COUNT sheets
+//!     compare rounds COUNT SEED      the port's evaluation on COUNT rounds
+//!     compare bench                  the port's route_feasible against the Rust's, timed
 //!     compare freeze COUNT SEED DIR  writes DIR/stdin and DIR/stdout, a sample to keep
 //!
 //! build.rs says where the sources and the planner's library are looked for. The exit status is
@@ -10,6 +12,7 @@
 
 #![deny(warnings)]
 
+mod bench;
 mod damage;
 mod freeze;
 mod generate;
@@ -20,6 +23,7 @@ mod random;
 mod reference;
 mod refusal;
 mod refusals;
+mod rounds;
 mod selftest;
 mod sheet;
 mod stream;
@@ -27,14 +31,16 @@ mod stream;
 use std::path::Path;
 use std::process::ExitCode;
 
-const USAGE: &str = "usage: compare selftest | refusals COUNT SEED | freeze COUNT SEED DIR";
+const USAGE: &str = "usage: compare selftest | refusals COUNT SEED | rounds COUNT SEED | bench | freeze COUNT SEED DIR";
 
 fn main() -> ExitCode {
     let words: Vec<String> = std::env::args().skip(1).collect();
     let words: Vec<&str> = words.iter().map(String::as_str).collect();
     let done = match words[..] {
         ["selftest"] => Some(selftest::run()),
+        ["bench", ref words @ ..] => bench::run(words),
         ["refusals", count, seed] => numbers(count, seed).map(|(c, s)| refusals::run(c, s)),
+        ["rounds", count, seed] => numbers(count, seed).map(|(c, s)| rounds::run(c, s)),
         ["freeze", count, seed, folder] => numbers(count, seed).map(|(c, s)| freeze(c, s, folder)),
         _ => None,
     };

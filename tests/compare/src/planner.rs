@@ -1,4 +1,4 @@
-//! The planner's library: the one place that calls it.
+//! The planner's library and the probe's: the one place that calls them.
 
 #[cfg(planner)]
 #[link(name = "planner", kind = "static")]
@@ -17,5 +17,73 @@ pub fn check(sheet: &[u8], plan_len: usize) -> u32 {
 #[cfg(not(planner))]
 pub fn check(_sheet: &[u8], _plan_len: usize) -> u32 {
     eprintln!("compare: built without a planner; build with PLANNER_LIB set to its folder");
+    std::process::exit(2)
+}
+
+#[cfg(probe)]
+mod probe {
+    #[link(name = "probe", kind = "static")]
+    extern "C" {
+        pub fn probe_rounds(
+            sheet: *const u8,
+            sheet_len: usize,
+            stops: *const u16,
+            stops_len: usize,
+            len: u32,
+            vehicle: u32,
+        ) -> u32;
+        pub fn probe_figure(
+            sheet: *const u8,
+            sheet_len: usize,
+            stops: *const u16,
+            stops_len: usize,
+            vehicle: u32,
+            which: u32,
+        ) -> f64;
+    }
+}
+
+/// How many of the rounds of `len` rows in `stops` are feasible for a vehicle.
+#[cfg(probe)]
+pub fn probe_rounds(sheet: &[u8], stops: &[u16], len: usize, vehicle: usize) -> usize {
+    let (len, vehicle) = (len as u32, vehicle as u32);
+    // SAFETY: the pointers and the lengths are those of slices that outlive the call.
+    let passed = unsafe {
+        probe::probe_rounds(sheet.as_ptr(), sheet.len(), stops.as_ptr(), stops.len(), len, vehicle)
+    };
+    assert_ne!(passed, u32::MAX, "the probe refuses the sheet or the rounds");
+    passed as usize
+}
+
+/// One figure of a round of a vehicle.
+#[cfg(probe)]
+pub fn probe_figure(sheet: &[u8], stops: &[u16], vehicle: usize, which: usize) -> f64 {
+    let (vehicle, which) = (vehicle as u32, which as u32);
+    // SAFETY: the pointers and the lengths are those of slices that outlive the call.
+    unsafe {
+        probe::probe_figure(
+            sheet.as_ptr(),
+            sheet.len(),
+            stops.as_ptr(),
+            stops.len(),
+            vehicle,
+            which,
+        )
+    }
+}
+
+#[cfg(not(probe))]
+pub fn probe_figure(_sheet: &[u8], _stops: &[u16], _vehicle: usize, _which: usize) -> f64 {
+    no_probe()
+}
+
+#[cfg(not(probe))]
+pub fn probe_rounds(_sheet: &[u8], _stops: &[u16], _len: usize, _vehicle: usize) -> usize {
+    no_probe()
+}
+
+#[cfg(not(probe))]
+fn no_probe() -> ! {
+    eprintln!("compare: built without the probe; build with PROBE_LIB set to its folder");
     std::process::exit(2)
 }

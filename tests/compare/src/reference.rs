@@ -16,9 +16,9 @@ use crate::sheet::{self, Header, Row, Sheet};
 /// An accepted sheet in the Rust's types.
 pub struct Problem {
     method: u8,
-    customers: Vec<Customer>,
-    distances: DistanceMatrix,
-    vehicles: Vec<Vehicle>,
+    pub customers: Vec<Customer>,
+    pub distances: DistanceMatrix,
+    pub vehicles: Vec<Vehicle>,
 }
 
 /// The planner's answer: a refusal or the plan's bytes.

@@ -1,0 +1,99 @@
+-- What both nearest neighbours share: vehicles in order, each grows one round by the best stop left, the first of equals; what is left is set aside.
+use Prim.Native.Nat.{ℕ, zero, suc, _+_}
+use mathlib.Core.Bool.{cond}
+use mathlib.Core.List.{List, [], _∷_, _++_}
+use lib.ListN.{length, getD, take, drop}
+use lib.Ieee.{Float, lt}
+use Rattle.sheet.specs.Values.{nought}
+use Rattle.plan.specs.Outcome.{Round, Outcome}
+
+-- ---- one choice
+-- the best stop so far: its place among the stops left, and its key
+pub data Choice : Type 0 where
+  none : Choice
+  best : ℕ → Float → Choice
+
+-- a stop's key, or that it cannot be taken
+pub data Offer : Type 0 where
+  out : Offer
+  key : Float → Offer
+
+-- "the first nearest wins": a later stop wins only with a smaller key
+abbrev pub better : Choice → ℕ → Offer → Choice
+better c j out = c
+better none j (key k) = best j k
+better (best i b) j (key k) = cond (lt k b) (best j k) (best i b)
+
+-- the best of the stops left from place j on
+unfoldable pub choose : (ℕ → Offer) → Choice → ℕ → List ℕ → Choice
+choose offer c j [] = c
+choose offer c j (row ∷ rows) = choose offer (better c j (offer row)) (j + 1) rows
+
+-- the stops left without the one at place j
+abbrev pub without : ℕ → List ℕ → List ℕ
+without j left = take j left ++ drop (j + 1) left
+
+-- ---- one round
+-- the round so far: its stops, the last of them or the depot, what it carries, and the two figures that the rule sums
+pub record Trip : Type 0 where
+  pub stops : List ℕ
+  pub current : ℕ
+  pub load : ℕ
+  pub travelled : Float
+  pub clock : Float
+
+abbrev pub started : ℕ → Trip
+started depot = record { stops = []; current = depot; load = 0; travelled = nought; clock = nought }
+
+-- a round and the stops that it leaves
+pub record Grown : Type 0 where
+  pub stops : List ℕ
+  pub left : List ℕ
+
+-- a rule: what it offers of a stop after a round so far, and the round with a stop more
+pub record Rule : Type 0 where
+  pub offer : Trip → ℕ → Offer
+  pub onward : Trip → ℕ → Trip
+
+-- a round that may grow on, or that no stop left can join
+pub data Growth : Type 0 where
+  growing : Trip → List ℕ → Growth
+  grown : Trip → List ℕ → Growth
+
+-- with the stop that was chosen
+abbrev pub grownBy : Rule → Trip → List ℕ → Choice → Growth
+grownBy rule trip left none = grown trip left
+grownBy rule trip left (best j k) = growing (rule .onward trip (getD left j 0)) (without j left)
+
+unfoldable pub grow : Rule → Growth → Growth
+grow rule (growing trip left) = grownBy rule trip left (choose (rule .offer trip) none 0 left)
+grow rule (grown trip left) = grown trip left
+
+-- n choices
+unfoldable pub growOn : Rule → ℕ → Growth → Growth
+growOn rule zero g = g
+growOn rule (suc n) g = growOn rule n (grow rule g)
+
+abbrev pub ended : Growth → Grown
+ended (growing trip left) = record { stops = trip .stops; left = left }
+ended (grown trip left) = record { stops = trip .stops; left = left }
+
+-- a vehicle's round over the stops left: as many choices as there are stops
+abbrev pub roundOf : Rule → ℕ → List ℕ → Grown
+roundOf rule depot left = ended (growOn rule (length left) (growing (started depot) left))
+
+-- ---- the fleet
+-- "One round per vehicle at most": a round without stops is none
+abbrev pub withStops : ℕ → List ℕ → List Round → List Round
+withStops v [] rounds = rounds
+withStops v (row ∷ rows) rounds = record { vehicle = v; stops = row ∷ rows } ∷ rounds
+
+abbrev pub after : ℕ → List ℕ → Outcome → Outcome
+after v stops o = record { rounds = withStops v stops (o .rounds); aside = o .aside }
+
+-- "the rest of the stops are set aside, ascending": the members come ascending, and stay so
+unfoldable pub greedy : (ℕ → Rule) → ℕ → List ℕ → List ℕ → Outcome
+greedy rule depot [] left = record { rounds = []; aside = left }
+greedy rule depot (v ∷ vs) left =
+    let g = roundOf (rule v) depot left in
+    after v (g .stops) (greedy rule depot vs (g .left))

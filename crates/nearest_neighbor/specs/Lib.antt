@@ -1,0 +1,4 @@
+pub mod Greedy
+pub mod Nearest
+pub mod Permutation
+pub mod Cases

@@ -1,0 +1,56 @@
+-- The plan: blank, the rounds, the stops set aside, the header. Assumes nothing.
+use mathlib.Core.Path.{_≡_}
+use Prim.Native.Nat.{ℕ, _+_, _-_, _≤_}
+use native.Mathlib.Omega.{arith}
+use mathlib.Core.Bool.{Bool, true, false}
+use mathlib.Core.List.{List}
+use lib.ListN.{length, take, drop, replicate, length-take, length-drop}
+use lib.Seq.{getD-take, getD-drop}
+use lib.Ieee.{Float}
+use Rattle.wire.specs.Bytes.{write}
+use Rattle.numbers.specs.Upto.{no-nan}
+use Rattle.numbers.specs.Range.{zero-upto}
+use Rattle.sheet.specs.Fields.{rowsOf, planLength}
+use Rattle.sheet.specs.Values.{nought}
+use Rattle.evaluator.specs.Record.{priceStart}
+use Rattle.plan.specs.Outcome.{roundsIn, startIn, outcomeIn}
+use Rattle.plan.specs.Plan.{first, headerBytes, withRounds, withAside, priceOf, costOf, planBytes, planOf}
+use Rattle.plan.specs.Laws.{length-rounds}
+use Rattle.plan.specs.Writable.{Number}
+use Rattle.plan.specs.Written.{writable}
+use Rattle.plan.specs.Tables.{Tables, Chained}
+use Rattle.plan.proofs.Counting.{start-in, rounds-of}
+
+module _ (s stops ends vehicles : List ℕ) (n total : ℕ) (ok : Tables s stops ends vehicles n total) (start : ℕ) (from : start ≡ startIn ends n) where
+  -- the stops set aside lie within the stops
+  pub part : (start ≤ total) × (total ≤ length stops)
+  part = (rw from (start-in s stops ends vehicles n total ok n (omega arith)), ok .all)
+
+  length-aside : length (take (total - start) (drop start stops)) ≡ total - start
+  length-aside = let p = part in simp (length-take, length-drop) (omega arith)
+
+  pub chained : Chained s (take (total - start) (drop start stops))
+  chained =
+      let l = length-aside in
+      record {
+        sheet = ok .sheet .sized;
+        row = λ i h. rw (getD-take (total - start) (drop start stops) i 0 (omega arith), getD-drop start stops i 0) (ok .row (start + i) (omega arith));
+      }
+
+  pub number : (priced : Bool) → Number (costOf priced (priceOf s priceStart (roundsIn stops ends vehicles n 0 0)))
+  number true = writable s (ok .sheet) .cost (roundsIn stops ends vehicles n 0 0) (rw (length-rounds stops ends vehicles n 0 0) (ok .few)) (rounds-of s stops ends vehicles n total ok)
+  number false = no-nan 0 nought (zero-upto 0)
+
+  pub planned : (priced : Bool) (before blank rounds aside plan : List ℕ) (chain rows : ℕ) (price cost : Float) → length before ≡ planLength s
+      → blank ≡ replicate (length before) 0
+      → price ≡ priceOf s priceStart (roundsIn stops ends vehicles n 0 0)
+      → rounds ≡ withRounds s 0 (roundsIn stops ends vehicles n 0 0) blank
+      → chain ≡ first (take (total - start) (drop start stops))
+      → aside ≡ withAside s (take (total - start) (drop start stops)) rounds
+      → rows ≡ rowsOf s
+      → cost ≡ costOf priced price
+      → plan ≡ write aside 0 (headerBytes n chain rows cost)
+      → plan ≡ planOf s (outcomeIn stops ends vehicles n total) priced
+  unfolding planOf planBytes outcomeIn
+  planned priced before blank rounds aside plan chain rows price cost l b p r c a w k h =
+      rw (h, a, c, w, k, p, r, b, l, from, length-rounds stops ends vehicles n 0 0)

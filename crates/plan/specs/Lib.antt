@@ -1,0 +1,13 @@
+pub mod Outcome
+pub mod Plan
+pub mod Writable
+pub mod Written
+pub mod Tables
+pub mod Read
+pub mod SheetA
+pub mod Cases
+pub mod Laws
+pub mod Once
+pub mod Spread
+pub mod Back
+pub mod TablesBack

@@ -1,0 +1,56 @@
+-- What a writer asks of the figures: no NaN, whose bits nobody says.
+use Prim.Native.Nat.{ℕ, _≤_, _<_}
+use mathlib.Core.Bool.{not}
+use mathlib.Core.List.{List, [], _∷_}
+use lib.Dec.{T}
+use lib.ListN.{length}
+use lib.Ieee.{Float, isNan}
+use Rattle.sheet.specs.Fields.{rowsOf, vehiclesOf}
+use Rattle.sheet.specs.Values.{vehicleOf}
+use Rattle.sheet.specs.declared.vehicle.Vehicle.{Vehicle}
+use Rattle.evaluation.specs.Serve.{restStart}
+use Rattle.evaluation.specs.Routed.{Routed}
+use Rattle.evaluator.specs.Record.{placedOf, beginOf, visitedOf, buildRoute, priceStart}
+use Rattle.evaluator.specs.declared.Progress.{Progress}
+use Rattle.evaluator.specs.declared.Placed.{Placed}
+use Rattle.evaluator.specs.declared.Record.{Record}
+use Rattle.plan.specs.Outcome.{Round}
+use Rattle.plan.specs.Plan.{priceOf}
+
+abbrev pub Number : Float → Type 0
+Number x = T (not (isNan x))
+
+pub record VisitWritable (p : Progress) : Type 0 where
+  pub arrival : Number (p .arrival)
+  pub departure : Number (p .departure)
+
+pub record RecordWritable (r : Record) : Type 0 where
+  pub distance : Number (r .distance)
+  pub duration : Number (r .duration)
+  pub lateness : Number (r .lateness)
+  pub cost : Number (r .«lateness_cost»)
+  pub start : Number (restStart (r .rest))
+
+-- the visits of a round's stops left
+unfoldable pub VisitsWritable : List ℕ → Placed → Progress → List ℕ → Type 0
+VisitsWritable s t p [] = Unit
+VisitsWritable s t p (row ∷ rows) = VisitWritable (visitedOf s t p row) × VisitsWritable s t (visitedOf s t p row) rows
+
+-- a vehicle's round
+pub record RoundWritable (s : List ℕ) (v : Vehicle) (stops : List ℕ) : Type 0 where
+  pub visits : VisitsWritable s (placedOf s (v .depot) (v .rest) stops) (beginOf (v .depot)) stops
+  pub figures : RecordWritable (buildRoute s (v .depot) (v .rest) stops)
+
+-- a round of a vehicle of the sheet
+pub record RoundOf (s : List ℕ) (r : Round) : Type 0 where
+  pub vehicle : r .vehicle < vehiclesOf s
+  pub routed : Routed s (vehicleOf s (r .vehicle) .depot) (r .stops)
+
+unfoldable pub RoundsOf : List ℕ → List Round → Type 0
+RoundsOf s [] = Unit
+RoundsOf s (r ∷ rs) = RoundOf s r × RoundsOf s rs
+
+-- every figure of every plan of the sheet
+pub record Writable (s : List ℕ) : Type 0 where
+  pub round : (r : Round) → RoundOf s r → RoundWritable s (vehicleOf s (r .vehicle)) (r .stops)
+  pub cost : (rs : List Round) → length rs ≤ rowsOf s → RoundsOf s rs → Number (priceOf s priceStart rs)
