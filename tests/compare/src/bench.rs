@@ -176,9 +176,10 @@ impl Drive {
 
     /// How many rounds are feasible.
     fn passed(&self, side: Side) -> usize {
+        let port = |rows| probe_rounds(&self.sheet, rows, self.len, 0).expect("a right question");
         match side {
-            Side::Port => probe_rounds(&self.sheet, &self.rows, self.len, 0),
-            Side::Check => probe_rounds(&self.sheet, &[], self.len, 0),
+            Side::Port => port(&self.rows),
+            Side::Check => port(&[]),
             Side::Rust => self.passed_by_rust(),
         }
     }

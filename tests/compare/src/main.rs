@@ -5,6 +5,8 @@
 //!     compare refusals COUNT SEED    the planner's check on COUNT sheets
 //!     compare rounds COUNT SEED      the port's evaluation on COUNT rounds
 //!     compare bench                  the port's route_feasible against the Rust's, timed
+//!     compare bench instructions     the same, counted by valgrind
+//!     compare bench SIDE CASE RUNS   one side of one case alone, for a profiler
 //!     compare freeze COUNT SEED DIR  writes DIR/stdin and DIR/stdout, a sample to keep
 //!
 //! build.rs says where the sources and the planner's library are looked for. The exit status is
@@ -31,7 +33,8 @@ mod stream;
 use std::path::Path;
 use std::process::ExitCode;
 
-const USAGE: &str = "usage: compare selftest | refusals COUNT SEED | rounds COUNT SEED | bench | freeze COUNT SEED DIR";
+const USAGE: &str = "usage: compare selftest | refusals COUNT SEED | rounds COUNT SEED | \
+                     bench [instructions | SIDE CASE RUNS] | freeze COUNT SEED DIR";
 
 fn main() -> ExitCode {
     let words: Vec<String> = std::env::args().skip(1).collect();

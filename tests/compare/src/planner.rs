@@ -35,50 +35,44 @@ mod probe {
         pub fn probe_figure(
             sheet: *const u8,
             sheet_len: usize,
-            stops: *const u16,
-            stops_len: usize,
+            route: *const u16,
+            route_len: usize,
             vehicle: u32,
             which: u32,
         ) -> f64;
     }
 }
 
-/// How many of the rounds of `len` rows in `stops` are feasible for a vehicle.
+/// How many of the rounds of `len` rows in `stops` are feasible for a vehicle; `None` where the
+/// question is turned back.
 #[cfg(probe)]
-pub fn probe_rounds(sheet: &[u8], stops: &[u16], len: usize, vehicle: usize) -> usize {
+pub fn probe_rounds(sheet: &[u8], stops: &[u16], len: usize, vehicle: usize) -> Option<usize> {
     let (len, vehicle) = (len as u32, vehicle as u32);
     // SAFETY: the pointers and the lengths are those of slices that outlive the call.
     let passed = unsafe {
         probe::probe_rounds(sheet.as_ptr(), sheet.len(), stops.as_ptr(), stops.len(), len, vehicle)
     };
-    assert_ne!(passed, u32::MAX, "the probe refuses the sheet or the rounds");
-    passed as usize
+    (passed != u32::MAX).then_some(passed as usize)
 }
 
-/// One figure of a round of a vehicle.
+/// A figure of a round by its number (crates/probe/specs/Figures.antt).
 #[cfg(probe)]
-pub fn probe_figure(sheet: &[u8], stops: &[u16], vehicle: usize, which: usize) -> f64 {
+pub fn probe_figure(sheet: &[u8], route: &[u16], vehicle: usize, which: usize) -> f64 {
     let (vehicle, which) = (vehicle as u32, which as u32);
-    // SAFETY: the pointers and the lengths are those of slices that outlive the call.
+    // SAFETY: as above.
     unsafe {
-        probe::probe_figure(
-            sheet.as_ptr(),
-            sheet.len(),
-            stops.as_ptr(),
-            stops.len(),
-            vehicle,
-            which,
-        )
+        let (route, route_len) = (route.as_ptr(), route.len());
+        probe::probe_figure(sheet.as_ptr(), sheet.len(), route, route_len, vehicle, which)
     }
 }
 
 #[cfg(not(probe))]
-pub fn probe_figure(_sheet: &[u8], _stops: &[u16], _vehicle: usize, _which: usize) -> f64 {
+pub fn probe_rounds(_sheet: &[u8], _stops: &[u16], _len: usize, _vehicle: usize) -> Option<usize> {
     no_probe()
 }
 
 #[cfg(not(probe))]
-pub fn probe_rounds(_sheet: &[u8], _stops: &[u16], _len: usize, _vehicle: usize) -> usize {
+pub fn probe_figure(_sheet: &[u8], _route: &[u16], _vehicle: usize, _which: usize) -> f64 {
     no_probe()
 }
 

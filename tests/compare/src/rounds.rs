@@ -1,48 +1,84 @@
 //! `compare rounds`: what the port says of single rounds against the Rust's `route_feasible`,
 //! `route_eval` and `build_route`, every figure by its bits.
+//!
+//! Windows, rests and maxima of a sheet are set to what some of its rounds reach, or one step
+//! beside it, so that every comparison is tried at the tie. Stops are never depots: of a depot row
+//! the two sides read different service and demand.
 
+use std::collections::BTreeMap;
 use std::process::ExitCode;
 
-use u_routing::evaluation::{route_eval, route_feasible, RouteEvaluator, RouteLimits};
-use u_routing::models::Vehicle;
+use u_routing::evaluation::{route_eval, route_feasible, RouteEval, RouteEvaluator, RouteLimits};
+use u_routing::models::{Route, Vehicle};
 
 use crate::generate::sheet_of;
+use crate::plan::plan_len;
 use crate::planner::{probe_figure, probe_rounds};
 use crate::random::Random;
 use crate::reference::Problem;
-use crate::sheet::{Sheet, MAX_DISTANCE, MAX_DURATION, REST, WINDOW};
+use crate::refusal::{refusal, MOST_FIGURE, MOST_MAXIMUM};
+use crate::sheet::Sheet;
+use crate::sheet::{MAX_DISTANCE, MAX_DURATION, PENALTY, REST, WINDOW};
 
-/// Rounds tried on one sheet.
-const ROUNDS: usize = 24;
-/// One sheet in so many has up to 101 rows.
-const LARGE: usize = 400;
+/// Rounds of one sheet, and those of them that it is fitted to.
+const ROUNDS: usize = 16;
+const GUIDES: usize = 4;
+/// One sheet in so many has about 100 rows.
+const LARGE: usize = 200;
+const MOST_ROWS: usize = 101;
+/// Stops of most rounds, and of all.
+const USUAL: usize = 12;
+const MOST_STOPS: usize = 100;
 /// Differences that are shown whole.
-const SHOWN: u32 = 3;
+const SHOWN: usize = 3;
 
-/// What rounds there were; each kind has to occur.
-const KINDS: [&str; 9] = [
+/// How a sheet's numbers are drawn: as whole numbers, tenths or thirds, or as the generator does.
+const FLAVOURS: [&str; 4] = ["whole", "tenths", "thirds", "any"];
+
+/// What rounds there were; each kind has to occur in each flavour.
+const KINDS: [&str; 21] = [
     "feasible",
     "not feasible",
     "rest placed",
-    "rest later than the first stop",
+    "rest placed after the first stop",
     "rest not needed",
     "rest impossible",
     "late at a soft window",
-    "a due hit exactly",
-    "a maximum hit exactly",
+    "arrival = due",
+    "arrival one step after due",
+    "ready one step after arrival",
+    "rest starts at latest",
+    "arrival one step after latest",
+    "return = earliest",
+    "return one step after earliest",
+    "distance = maximum",
+    "distance one step over",
+    "duration = maximum",
+    "duration one step over",
+    "times of their own",
+    "a stop twice",
+    "over 12 stops",
 ];
 
 #[derive(Default)]
 struct Tally {
     rounds: usize,
-    differences: u32,
-    kinds: [usize; KINDS.len()],
+    differences: usize,
+    turned_back: usize,
+    kinds: [[usize; FLAVOURS.len()]; KINDS.len()],
 }
 
-/// A round of a vehicle, in both sides' forms.
-struct Round<'a> {
-    bytes: &'a [u8],
-    problem: &'a Problem,
+/// A sheet in both sides' forms.
+struct Case {
+    flavour: usize,
+    times: bool,
+    bytes: Box<[u8]>,
+    problem: Problem,
+}
+
+/// A vehicle, by its index, and its stops.
+#[derive(Clone)]
+struct Round {
     vehicle: usize,
     stops: Vec<usize>,
 }
@@ -52,203 +88,414 @@ pub fn run(count: usize, seed: u64) -> ExitCode {
     let mut random = Random::new(seed);
     let mut tally = Tally::default();
     while tally.rounds < count {
-        let rows = if random.one_in(LARGE) { 102 - random.below(4) } else { 3 + random.below(11) };
-        let vehicles = 1 + random.below(3);
-        let sheet = sheet_of(&mut random, rows.min(101), vehicles);
-        if sheet.depots() < sheet.rows.len() {
-            tally.try_sheet(sheet, &mut random);
-        }
+        tally.try_sheet(&mut random);
     }
-    for (kind, n) in KINDS.iter().zip(tally.kinds) {
-        println!("  {kind}: {n}");
+    println!("  {:32} {}", "", FLAVOURS.map(|name| format!("{name:>9}")).concat());
+    for (kind, counts) in KINDS.iter().zip(tally.kinds) {
+        println!("  {kind:32} {}", counts.map(|n| format!("{n:>9}")).concat());
     }
-    let missing = tally.kinds.contains(&0);
+    println!("  questions turned back: {}", tally.turned_back);
+    let missing = tally.turned_back == 0 || tally.kinds.as_flattened().contains(&0);
     if missing {
-        println!("rounds: a kind never occurred");
+        println!("  a kind never occurred, so nothing is shown of it");
     }
     println!("rounds: {} rounds, {} differences", tally.rounds, tally.differences);
-    if tally.differences > 0 || missing {
-        ExitCode::FAILURE
-    } else {
-        ExitCode::SUCCESS
-    }
+    ExitCode::from(u8::from(missing || tally.differences > 0))
 }
 
 impl Tally {
-    fn try_sheet(&mut self, mut sheet: Sheet, random: &mut Random) {
-        for _ in 0..ROUNDS {
-            let vehicle = random.below(sheet.vehicles.len());
-            let stops = stops(&sheet, random);
-            if random.one_in(2) {
-                hit(&mut sheet, vehicle, &stops, random);
+    fn try_sheet(&mut self, random: &mut Random) {
+        let flavour = random.below(FLAVOURS.len());
+        let mut sheet = sheet(random, flavour);
+        let mut rounds: Vec<Round> = (0..GUIDES).map(|_| Round::new(&sheet, random)).collect();
+        let rests = random.one_in(2);
+        for guide in &rounds {
+            for _ in 0..random.below(5) {
+                if rests && random.one_in(2) {
+                    fit_rest(&mut sheet, guide, random);
+                } else {
+                    fit_window(&mut sheet, guide, random);
+                }
             }
-            let problem = Problem::of(&sheet).expect("the Rust takes every accepted sheet");
-            let bytes = sheet.encode();
-            self.try_round(&Round { bytes: &bytes, problem: &problem, vehicle, stops });
+        }
+        for guide in &rounds {
+            fit_maximum(&mut sheet, guide, random);
+        }
+        while rounds.len() < ROUNDS {
+            let round = match random.below(2) {
+                0 => Round::new(&sheet, random),
+                _ => rounds[random.below(GUIDES)].varied(&sheet, random),
+            };
+            rounds.push(round);
+        }
+        let problem = Problem::of(&sheet).expect("the Rust takes every accepted sheet");
+        let (times, bytes) = (sheet.times.is_some(), sheet.encode().into());
+        let case = Case { flavour, times, bytes, problem };
+        assert_eq!(refusal(&case.bytes, plan_len(sheet.rows.len())), 0, "an accepted sheet");
+        for round in &rounds {
+            self.try_round(&case, round);
+        }
+        self.try_together(&case, &rounds);
+        self.try_wrong(&case, random);
+    }
+
+    /// Every figure of one round.
+    fn try_round(&mut self, case: &Case, round: &Round) {
+        self.rounds += 1;
+        let answers = Answers::of(case, round);
+        for kind in answers.kinds(case, round) {
+            self.kinds[kind][case.flavour] += 1;
+        }
+        let rows = round.rows();
+        let differs = |(which, right): (usize, &f64)| {
+            let said = probe_figure(&case.bytes, &rows, round.vehicle, which);
+            let (said, right) = (said.to_bits(), right.to_bits());
+            (said != right).then(|| format!("figure {which} is {said:016x}, not {right:016x}"))
+        };
+        if let Some(wrong) = answers.figures().iter().enumerate().find_map(differs) {
+            self.differ(case, round, &wrong);
         }
     }
 
-    fn try_round(&mut self, round: &Round) {
-        self.rounds += 1;
-        let wrong = round.differs(&mut self.kinds);
-        if wrong.is_empty() {
-            return;
+    /// `route_feasible` of many rounds in one call: those of one vehicle, one length and one
+    /// answer, so that no two errors make up for each other.
+    fn try_together(&mut self, case: &Case, rounds: &[Round]) {
+        let mut groups: BTreeMap<(usize, usize, bool), Vec<&Round>> = BTreeMap::new();
+        for round in rounds.iter().filter(|round| !round.stops.is_empty()) {
+            let key = (round.vehicle, round.stops.len(), case.feasible(round));
+            groups.entry(key).or_default().push(round);
         }
+        for ((vehicle, len, feasible), group) in groups {
+            let passed = |rounds: &[&Round]| {
+                let rows: Vec<u16> = rounds.iter().flat_map(|round| round.rows()).collect();
+                probe_rounds(&case.bytes, &rows, len, vehicle)
+            };
+            let right = |count: usize| Some(if feasible { count } else { 0 });
+            if passed(&group) == right(group.len()) {
+                continue;
+            }
+            let before = self.differences;
+            for round in group.iter().filter(|&&round| passed(&[round]) != right(1)) {
+                self.differ(case, round, &format!("feasible is {}", !feasible));
+            }
+            if self.differences == before {
+                self.differ(case, group[0], "a wrong count of this round and others");
+            }
+        }
+    }
+
+    /// Questions that are not right.
+    fn try_wrong(&mut self, case: &Case, random: &mut Random) {
+        let (rows, vehicles) = (case.problem.customers.len(), case.problem.vehicles.len());
+        let sheet = &case.bytes[..];
+        let row = (rows + random.below(3)) as u16;
+        let short = &sheet[..sheet.len() - 1 - random.below(16)];
+        let long = vec![0; MOST_ROWS + 1];
+        let counts = [
+            probe_rounds(sheet, &[0], 0, 0),
+            probe_rounds(sheet, &long, long.len(), 0),
+            probe_rounds(sheet, &[0, 0, 0], 2, 0),
+            probe_rounds(sheet, &[0, row], 2, 0),
+            probe_rounds(sheet, &[0], 1, vehicles),
+            probe_rounds(short, &[0], 1, 0),
+        ];
+        let figures = [
+            probe_figure(sheet, &long, 0, 0),
+            probe_figure(sheet, &[0, row], 0, 0),
+            probe_figure(sheet, &[0], vehicles, 0),
+            probe_figure(short, &[0], 0, 0),
+            probe_figure(sheet, &[0], 0, 16),
+        ];
+        self.turned_back += counts.len() + figures.len();
+        if counts.iter().any(Option::is_some) || figures.iter().any(|&figure| figure != -2.0) {
+            let round = Round { vehicle: 0, stops: vec![] };
+            self.differ(case, &round, &format!("not turned back: {counts:?} {figures:?}"));
+        }
+    }
+
+    fn differ(&mut self, case: &Case, round: &Round, what: &str) {
         self.differences += 1;
         if self.differences <= SHOWN {
-            let hex: String = round.bytes.iter().map(|byte| format!("{byte:02x}")).collect();
-            println!("  vehicle {} stops {:?} sheet {hex}", round.vehicle, round.stops);
-            wrong.iter().for_each(|line| println!("    {line}"));
+            let hex: String = case.bytes.iter().map(|byte| format!("{byte:02x}")).collect();
+            let Round { vehicle, stops } = round;
+            println!("difference: {what}; vehicle {vehicle}, stops {stops:?}, sheet {hex}");
         }
     }
 }
 
-/// Stops of the sheet in any order, at times one of them twice.
-fn stops(sheet: &Sheet, random: &mut Random) -> Vec<usize> {
-    let (depots, rows) = (sheet.depots(), sheet.rows.len());
-    let most = if random.one_in(8) { rows.min(101) } else { 6 };
-    let count = random.below(most + 1);
-    (0..count).map(|_| depots + random.below(rows - depots)).collect()
+/// A sheet with a vehicle and a stop, its numbers drawn anew as the flavour says.
+fn sheet(random: &mut Random, flavour: usize) -> Sheet {
+    let rows =
+        if random.one_in(LARGE) { MOST_ROWS - random.below(4) } else { 2 + random.below(11) };
+    let vehicles = 1 + random.below(3);
+    let mut sheet = sheet_of(random, rows, vehicles);
+    while sheet.depots() == rows {
+        sheet = sheet_of(random, rows, vehicles);
+    }
+    if FLAVOURS[flavour] != "any" {
+        renumber(&mut sheet, random, flavour);
+    }
+    sheet
 }
 
-/// Sets a limit of the sheet to what the round reaches, or one step beside it.
-fn hit(sheet: &mut Sheet, vehicle: usize, stops: &[usize], random: &mut Random) {
+fn number(random: &mut Random, flavour: usize) -> f64 {
+    match FLAVOURS[flavour] {
+        "tenths" => random.below(600) as f64 * 0.1,
+        "thirds" => random.below(180) as f64 / 3.0,
+        _ => random.below(60) as f64,
+    }
+}
+
+/// Draws every number that a walk reads. What is marked stays marked.
+fn renumber(sheet: &mut Sheet, random: &mut Random, flavour: usize) {
+    let given = |marked: bool, x: f64| if marked { x } else { 0.0 };
+    for row in &mut sheet.rows {
+        let [ready, wide] = [4.0, 8.0].map(|legs| legs * number(random, flavour));
+        let window = row.marks & WINDOW != 0;
+        row.service = number(random, flavour);
+        row.ready = given(window, ready);
+        row.due = given(window, ready + wide);
+        row.penalty = given(row.marks & PENALTY != 0, number(random, flavour));
+    }
+    for vehicle in &mut sheet.vehicles {
+        let [earliest, wide, long] = [2.0, 4.0, 1.0].map(|legs| legs * number(random, flavour));
+        let rest = vehicle.marks & REST != 0;
+        vehicle.earliest = given(rest, earliest);
+        vehicle.latest = given(rest, earliest + wide);
+        vehicle.rest_duration = given(rest, long);
+        let [distance, duration] = [8.0, 16.0].map(|legs| legs * number(random, flavour));
+        vehicle.max_distance = given(vehicle.marks & MAX_DISTANCE != 0, distance);
+        vehicle.max_duration = given(vehicle.marks & MAX_DURATION != 0, duration);
+    }
+    let entries = sheet.distances.iter_mut().chain(sheet.times.iter_mut().flatten());
+    entries.for_each(|entry| *entry = number(random, flavour));
+}
+
+/// What is reached, or one step beside it.
+fn beside(random: &mut Random, x: f64, most: f64) -> f64 {
+    random.pick(&[x, x, x.next_up(), x.next_down()]).clamp(0.0, most)
+}
+
+/// Gives a round's vehicle a rest that starts, or is not needed, just at a time of the round.
+fn fit_rest(sheet: &mut Sheet, round: &Round, random: &mut Random) {
     let problem = Problem::of(sheet).expect("the Rust takes every accepted sheet");
-    let built =
-        RouteEvaluator::new(&problem.customers, &problem.distances, &problem.vehicles[vehicle]);
-    let (route, _) = built.build_route(stops);
-    let beside = |x: f64, random: &mut Random| match random.below(4) {
-        0 => x.next_up().min(1e9),
-        1 if x > 0.0 => x.next_down(),
-        _ => x,
-    };
-    let driver = &mut sheet.vehicles[vehicle];
-    match random.below(4) {
-        0 => {
-            driver.marks |= MAX_DISTANCE;
-            driver.max_distance = beside(route.total_distance().min(1e9), random);
-        }
-        1 => {
-            driver.marks |= MAX_DURATION;
-            driver.max_duration = beside(route.total_duration().min(1e9), random);
-        }
-        kind => {
-            if stops.is_empty() {
-                return;
-            }
-            let k = random.below(stops.len());
-            let arrival = beside(route.visits()[k].arrival_time.min(1e9), random);
-            if kind == 2 {
-                let row = &mut sheet.rows[stops[k]];
-                row.marks |= WINDOW;
-                row.due = arrival;
-                row.ready = row.ready.min(arrival);
-            } else {
-                driver.marks |= REST;
-                driver.latest = arrival;
-                driver.earliest =
-                    if random.one_in(2) { arrival } else { driver.earliest.min(arrival) };
-            }
-        }
+    let driver = &problem.vehicles[round.vehicle];
+    let vehicle = &mut sheet.vehicles[round.vehicle];
+    vehicle.marks |= REST;
+    if round.stops.is_empty() || random.one_in(2) {
+        let free = problem.eval(driver, &round.stops, &RouteLimits::NONE);
+        let home = free.map_or(0.0, |eval| eval.duration);
+        vehicle.earliest = beside(random, home, MOST_FIGURE);
+        vehicle.latest = vehicle.latest.max(vehicle.earliest);
+    } else {
+        let route = problem.built(driver, &round.stops);
+        let visit = &route.visits()[random.below(round.stops.len())];
+        vehicle.latest = beside(random, visit.arrival_time, MOST_FIGURE);
+        vehicle.earliest = vehicle.earliest.min(vehicle.latest);
     }
 }
 
-impl Round<'_> {
-    fn driver(&self) -> &Vehicle {
-        &self.problem.vehicles[self.vehicle]
+/// Gives a stop of a round a window that closes or opens just as the vehicle arrives.
+fn fit_window(sheet: &mut Sheet, round: &Round, random: &mut Random) {
+    if round.stops.is_empty() {
+        return;
+    }
+    let problem = Problem::of(sheet).expect("the Rust takes every accepted sheet");
+    let route = problem.built(&problem.vehicles[round.vehicle], &round.stops);
+    let visit = &route.visits()[random.below(round.stops.len())];
+    let arrival = beside(random, visit.arrival_time, MOST_FIGURE);
+    let row = &mut sheet.rows[visit.customer_id];
+    row.marks |= WINDOW;
+    if random.one_in(3) {
+        row.ready = arrival;
+        row.due = row.due.max(arrival);
+    } else {
+        row.due = arrival;
+        row.ready = row.ready.min(arrival);
+    }
+}
+
+/// Sets a maximum, and at times takes the other away, which it might be hidden by.
+fn fit_maximum(sheet: &mut Sheet, round: &Round, random: &mut Random) {
+    let problem = Problem::of(sheet).expect("the Rust takes every accepted sheet");
+    let route = problem.built(&problem.vehicles[round.vehicle], &round.stops);
+    let vehicle = &mut sheet.vehicles[round.vehicle];
+    if random.one_in(2) {
+        vehicle.marks &= REST;
+        (vehicle.max_distance, vehicle.max_duration) = (0.0, 0.0);
+    }
+    if random.one_in(2) {
+        vehicle.marks |= MAX_DISTANCE;
+        vehicle.max_distance = beside(random, route.total_distance(), MOST_MAXIMUM);
+    } else {
+        vehicle.marks |= MAX_DURATION;
+        vehicle.max_duration = beside(random, route.total_duration(), MOST_MAXIMUM);
+    }
+}
+
+impl Problem {
+    fn built(&self, driver: &Vehicle, stops: &[usize]) -> Route {
+        RouteEvaluator::new(&self.customers, &self.distances, driver).build_route(stops).0
     }
 
-    fn figure(&self, which: usize) -> f64 {
-        let stops: Vec<u16> = self.stops.iter().map(|&stop| stop as u16).collect();
-        probe_figure(self.bytes, &stops, self.vehicle, which)
+    fn eval(&self, driver: &Vehicle, stops: &[usize], limits: &RouteLimits) -> Option<RouteEval> {
+        route_eval(stops, driver.depot_id(), &self.distances, &self.customers, limits)
+    }
+}
+
+impl Case {
+    fn driver(&self, round: &Round) -> &Vehicle {
+        &self.problem.vehicles[round.vehicle]
     }
 
-    fn expect(&self, what: &str, which: usize, right: f64, wrong: &mut Vec<String>) {
-        let said = self.figure(which);
-        if said.to_bits() != right.to_bits() {
-            let (said, right) = (said.to_bits(), right.to_bits());
-            wrong.push(format!("{what}: {said:016x}, and the Rust {right:016x}"));
+    fn feasible(&self, round: &Round) -> bool {
+        let driver = self.driver(round);
+        let Problem { customers, distances, .. } = &self.problem;
+        let limits = RouteLimits::of(driver);
+        route_feasible(&round.stops, driver.depot_id(), distances, customers, &limits)
+    }
+}
+
+impl Round {
+    /// Stops in any order, some of them twice.
+    fn new(sheet: &Sheet, random: &mut Random) -> Round {
+        let most = if random.one_in(16) { MOST_STOPS.min(2 * sheet.rows.len()) } else { USUAL };
+        let count = random.below(most + 1);
+        Round {
+            vehicle: random.below(sheet.vehicles.len()),
+            stops: (0..count).map(|_| stop(sheet, random)).collect(),
         }
     }
 
-    /// What differs, in words.
-    fn differs(&self, kinds: &mut [usize; KINDS.len()]) -> Vec<String> {
-        let mut wrong = Vec::new();
-        let Problem { customers, distances, .. } = self.problem;
-        let depot = self.driver().depot_id();
-        let limits = RouteLimits::of(self.driver());
-        let feasible = route_feasible(&self.stops, depot, distances, customers, &limits);
-        if !self.stops.is_empty() {
-            let rows: Vec<u16> = self.stops.iter().map(|&stop| stop as u16).collect();
-            let passed = probe_rounds(self.bytes, &rows, rows.len(), self.vehicle) == 1;
-            if passed != feasible {
-                wrong.push(format!("feasible: {passed}, and the Rust {feasible}"));
+    /// A stop more or less, two stops in each other's place, or another vehicle.
+    fn varied(&self, sheet: &Sheet, random: &mut Random) -> Round {
+        let mut round = self.clone();
+        let count = round.stops.len();
+        match random.below(4) {
+            0 => round.vehicle = random.below(sheet.vehicles.len()),
+            1 if count < MOST_STOPS => {
+                round.stops.insert(random.below(count + 1), stop(sheet, random));
             }
+            2 if count > 0 => _ = round.stops.remove(random.below(count)),
+            3 if count > 0 => round.stops.swap(random.below(count), random.below(count)),
+            _ => {}
         }
-        let eval = route_eval(&self.stops, depot, distances, customers, &limits);
-        let figures = eval.map_or([-1.0; 6], |e| {
-            let (place, start) = e.rest.map_or((0.0, 0.0), |(k, start)| ((k + 1) as f64, start));
-            [e.distance, e.duration, e.lateness, e.lateness_cost, place, start]
-        });
-        for (k, figure) in figures.into_iter().enumerate() {
-            self.expect(&format!("route_eval {k}"), k, figure, &mut wrong);
-        }
-        self.built(&mut wrong, kinds);
-        kinds[usize::from(!feasible)] += 1;
-        wrong
+        round
     }
 
-    /// `build_route`'s figures and visits.
-    fn built(&self, wrong: &mut Vec<String>, kinds: &mut [usize; KINDS.len()]) {
-        let Problem { customers, distances, .. } = self.problem;
-        let evaluator = RouteEvaluator::new(customers, distances, self.driver());
-        let (route, violations) = evaluator.build_route(&self.stops);
-        let (place, start) = route.rest().map_or((0.0, 0.0), |(k, start)| ((k + 1) as f64, start));
-        let figures = [
-            route.total_distance(),
-            route.total_duration(),
-            route.total_lateness(),
-            route.lateness_cost(),
-            place,
-            start,
-            f64::from(route.total_load()),
-        ];
-        for (k, figure) in figures.into_iter().enumerate() {
-            self.expect(&format!("build_route {k}"), 6 + k, figure, wrong);
+    fn rows(&self) -> Vec<u16> {
+        self.stops.iter().map(|&stop| stop as u16).collect()
+    }
+}
+
+fn stop(sheet: &Sheet, random: &mut Random) -> usize {
+    sheet.depots() + random.below(sheet.rows.len() - sheet.depots())
+}
+
+/// The Rust's answers on a round: for its vehicle, and for one that rests as it does and has no
+/// maxima, and for one that need not rest either.
+struct Answers {
+    feasible: bool,
+    eval: Option<RouteEval>,
+    rested: Option<RouteEval>,
+    free: Option<RouteEval>,
+    route: Route,
+}
+
+impl Answers {
+    fn of(case: &Case, round: &Round) -> Answers {
+        let driver = case.driver(round);
+        let limits = RouteLimits::of(driver);
+        let rest = RouteLimits { rest: limits.rest, ..RouteLimits::NONE };
+        let eval = |limits| case.problem.eval(driver, &round.stops, limits);
+        Answers {
+            feasible: case.feasible(round),
+            eval: eval(&limits),
+            rested: eval(&rest),
+            free: eval(&RouteLimits::NONE),
+            route: case.problem.built(driver, &round.stops),
         }
-        for (k, visit) in route.visits().iter().enumerate() {
-            let visit = [visit.arrival_time, visit.departure_time, f64::from(visit.load_after)];
-            for (j, figure) in visit.into_iter().enumerate() {
-                self.expect(&format!("stop {k} figure {j}"), 13 + 3 * k + j, figure, wrong);
-            }
-        }
-        self.tell(&route, place, violations.is_empty(), kinds);
     }
 
-    fn tell(
-        &self,
-        route: &u_routing::models::Route,
-        place: f64,
-        kept: bool,
-        kinds: &mut [usize; KINDS.len()],
-    ) {
-        let rests = self.driver().rest().is_some();
-        let due = |(visit, row): (&u_routing::models::Visit, &usize)| {
-            let window = self.problem.customers[*row].time_window();
-            window.is_some_and(|w| w.due() == visit.arrival_time && visit.arrival_time > 0.0)
+    /// In the order of the port's numbers.
+    fn figures(&self) -> Vec<f64> {
+        let rest = |rest: Option<(usize, f64)>| {
+            rest.map_or([0.0, 0.0], |(index, start)| [(index + 1) as f64, start])
         };
+        let eval = self.eval.map_or([-1.0; 6], |eval| {
+            let [place, start] = rest(eval.rest);
+            [eval.distance, eval.duration, eval.lateness, eval.lateness_cost, place, start]
+        });
+        let route = &self.route;
+        let [place, start] = rest(route.rest());
+        let (lateness, cost) = (route.total_lateness(), route.lateness_cost());
+        let load = f64::from(route.total_load());
+        let built =
+            [route.total_distance(), route.total_duration(), lateness, cost, place, start, load];
+        let visits = route.visits().iter().flat_map(|visit| {
+            [visit.arrival_time, visit.departure_time, f64::from(visit.load_after)]
+        });
+        eval.into_iter().chain(built).chain(visits).collect()
+    }
+
+    /// The kinds that a round is of, by their places in `KINDS`.
+    fn kinds(&self, case: &Case, round: &Round) -> impl Iterator<Item = usize> {
+        let mut stops = round.stops.clone();
+        stops.sort_unstable();
+        let twice = stops.windows(2).any(|two| two[0] == two[1]);
         let told = [
-            place > 0.0,
-            place > 1.0,
-            rests && place == 0.0 && kept,
-            rests && place == 0.0 && !kept,
-            route.total_lateness() > 0.0,
-            route.visits().iter().zip(&self.stops).any(due),
-            self.driver().max_distance() == Some(route.total_distance())
-                || self.driver().max_duration() == Some(route.total_duration()),
+            &[self.feasible, !self.feasible][..],
+            &self.rests(case, round),
+            &self.windows(case),
+            &self.limits(case, round),
+            &[case.times, twice, stops.len() > USUAL],
         ];
-        for (k, told) in told.into_iter().enumerate() {
-            kinds[2 + k] += usize::from(told);
-        }
+        told.concat().into_iter().enumerate().filter_map(|(kind, told)| told.then_some(kind))
+    }
+
+    fn rests(&self, case: &Case, round: &Round) -> [bool; 4] {
+        let rests = case.driver(round).rest().is_some();
+        let place = self.rested.and_then(|eval| eval.rest).map(|(index, _)| index);
+        [
+            place.is_some(),
+            place.is_some_and(|index| index > 0),
+            rests && self.rested.is_some() && place.is_none(),
+            self.rested.is_none() && self.free.is_some(),
+        ]
+    }
+
+    fn windows(&self, case: &Case) -> [bool; 4] {
+        let hit = |at: fn(f64, f64, f64) -> bool| {
+            self.route.visits().iter().any(|visit| {
+                let window = case.problem.customers[visit.customer_id].time_window();
+                window.is_some_and(|w| at(visit.arrival_time, w.ready(), w.due()))
+            })
+        };
+        [
+            self.eval.is_some_and(|eval| eval.lateness > 0.0),
+            hit(|arrival, _, due| arrival == due),
+            hit(|arrival, _, due| arrival == due.next_up()),
+            hit(|arrival, ready, _| ready == arrival.next_up()),
+        ]
+    }
+
+    fn limits(&self, case: &Case, round: &Round) -> [bool; 8] {
+        let driver = case.driver(round);
+        let latest = driver.rest().map(|rest| rest.latest());
+        let earliest = driver.rest().map(|rest| rest.earliest());
+        let home = self.free.map_or(f64::NAN, |eval| eval.duration);
+        let (distance, duration) = (self.route.total_distance(), self.route.total_duration());
+        let over = |limit: Option<f64>| limit.map(f64::next_up);
+        let arrives = |at| self.route.visits().iter().any(|visit| Some(visit.arrival_time) == at);
+        [
+            latest.is_some() && self.route.rest().map(|(_, start)| start) == latest,
+            arrives(over(latest)),
+            Some(home) == earliest,
+            Some(home) == over(earliest),
+            Some(distance) == driver.max_distance(),
+            Some(distance) == over(driver.max_distance()),
+            Some(duration) == driver.max_duration(),
+            Some(duration) == over(driver.max_duration()),
+        ]
     }
 }
