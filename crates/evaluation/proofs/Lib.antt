@@ -1,3 +1,4 @@
 pub mod Walking
 pub mod Onward
 pub mod Windowed
+pub mod ByRest

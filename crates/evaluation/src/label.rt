@@ -160,24 +160,36 @@ pub fn step_rested(from: Served, travel: f64, stop: Stop, place: u16, rest: Vehi
     }
 }
 
-// Of two labels the one with the smaller time, then with the smaller lateness cost, then the first.
+// Whether a label is preferred to one that is carried.
+fn ahead(y: Label, x: Label) -> bool
+    ensures { λ r. ⌜ r ≡ Rattle.evaluation.specs.Clock.ahead y x ⌝ }
+{
+    if y.time < x.time {
+        return true;
+    }
+    if y.time == x.time {
+        return y.lateness_cost < x.lateness_cost;
+    }
+    false
+}
+
+// Of two labels the one with the smaller time, then with the smaller lateness cost, then the first. Each is put together anew,
+// so that neither has to lie in memory to be chosen from.
 pub fn earlier(carried: Served, here: Served) -> Served
     ensures { λ r. ⌜ r ≡ earlierOf carried here ⌝ }
 {
     match carried {
-        Served::Refused => here,
+        Served::Refused => match here {
+            Served::Refused => Served::Refused,
+            Served::Done(y) => Served::Done(leaving(y, y.time)),
+        },
         Served::Done(x) => match here {
-            Served::Refused => carried,
+            Served::Refused => Served::Done(leaving(x, x.time)),
             Served::Done(y) => {
-                if y.time < x.time {
-                    return here;
+                if ahead(y, x) {
+                    return Served::Done(leaving(y, y.time));
                 }
-                if y.time == x.time {
-                    if y.lateness_cost < x.lateness_cost {
-                        return here;
-                    }
-                }
-                carried
+                Served::Done(leaving(x, x.time))
             }
         },
     }

@@ -13,22 +13,11 @@ use limits::RouteLimits;
 use sheet::vehicle::Rest;
 ghost use mathlib.Core.Path.{_≡_};
 ghost use Rattle.evaluation.specs.Routed.{Routed};
-ghost use Rattle.evaluation.specs.Feasible.{scheduledOf, keptBy, routeFeasible, evalBy, routeEval, pricedDistance, costOf, effectiveCost};
+ghost use Rattle.evaluation.specs.Feasible.{keptBy, routeFeasible, evalBy, routeEval, pricedDistance, costOf, effectiveCost};
 
 pub enum RouteEval {
     Allowed(Schedule),
     NotAllowed,
-}
-
-// The walk of a round: the plain one, or the clock's where a rest is required.
-fn scheduled(sheet: &[u8], route: &[u16], depot: usize, rest: Rest) -> Scheduled
-    requires { ⌜ Routed (now sheet) depot (now route) ⌝ }
-    ensures { λ r. ⌜ r ≡ scheduledOf (now (sheet .entry)) depot rest (now (route .entry)) ⌝ }
-{
-    match rest {
-        Rest::NoRest => schedule::walk(sheet, route, depot),
-        Rest::Required(b) => schedule::schedule(sheet, route, depot, b),
-    }
 }
 
 fn kept_by(limits: RouteLimits, scheduled: Scheduled) -> bool
@@ -47,7 +36,10 @@ pub fn route_feasible(sheet: &[u8], route: &[u16], depot: usize, limits: RouteLi
     ensures { λ r. ⌜ r ≡ routeFeasible (now (sheet .entry)) depot limits (now (route .entry)) ⌝ }
 {
     let rest = limits.rest;
-    kept_by(limits, scheduled(sheet, route, depot, rest))
+    match rest {
+        Rest::NoRest => kept_by(limits, schedule::walk(sheet, route, depot)),
+        Rest::Required(b) => kept_by(limits, schedule::schedule(sheet, route, depot, b)),
+    }
 }
 
 fn eval_by(limits: RouteLimits, scheduled: Scheduled) -> RouteEval
@@ -70,7 +62,10 @@ pub fn route_eval(sheet: &[u8], route: &[u16], depot: usize, limits: RouteLimits
     ensures { λ r. ⌜ r ≡ routeEval (now (sheet .entry)) depot limits (now (route .entry)) ⌝ }
 {
     let rest = limits.rest;
-    eval_by(limits, scheduled(sheet, route, depot, rest))
+    match rest {
+        Rest::NoRest => eval_by(limits, schedule::walk(sheet, route, depot)),
+        Rest::Required(b) => eval_by(limits, schedule::schedule(sheet, route, depot, b)),
+    }
 }
 
 // Lateness is priced like distance.

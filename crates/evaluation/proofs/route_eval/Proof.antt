@@ -1,18 +1,46 @@
 -- `evaluation::route_eval` meets its contract. Assumes nothing.
-use Rattle.evaluation.specs.Feasible.{routeEval}
+use mathlib.Core.Path.{_∙_, ap}
 use borrow.Author.Needs.{needs}
+use Rattle.evaluation.specs.Feasible.{evalBy, routeEval}
+use Rattle.evaluation.proofs.ByRest.{with-rest, without-rest}
 use Rattle.evaluation.proofs.route_eval.Statement.{statement}
 use Rattle.evaluation.proofs.route_eval.Tie as tie
 
-scheduled-requires : tie.Need-scheduled-requires
-scheduled-requires c κs = search needs
+enum-told : tie.Need-enum-told
+enum-told c = search needs
+
+walk-requires : tie.Need-walk-requires
+walk-requires c κs = search needs
 
 eval-by-requires : tie.Need-eval-by-requires
 eval-by-requires c κs = search needs
 
+enum-known-rest : tie.Need-enum-known-rest
+enum-known-rest c = search needs
+
+schedule-requires : tie.Need-schedule-requires
+schedule-requires c κs = search needs
+
+eval-by-requires-2 : tie.Need-eval-by-requires-2
+eval-by-requires-2 c κs = search needs
+
 returns : tie.Need-returns
 unfolding routeEval
-returns c = rw (c .eval-by .ensures, c .before .scheduled .ensures)
+returns c = c .eval-by .ensures ∙ ap (evalBy (c .before .before .before .before .before .before .args .limits)) (c .before .walk .ensures ∙ without-rest _ _ _ _ (c .before .before .enum-told .given .1))
+
+returns-2 : tie.Need-returns-2
+unfolding routeEval
+returns-2 c = c .eval-by2 .ensures ∙ ap (evalBy (c .before .before .before .before .before .before .before .args .limits)) (c .before .schedule .ensures ∙ with-rest _ _ _ _ _ (c .before .before .before .rest .given .1))
 
 pub route-eval-spec : {M : Type 1} → statement M
-route-eval-spec = tie.close (tie.spec scheduled-requires eval-by-requires returns)
+route-eval-spec =
+    tie.close
+    (tie.spec
+    enum-told
+    walk-requires
+    eval-by-requires
+    enum-known-rest
+    schedule-requires
+    eval-by-requires-2
+    returns
+    returns-2)

@@ -1,18 +1,46 @@
 -- `evaluation::route_feasible` meets its contract. Assumes nothing.
-use Rattle.evaluation.specs.Feasible.{routeFeasible}
+use mathlib.Core.Path.{_∙_, ap}
 use borrow.Author.Needs.{needs}
+use Rattle.evaluation.specs.Feasible.{keptBy, routeFeasible}
+use Rattle.evaluation.proofs.ByRest.{with-rest, without-rest}
 use Rattle.evaluation.proofs.route_feasible.Statement.{statement}
 use Rattle.evaluation.proofs.route_feasible.Tie as tie
 
-scheduled-requires : tie.Need-scheduled-requires
-scheduled-requires c κs = search needs
+enum-told : tie.Need-enum-told
+enum-told c = search needs
+
+walk-requires : tie.Need-walk-requires
+walk-requires c κs = search needs
 
 kept-by-requires : tie.Need-kept-by-requires
 kept-by-requires c κs = search needs
 
+enum-known-rest : tie.Need-enum-known-rest
+enum-known-rest c = search needs
+
+schedule-requires : tie.Need-schedule-requires
+schedule-requires c κs = search needs
+
+kept-by-requires-2 : tie.Need-kept-by-requires-2
+kept-by-requires-2 c κs = search needs
+
 returns : tie.Need-returns
 unfolding routeFeasible
-returns c = rw (c .kept-by .ensures, c .before .scheduled .ensures)
+returns c = c .kept-by .ensures ∙ ap (keptBy (c .before .before .before .before .before .before .args .limits)) (c .before .walk .ensures ∙ without-rest _ _ _ _ (c .before .before .enum-told .given .1))
+
+returns-2 : tie.Need-returns-2
+unfolding routeFeasible
+returns-2 c = c .kept-by2 .ensures ∙ ap (keptBy (c .before .before .before .before .before .before .before .args .limits)) (c .before .schedule .ensures ∙ with-rest _ _ _ _ _ (c .before .before .before .rest .given .1))
 
 pub route-feasible-spec : {M : Type 1} → statement M
-route-feasible-spec = tie.close (tie.spec scheduled-requires kept-by-requires returns)
+route-feasible-spec =
+    tie.close
+    (tie.spec
+    enum-told
+    walk-requires
+    kept-by-requires
+    enum-known-rest
+    schedule-requires
+    kept-by-requires-2
+    returns
+    returns-2)
