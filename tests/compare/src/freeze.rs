@@ -10,11 +10,8 @@ use std::{fs, io};
 use crate::damage::{Base, Case, Values};
 use crate::generate::{sheet_of, tiny};
 use crate::random::Random;
-use crate::refusal::{refusal, MOST_FIGURE};
+use crate::refusal::{refusal, MOST_FIGURE, MOST_ROWS};
 use crate::sheet::{Row, Sheet, Vehicle, DEPOT};
-
-/// The longest sheet there is, to stand in the sample once.
-const MOST_ROWS: usize = 101;
 
 pub fn run(count: usize, seed: u64, folder: &Path) -> io::Result<()> {
     let mut stdin = Vec::new();

@@ -4,7 +4,7 @@ use crate::plan::{chains, plan_len, Chains};
 use crate::sheet::{Header, Row, Sheet, Vehicle};
 use crate::sheet::{HEADER, MAX_DISTANCE, MAX_DURATION, PENALTY, REST, WINDOW};
 
-const MOST_ROWS: usize = 101;
+pub const MOST_ROWS: usize = 101;
 const MOST_VEHICLES: usize = 16;
 const MOST_METHOD: u8 = 4;
 const MOST_MARKS: u32 = 7;

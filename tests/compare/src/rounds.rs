@@ -16,7 +16,7 @@ use crate::plan::plan_len;
 use crate::planner::{probe_figure, probe_rounds};
 use crate::random::Random;
 use crate::reference::Problem;
-use crate::refusal::{refusal, MOST_FIGURE, MOST_MAXIMUM};
+use crate::refusal::{refusal, MOST_FIGURE, MOST_MAXIMUM, MOST_ROWS};
 use crate::sheet::Sheet;
 use crate::sheet::{MAX_DISTANCE, MAX_DURATION, PENALTY, REST, WINDOW};
 
@@ -25,7 +25,6 @@ const ROUNDS: usize = 16;
 const GUIDES: usize = 4;
 /// One sheet in so many has about 100 rows.
 const LARGE: usize = 200;
-const MOST_ROWS: usize = 101;
 /// Stops of most rounds, and of all.
 const USUAL: usize = 12;
 const MOST_STOPS: usize = 100;
