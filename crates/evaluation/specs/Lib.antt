@@ -4,6 +4,7 @@ pub mod Window
 pub mod Serve
 pub mod Clock
 pub mod Walk
+pub mod Longer
 pub mod Limits
 pub mod Feasible
 pub mod Checks
