@@ -6,9 +6,10 @@ use native.Mathlib.Nat.{one-mul}
 use native.Mathlib.Omega.{arith}
 use mathlib.Core.Bool.{Bool, true, false, cond}
 use lib.Dec.{T}
-use lib.Ieee.{Float, lt}
+use lib.Ieee.{Float, binary64, lt, fits}
 use Rattle.numbers.specs.Upto.{Upto, Units, widen, add-units, mul-units, sub-units, widen-units, lt→le, pick-upto}
 use Rattle.numbers.specs.Range.{zero-upto}
+use Rattle.numbers.specs.Differ.{sub-positive, not-below}
 use Rattle.sheet.specs.Finite.{WindowBounded, GateBounded, StopBounded, BreakBounded}
 use Rattle.sheet.specs.Values.{nought}
 use Rattle.sheet.specs.declared.customer.Window.{Window}
@@ -53,6 +54,13 @@ unfolding violatedOf latenessOf
 lateness-bounded w arrival n h ok u t =
     let late = sub-units 30 n 1 arrival (w .due) (omega arith) (omega arith) u (one-time (w .due) (ok .due)) (lt→le (w .due) arrival t) in
     pick-upto (n * 2 ^ 30) (lt (arrival ⊖ w .due) nought) nought (arrival ⊖ w .due) (zero-upto (n * 2 ^ 30)) late
+
+-- a violated window is missed by more than 0
+pub late-positive : (w : Window) (arrival : Float) (n : ℕ) → WindowBounded w → Times n arrival → T (fits binary64 (w .due)) → T (fits binary64 arrival) → T (violatedOf w arrival) → T (lt nought (latenessOf w arrival))
+unfolding violatedOf latenessOf
+late-positive w arrival n ok u f g t =
+    let p = sub-positive (n * 2 ^ 30) (10 ^ 9) arrival (w .due) g f u (ok .due) t in
+    rw (not-below (arrival ⊖ w .due) p) p
 
 -- ---- a label
 abbrev pub AnswerBounded : ℕ → RestAnswer → Type 0

@@ -125,7 +125,7 @@ alive-bounded : (t : Bool) (x : Scheduled) → ScheduledBounded x → ScheduledB
 alive-bounded true x u = u
 alive-bounded false x u = tt
 
-start-bounded : LabelBounded 0 0 atDepot
+pub start-bounded : LabelBounded 0 0 atDepot
 start-bounded = record { time = zero-upto (0 * 2 ^ 30); lateness = zero-upto (0 * 2 ^ 30); cost = zero-upto (0 * 2 ^ 50); rest = tt }
 
 -- ---- the walks

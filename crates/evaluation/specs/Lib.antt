@@ -4,9 +4,9 @@ pub mod Window
 pub mod Serve
 pub mod Clock
 pub mod Walk
-pub mod Longer
 pub mod Limits
 pub mod Feasible
+pub mod Longer
 pub mod Checks
 pub mod Bounds
 pub mod Finite

@@ -1,5 +1,5 @@
 -- A round with one more stop is the same walk driven one stop on: the clock, the plain walk and the distance as folds over the rows. Assumes nothing.
-use mathlib.Core.Path.{_≡_, refl, sym, _∙_}
+use mathlib.Core.Path.{_≡_, refl, sym, ap, _∙_}
 use Prim.Native.Nat.{ℕ, _+_}
 use native.Mathlib.Omega.{arith}
 use mathlib.Core.Bool.{Bool, true, false, _||_, true≢false}
@@ -9,15 +9,21 @@ use lib.Ieee.{Float}
 use Rattle.sheet.specs.Values.{nought, stopOf, distanceOf, timeOf}
 use Rattle.sheet.specs.declared.customer.Stop.{Stop}
 use Rattle.sheet.specs.declared.vehicle.VehicleBreak.{VehicleBreak}
+use Rattle.sheet.specs.declared.vehicle.Rest.{Rest}
+use Rattle.sheet.specs.declared.vehicle.Rest.the-variants.{NoRest as restless}
+use Rattle.evaluation.specs.declared.label.Label.{Label}
 use Rattle.evaluation.specs.declared.label.Served.{Served}
 use Rattle.evaluation.specs.declared.label.Served.the-variants.{Done, Refused}
 use Rattle.evaluation.specs.declared.clock.Scheduled.{Scheduled}
 use Rattle.evaluation.specs.declared.clock.Scheduled.the-variants.{Unlawful}
 use Rattle.evaluation.specs.declared.clock.BreakClock.{BreakClock}
+use Rattle.evaluation.specs.declared.limits.RouteLimits.{RouteLimits}
 use Rattle.evaluation.specs.Sums.{_⊕_}
 use Rattle.evaluation.specs.Serve.{atDepot}
 use Rattle.evaluation.specs.Clock.{stepOf, stepRested, earlierOf, started, movedOf, served, aliveOf, nextOf, endOf, homeward, finishOf}
 use Rattle.evaluation.specs.Walk.{unrested, walkFrom, walkOf, ifAlive, onward, scheduleOf}
+use Rattle.evaluation.specs.Limits.{allowOf}
+use Rattle.evaluation.specs.Feasible.{scheduledOf, keptBy, routeFeasible}
 
 -- ---- the folds
 -- the last row, or the one stood at
@@ -147,3 +153,12 @@ pub walk-on : (s : List ℕ) (depot : ℕ) (route : List ℕ)
     → walkOf s depot route ≡ unrested (servedOn s (Done atDepot) depot route) (distanceOn s nought depot route ⊕ distanceOf s (lastOf depot route) depot) (timeOf s (lastOf depot route) depot)
 unfolding walkOf
 walk-on s depot route = walk-from-on s depot (Done atDepot) nought depot route
+
+-- without a rest the verdict is on the walk's own figures
+pub walk-feasible : (s : List ℕ) (depot : ℕ) (limits : RouteLimits) (route : List ℕ) (l : Label) → limits .rest ≡ restless → servedOn s (Done atDepot) depot route ≡ Done l
+    → routeFeasible s depot limits route ≡ allowOf limits (roundDistance s depot nought depot route) (l .time ⊕ timeOf s (lastOf depot route) depot)
+unfolding routeFeasible scheduledOf keptBy unrested
+walk-feasible s depot limits route l r e =
+    ap (λ (x : Rest). keptBy limits (scheduledOf s depot x route)) r
+    ∙ ap (keptBy limits) (walk-on s depot route)
+    ∙ ap (λ (x : Served). keptBy limits (unrested x (roundDistance s depot nought depot route) (timeOf s (lastOf depot route) depot))) e

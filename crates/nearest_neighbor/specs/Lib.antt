@@ -1,4 +1,6 @@
 pub mod Greedy
 pub mod Nearest
+pub mod Chosen
 pub mod Permutation
+pub mod Feasible
 pub mod Cases

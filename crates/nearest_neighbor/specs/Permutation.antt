@@ -1,42 +1,21 @@
 -- Every member stands in the outcome as often as among the members: on one round or set aside. Assumes nothing.
 use mathlib.Core.Path.{_≡_, refl, sym, ap, _∙_}
-use Prim.Native.Nat.{ℕ, zero, suc, _+_, _≤_, _<_}
+use Prim.Native.Nat.{ℕ, zero, suc, _+_, _<_}
 use native.Mathlib.Numerals.{add-one}
 use native.Mathlib.Omega.{arith}
-use mathlib.Core.Bool.{Bool, true, false, cond}
 use mathlib.Core.List.{List, [], _∷_, _++_}
 use lib.Dec.{eqb}
-use lib.Ieee.{lt}
 use lib.ListN.{length, getD, take, drop}
 use lib.Seq.{split-at}
 use Rattle.evaluation.specs.Checks.{hasSoftWindows}
 use Rattle.plan.specs.Outcome.{Round}
 use Rattle.plan.specs.Read.{one, count, chains, stopsOf}
 use Rattle.plan.specs.Once.{count-append}
-use Rattle.nearest_neighbor.specs.Greedy.{Choice, none, best, Offer, out, key, better, choose, without, Trip, started, Grown, Rule, Growth, growing, grown, grownBy, grow, growOn, ended, roundOf, withStops, greedy}
+use Rattle.nearest_neighbor.specs.Greedy.{Choice, none, best, choose, without, Trip, started, Grown, Rule, Growth, growing, grown, grownBy, grow, growOn, ended, roundOf, withStops, greedy}
+use Rattle.nearest_neighbor.specs.Chosen.{Chosen, choose-chosen}
 use Rattle.nearest_neighbor.specs.Nearest.{nearestOnward, nearestRule, nearestNeighbor, windowOnward, windowRule, nearestNeighborTw}
 
--- ---- the stop chosen is one of those left
-Within : ℕ → Choice → Type 0
-Within n none = Unit
-Within n (best j k) = j < n
-
-better-within : (n j : ℕ) (c : Choice) (o : Offer) → j < n → Within n c → Within n (better c j o)
-unfolding Within
-better-within n j c out h u = u
-better-within n j none (key k) h u = h
-better-within n j (best i b) (key k) h u = go (lt k b)
-  where
-    go : (t : Bool) → Within n (cond t (best j k) (best i b))
-    go true = h
-    go false = u
-
-choose-within : (offer : ℕ → Offer) (n : ℕ) (c : Choice) (j : ℕ) (left : List ℕ) → j + length left ≤ n → Within n c → Within n (choose offer c j left)
-unfolding choose
-choose-within offer n c j [] h u = u
-choose-within offer n c j (row ∷ rows) h u = choose-within offer n (better c j (offer row)) (j + 1) rows (omega arith) (better-within n j c (offer row) (omega arith) u)
-
--- ---- and leaves the others
+-- ---- the stop chosen leaves the others
 taken : (x : ℕ) (left : List ℕ) (j : ℕ) → j < length left → count x left ≡ one (eqb x (getD left j 0)) + count x (without j left)
 unfolding count
 taken x left j h =
@@ -53,18 +32,18 @@ counted : ℕ → Grown → ℕ
 counted x g = count x (g .stops) + count x (g .left)
 
 module _ (rule : Rule) (extends : Extends rule) (x : ℕ) where
-  grown-by : (trip : Trip) (left : List ℕ) (c : Choice) → Within (length left) c → counted x (ended (grownBy rule trip left c)) ≡ count x (trip .stops) + count x left
-  unfolding counted Within count
+  grown-by : (trip : Trip) (left : List ℕ) (c : Choice) → Chosen (rule .offer trip) left c → counted x (ended (grownBy rule trip left c)) ≡ count x (trip .stops) + count x left
+  unfolding counted count
   grown-by trip left none u = refl
   grown-by trip left (best j k) u =
-      let a = taken x left j u in
+      let a = taken x left j (u .0) in
       let b = count-append x (trip .stops) (getD left j 0 ∷ []) in
       rw (extends trip (getD left j 0)) (omega arith)
 
   grow-keeps : (g : Growth) → counted x (ended (grow rule g)) ≡ counted x (ended g)
-  unfolding grow counted Within
+  unfolding grow counted
   grow-keeps (grown trip left) = refl
-  grow-keeps (growing trip left) = grown-by trip left (choose (rule .offer trip) none 0 left) (choose-within (rule .offer trip) (length left) none 0 left (omega arith) tt)
+  grow-keeps (growing trip left) = grown-by trip left (choose (rule .offer trip) none 0 left) (choose-chosen (rule .offer trip) left)
 
   grow-on-keeps : (n : ℕ) (g : Growth) → counted x (ended (growOn rule n g)) ≡ counted x (ended g)
   unfolding growOn

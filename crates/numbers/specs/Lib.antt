@@ -2,3 +2,4 @@ pub mod All
 pub mod Upto
 pub mod Range
 pub mod Thousandth
+pub mod Differ

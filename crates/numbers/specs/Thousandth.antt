@@ -34,7 +34,7 @@ own-part m k s h =
     (lt-of-lt-of-le (shl-lt 53 j s) (pow-mono {j = 2098} (omega arith)))
     (ap (λ (n : ℕ). n * 2 ^ 1074) (mul-one m) ∙ ap (λ (n : ℕ). m * 2 ^ n) (sym e) ∙ ap (λ (n : ℕ). m * n) (pow-add 2 j k) ∙ sym (mul-assoc m (2 ^ j) (2 ^ k)))
 
-pow-le : (i j : ℕ) → 2 ^ i ≤ 2 ^ j → i ≤ j
+pub pow-le : (i j : ℕ) → 2 ^ i ≤ 2 ^ j → i ≤ j
 pow-le i j h = go (leb i j) refl
   where
     go : (b : Bool) → leb i j ≡ b → i ≤ j
@@ -42,12 +42,12 @@ pow-le i j h = go (leb i j) refl
     go false e = absurd (not-le-of-lt (pow-lt (leb-false i j e)) h)
 
 -- what a value that fits satisfies
-record Held (m : ℕ) (e : ℤ) : Type 0 where
-  few : m < 2 ^ 53
-  fine : down e ≤ 2 ^ 1074
-  small : m * up e < 2 ^ 1024 * down e
+pub record Held (m : ℕ) (e : ℤ) : Type 0 where
+  pub few : m < 2 ^ 53
+  pub fine : down e ≤ 2 ^ 1074
+  pub small : m * up e < 2 ^ 1024 * down e
 
-held : (m : ℕ) (e : ℤ) → T (fits binary64 (fin false (suc m) e)) → Held (suc m) e
+pub held : (m : ℕ) (e : ℤ) → T (fits binary64 (fin false (suc m) e)) → Held (suc m) e
 unfolding fits
 held m e t =
     let a : Bool = eqb (suc m % 2) 1 in

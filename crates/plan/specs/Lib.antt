@@ -8,6 +8,7 @@ pub mod SheetA
 pub mod Cases
 pub mod Laws
 pub mod Once
+pub mod Every
 pub mod Spread
 pub mod Back
 pub mod TablesBack

@@ -9,8 +9,8 @@ use lib.Arith.{digits-lt}
 use lib.Dec.{T, ltb, eqb→eq, leb→le}
 use lib.IntN.{ℤ}
 use borrow.Author.Tests.{ltb-true, ltb-false}
-use lib.Ieee.{Float, binary64, ofBits}
-use lib.Ieee.Bits.{nanBits-is}
+use lib.Ieee.{Float, binary64, ofBits, fits}
+use lib.Ieee.Bits.{nanBits-is, ofBits-fits}
 use lib.Ieee.Fits.{and-l, and-r}
 use Rattle.wire.specs.Bytes.{u32At, u64At, f64At, isNumber, signed}
 use Rattle.wire.specs.Laws.{signed-low, signed-high}
@@ -186,6 +186,21 @@ gate-bounded : (w p : Bool) (b : Window) (x : Float) → WindowBounded b → Upt
 gate-bounded false p b x u v = tt
 gate-bounded true false b x u v = u
 gate-bounded true true b x u v = (u, v)
+
+-- a window's due is an f64's value
+abbrev pub GateFits : Gate → Type 0
+GateFits Open = Unit
+GateFits (Hard w) = T (fits binary64 (w .due))
+GateFits (Soft w x) = T (fits binary64 (w .due))
+
+due-fits : (w p : Bool) (b : Window) (x : Float) → T (fits binary64 (b .due)) → GateFits (gateOf w p b x)
+due-fits false p b x t = tt
+due-fits true false b x t = t
+due-fits true true b x t = t
+
+pub gate-fits : (s : List ℕ) (i : ℕ) → GateFits (stopOf s i .gate)
+unfolding stopOf gateAt f64At
+gate-fits s i = due-fits (marked 2 (rowMarks s (rowAt i))) (marked 4 (rowMarks s (rowAt i))) _ _ (ofBits-fits binary64 (u64At s (dueAt (rowAt i))))
 
 limit-bounded : (m : Bool) (x : Float) → Upto (10 ^ 12) x → LimitBounded (limitOf m x)
 limit-bounded false x u = tt
