@@ -20,7 +20,8 @@ pub enum RouteEval {
     NotAllowed,
 }
 
-fn kept_by(limits: RouteLimits, scheduled: Scheduled) -> bool
+// Whether a walk that is told has a schedule, and keeps the limits.
+pub fn kept_by(limits: RouteLimits, scheduled: Scheduled) -> bool
     ensures { λ r. ⌜ r ≡ keptBy limits scheduled ⌝ }
 {
     match scheduled {

@@ -7,12 +7,13 @@ use mathlib.Core.Bool.{Bool, true, false, cond}
 use mathlib.Core.List.{List, [], _∷_}
 use borrow.Author.Tests.{eq-eqb}
 use lib.Dec.{eqb}
-use lib.Ieee.{lt}
 use lib.ListN.{length, getD}
 use Rattle.plan.specs.Outcome.{Round}
 use Rattle.plan.specs.Read.{one, count}
 use Rattle.plan.specs.Every.{Every, every-map, OfFleet}
-use Rattle.nearest_neighbor.specs.Greedy.{Choice, none, best, Offer, out, key, better, choose, without, Trip, started, Rule, Growth, growing, grown, grownBy, grow, growOn, ended, roundOf, withStops, greedy}
+use Rattle.nearest_neighbor.specs.declared.choice.Choice.{Choice}
+use Rattle.nearest_neighbor.specs.declared.choice.Choice.the-variants.{Nobody, Best}
+use Rattle.nearest_neighbor.specs.Greedy.{Offer, out, key, winsOf, better, choose, without, Trip, started, Rule, Growth, growing, grown, grownBy, grow, growOn, ended, roundOf, withStops, greedy}
 
 -- ---- one choice
 -- an offer that can be taken
@@ -21,16 +22,15 @@ Taken out = ⊥
 Taken (key k) = Unit
 
 abbrev pub Chosen : (ℕ → Offer) → List ℕ → Choice → Type 0
-Chosen offer left none = Unit
-Chosen offer left (best j k) = (j < length left) × Taken (offer (getD left j 0))
+Chosen offer left Nobody = Unit
+Chosen offer left (Best j k) = (j < length left) × Taken (offer (getD left j 0))
 
 module _ (offer : ℕ → Offer) (left : List ℕ) where
   better-chosen : (c : Choice) (j : ℕ) (o : Offer) → j < length left → (Taken o → Taken (offer (getD left j 0))) → Chosen offer left c → Chosen offer left (better c j o)
   better-chosen c j out h f u = u
-  better-chosen none j (key k) h f u = (h, f tt)
-  better-chosen (best i b) j (key k) h f u = go (lt k b)
+  better-chosen c j (key k) h f u = go (winsOf k c)
     where
-      go : (t : Bool) → Chosen offer left (cond t (best j k) (best i b))
+      go : (t : Bool) → Chosen offer left (cond t (Best j k) c)
       go true = (h, f tt)
       go false = u
 
@@ -45,8 +45,8 @@ module _ (offer : ℕ → Offer) (left : List ℕ) where
       (λ k l. e (suc k) (suc-le-suc l) ∙ ap (λ (n : ℕ). getD left n 0) (let n : j + suc k ≡ j + 1 + k = omega arith in n))
       (better-chosen c j (offer row) (omega arith) (λ t. subst (λ (i : ℕ). Taken (offer i)) here t) u)
 
-  pub choose-chosen : Chosen offer left (choose offer none 0 left)
-  choose-chosen = choose-from left none 0 (omega arith) (λ k h. ap (λ (n : ℕ). getD left n 0) (sym (zero-add k))) tt
+  pub choose-chosen : Chosen offer left (choose offer Nobody 0 left)
+  choose-chosen = choose-from left Nobody 0 (omega arith) (λ k h. ap (λ (n : ℕ). getD left n 0) (sym (zero-add k))) tt
 
 -- ---- one round
 -- what holds of a round so far and the stops left, at its start and with each stop that joins; of the stops left alone; and of a round with stops once it ends
@@ -67,12 +67,12 @@ module _ (rule : ℕ → Rule) (depot : ℕ) (Left : List ℕ → Type 0) (Kept 
   State v (grown trip left) = Kept v trip left
 
   grown-by : (v : ℕ) (trip : Trip) (left : List ℕ) (c : Choice) → Chosen (rule v .offer trip) left c → Kept v trip left → State v (grownBy (rule v) trip left c)
-  grown-by v trip left none u k = k
-  grown-by v trip left (best j x) u k = g .joins v trip left j (u .0) (u .1) k
+  grown-by v trip left Nobody u k = k
+  grown-by v trip left (Best j x) u k = g .joins v trip left j (u .0) (u .1) k
 
   grow-kept : (v : ℕ) (x : Growth) → State v x → State v (grow (rule v) x)
   unfolding grow
-  grow-kept v (growing trip left) k = grown-by v trip left (choose (rule v .offer trip) none 0 left) (choose-chosen (rule v .offer trip) left) k
+  grow-kept v (growing trip left) k = grown-by v trip left (choose (rule v .offer trip) Nobody 0 left) (choose-chosen (rule v .offer trip) left) k
   grow-kept v (grown trip left) k = k
 
   grow-on-kept : (v n : ℕ) (x : Growth) → State v x → State v (growOn (rule v) n x)

@@ -1,28 +1,28 @@
 -- What both nearest neighbours share: vehicles in order, each grows one round by the best stop left, the first of equals; what is left is set aside.
 use Prim.Native.Nat.{ℕ, zero, suc, _+_}
-use mathlib.Core.Bool.{cond}
+use mathlib.Core.Bool.{Bool, true, cond}
 use mathlib.Core.List.{List, [], _∷_, _++_}
 use lib.ListN.{length, getD, take, drop}
 use lib.Ieee.{Float, lt}
 use Rattle.sheet.specs.Values.{nought}
 use Rattle.plan.specs.Outcome.{Round, Outcome}
+use Rattle.nearest_neighbor.specs.declared.choice.Choice.{Choice}
+use Rattle.nearest_neighbor.specs.declared.choice.Choice.the-variants.{Nobody, Best}
 
--- ---- one choice
--- the best stop so far: its place among the stops left, and its key
-pub data Choice : Type 0 where
-  none : Choice
-  best : ℕ → Float → Choice
-
+-- ---- one choice: the best stop so far, its place among the stops left and its key
 -- a stop's key, or that it cannot be taken
 pub data Offer : Type 0 where
   out : Offer
   key : Float → Offer
 
 -- "the first nearest wins": a later stop wins only with a smaller key
+abbrev pub winsOf : Float → Choice → Bool
+winsOf k Nobody = true
+winsOf k (Best i b) = lt k b
+
 abbrev pub better : Choice → ℕ → Offer → Choice
 better c j out = c
-better none j (key k) = best j k
-better (best i b) j (key k) = cond (lt k b) (best j k) (best i b)
+better c j (key k) = cond (winsOf k c) (Best j k) c
 
 -- the best of the stops left from place j on
 unfoldable pub choose : (ℕ → Offer) → Choice → ℕ → List ℕ → Choice
@@ -62,11 +62,11 @@ pub data Growth : Type 0 where
 
 -- with the stop that was chosen
 abbrev pub grownBy : Rule → Trip → List ℕ → Choice → Growth
-grownBy rule trip left none = grown trip left
-grownBy rule trip left (best j k) = growing (rule .onward trip (getD left j 0)) (without j left)
+grownBy rule trip left Nobody = grown trip left
+grownBy rule trip left (Best j k) = growing (rule .onward trip (getD left j 0)) (without j left)
 
 unfoldable pub grow : Rule → Growth → Growth
-grow rule (growing trip left) = grownBy rule trip left (choose (rule .offer trip) none 0 left)
+grow rule (growing trip left) = grownBy rule trip left (choose (rule .offer trip) Nobody 0 left)
 grow rule (grown trip left) = grown trip left
 
 -- n choices

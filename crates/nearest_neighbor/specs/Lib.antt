@@ -1,5 +1,6 @@
 pub mod Greedy
 pub mod Nearest
+pub mod Ride
 pub mod Chosen
 pub mod Permutation
 pub mod Feasible

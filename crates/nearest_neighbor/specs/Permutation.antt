@@ -11,7 +11,9 @@ use Rattle.evaluation.specs.Checks.{hasSoftWindows}
 use Rattle.plan.specs.Outcome.{Round}
 use Rattle.plan.specs.Read.{one, count, chains, stopsOf}
 use Rattle.plan.specs.Once.{count-append}
-use Rattle.nearest_neighbor.specs.Greedy.{Choice, none, best, choose, without, Trip, started, Grown, Rule, Growth, growing, grown, grownBy, grow, growOn, ended, roundOf, withStops, greedy}
+use Rattle.nearest_neighbor.specs.declared.choice.Choice.{Choice}
+use Rattle.nearest_neighbor.specs.declared.choice.Choice.the-variants.{Nobody, Best}
+use Rattle.nearest_neighbor.specs.Greedy.{choose, without, Trip, started, Grown, Rule, Growth, growing, grown, grownBy, grow, growOn, ended, roundOf, withStops, greedy}
 use Rattle.nearest_neighbor.specs.Chosen.{Chosen, choose-chosen}
 use Rattle.nearest_neighbor.specs.Nearest.{nearestOnward, nearestRule, nearestNeighbor, windowOnward, windowRule, nearestNeighborTw}
 
@@ -34,8 +36,8 @@ counted x g = count x (g .stops) + count x (g .left)
 module _ (rule : Rule) (extends : Extends rule) (x : ℕ) where
   grown-by : (trip : Trip) (left : List ℕ) (c : Choice) → Chosen (rule .offer trip) left c → counted x (ended (grownBy rule trip left c)) ≡ count x (trip .stops) + count x left
   unfolding counted count
-  grown-by trip left none u = refl
-  grown-by trip left (best j k) u =
+  grown-by trip left Nobody u = refl
+  grown-by trip left (Best j k) u =
       let a = taken x left j (u .0) in
       let b = count-append x (trip .stops) (getD left j 0 ∷ []) in
       rw (extends trip (getD left j 0)) (omega arith)
@@ -43,7 +45,7 @@ module _ (rule : Rule) (extends : Extends rule) (x : ℕ) where
   grow-keeps : (g : Growth) → counted x (ended (grow rule g)) ≡ counted x (ended g)
   unfolding grow counted
   grow-keeps (grown trip left) = refl
-  grow-keeps (growing trip left) = grown-by trip left (choose (rule .offer trip) none 0 left) (choose-chosen (rule .offer trip) left)
+  grow-keeps (growing trip left) = grown-by trip left (choose (rule .offer trip) Nobody 0 left) (choose-chosen (rule .offer trip) left)
 
   grow-on-keeps : (n : ℕ) (g : Growth) → counted x (ended (growOn rule n g)) ≡ counted x (ended g)
   unfolding growOn

@@ -12,3 +12,6 @@ pub mod Every
 pub mod Spread
 pub mod Back
 pub mod TablesBack
+pub mod Members
+pub mod Laid
+pub mod LaidLaws

@@ -1,0 +1,144 @@
+-- The round so far, kept by its figures and its clock, judges a stop as the definition does by the whole round. Assumes nothing.
+use mathlib.Core.Path.{_≡_, refl, sym, ap, _∙_}
+use Prim.Native.Nat.{ℕ, suc, _+_, _*_, _≤_, _<_}
+use native.Mathlib.Nat.{suc-ne-zero}
+use native.Mathlib.Omega.{arith}
+use mathlib.Core.List.{List, [], _∷_, _++_}
+use borrow.Author.Tests.{ne-eqb}
+use lib.Dec.{eqb}
+use lib.ListN.{length, length-append}
+use lib.Ieee.{Float}
+use Rattle.sheet.specs.Fields.{rowsOf}
+use Rattle.sheet.specs.Accepted.{Accepted}
+use Rattle.sheet.specs.Values.{nought, demandOf, stopOf, vehicleOf, distanceOf, timeOf}
+use Rattle.sheet.specs.Finite.{demand-bounded}
+use Rattle.sheet.specs.declared.vehicle.Rest.{Rest}
+use Rattle.sheet.specs.declared.vehicle.Rest.the-variants.{NoRest, Required}
+use Rattle.sheet.specs.declared.vehicle.Vehicle.{Vehicle}
+use Rattle.evaluation.specs.Sums.{_⊕_}
+use Rattle.evaluation.specs.Clock.{started, nextOf, finishOf}
+use Rattle.evaluation.specs.Limits.{limitsOf}
+use Rattle.evaluation.specs.Feasible.{scheduledOf, keptBy, routeFeasible}
+use Rattle.evaluation.specs.Longer.{lastOf, distanceOn, clockOn, last-more, distance-on-more, clock-on-more, clock-on-prev, clock-on-place, clock-on}
+use Rattle.nearest_neighbor.specs.declared.choice.Choice.{Choice}
+use Rattle.nearest_neighbor.specs.declared.ride.Ride.{Ride}
+use Rattle.nearest_neighbor.specs.declared.ride.RideClock.{RideClock}
+use Rattle.nearest_neighbor.specs.declared.ride.RideClock.the-variants.{NoClock, Kept}
+use Rattle.nearest_neighbor.specs.declared.greedy.Heuristic.{Heuristic}
+use Rattle.nearest_neighbor.specs.declared.greedy.Heuristic.the-variants.{Nearest, NearestTw}
+use Rattle.nearest_neighbor.specs.Greedy.{Offer, better, choose, Trip, started as setOff}
+use Rattle.nearest_neighbor.specs.Nearest.{allows, thereAndHome, nearestOffer, nearestOnward, arrivalAt, startAt, isFirst, windowOffer, windowOnward}
+use Rattle.nearest_neighbor.specs.Ride.{pushedBy, allowsBy, setOut, nearestBy, ridden, windowBy, ruleOf, offerBy, onwardBy, Ticking, Riding}
+
+-- the clock after the stops
+abbrev pub clockAfter : List ℕ → ℕ → Rest → List ℕ → RideClock
+clockAfter s depot NoRest stops = NoClock
+clockAfter s depot (Required b) stops = Kept (clockOn s (started b depot) stops)
+
+-- what is kept of a round so far
+abbrev pub rideOf : List ℕ → ℕ → Rest → Trip → Ride
+rideOf s depot rest trip = record {
+  current = trip .current;
+  served = length (trip .stops);
+  load = trip .load;
+  travelled = trip .travelled;
+  clock = trip .clock;
+  rest = clockAfter s depot rest (trip .stops);
+}
+
+-- a round so far whose figures are those of its stops
+pub record Driven (s : List ℕ) (depot : ℕ) (trip : Trip) : Type 0 where
+  pub last : trip .current ≡ lastOf depot (trip .stops)
+  pub far : trip .travelled ≡ distanceOn s nought depot (trip .stops)
+  pub from : trip .current < rowsOf s
+  pub load : trip .load ≤ 1000000 * length (trip .stops)
+
+one-more : (stops : List ℕ) (i : ℕ) → length (stops ++ (i ∷ [])) ≡ length stops + 1
+one-more stops i = length-append stops (i ∷ [])
+
+-- ---- with a stop as the last
+module _ (s : List ℕ) (depot : ℕ) (v : Vehicle) (trip : Trip) (ok : Driven s depot trip) (i : ℕ) where
+  -- the clock, pushed once, is that of the round with the stop
+  pushed-once : (b : _) → v .rest ≡ Required b
+      → keptBy (limitsOf v) (finishOf s (nextOf s (clockOn s (started b depot) (trip .stops)) i) (thereAndHome s depot trip i) depot) ≡ routeFeasible s depot (limitsOf v) (trip .stops ++ (i ∷ []))
+  unfolding routeFeasible scheduledOf
+  pushed-once b e =
+      sym (rw (e, clock-on s depot b (trip .stops ++ (i ∷ [])), clock-on-more s (started b depot) (trip .stops) i, distance-on-more s nought depot (trip .stops) i, last-more depot (trip .stops) i, ← ok .last, ← ok .far))
+
+  allowed : (rest : Rest) → v .rest ≡ rest → (duration : Float)
+      → allowsBy s depot (limitsOf v) (clockAfter s depot rest (trip .stops)) i (thereAndHome s depot trip i) duration ≡ allows s depot v rest trip i (thereAndHome s depot trip i) duration
+  unfolding allowsBy
+  allowed NoRest e duration = refl
+  allowed (Required b) e duration = pushed-once b e
+
+  first : (stops : List ℕ) → eqb (length stops) 0 ≡ isFirst stops
+  first [] = refl
+  first (row ∷ rows) = ne-eqb (suc (length rows)) 0 (suc-ne-zero (length rows))
+
+  pub offers : (h : Heuristic) (index : ℕ) → v ≡ vehicleOf s index → offerBy s depot h v (rideOf s depot (v .rest) trip) i ≡ ruleOf s depot h index .offer trip i
+  unfolding offerBy ruleOf nearestBy nearestOffer windowBy windowOffer
+  offers Nearest index e = rw (allowed (v .rest) refl (trip .clock ⊕ timeOf s (trip .current) i ⊕ stopOf s i .service ⊕ timeOf s i depot), e)
+  offers (NearestTw soft) index e =
+      rw (allowed (v .rest) refl (startAt (stopOf s i .gate) (arrivalAt s trip i) ⊕ stopOf s i .service ⊕ timeOf s i depot), first (trip .stops), e)
+
+-- ---- one stop further
+pushed-on : (s : List ℕ) (depot : ℕ) (rest : Rest) (stops : List ℕ) (i : ℕ) → pushedBy s (clockAfter s depot rest stops) i ≡ clockAfter s depot rest (stops ++ (i ∷ []))
+unfolding pushedBy
+pushed-on s depot NoRest stops i = refl
+pushed-on s depot (Required b) stops i = ap Kept (sym (clock-on-more s (started b depot) stops i))
+
+pub drives-on : (s : List ℕ) (depot : ℕ) (rest : Rest) (trip : Trip) (h : Heuristic) (index i : ℕ) → onwardBy s h (rideOf s depot rest trip) i ≡ rideOf s depot rest (ruleOf s depot h index .onward trip i)
+unfolding onwardBy ridden ruleOf nearestOnward windowOnward
+drives-on s depot rest trip Nearest index i = rw (pushed-on s depot rest (trip .stops) i, one-more (trip .stops) i)
+drives-on s depot rest trip (NearestTw soft) index i = rw (pushed-on s depot rest (trip .stops) i, one-more (trip .stops) i)
+
+-- a step is the round with its clock
+pub stepped : (s : List ℕ) (h : Heuristic) (ride : Ride) (i : ℕ) (clock : Float) → clock ≡ onwardBy s h ride i .clock → ridden s ride i clock ≡ onwardBy s h ride i
+unfolding onwardBy ridden
+stepped s Nearest ride i clock e = rw e
+stepped s (NearestTw soft) ride i clock e = rw e
+
+-- the figures stay those of the stops
+pub stays-driven : (s : List ℕ) (depot : ℕ) (trip : Trip) (h : Heuristic) (index i : ℕ) → Accepted s → Driven s depot trip → i < rowsOf s → Driven s depot (ruleOf s depot h index .onward trip i)
+unfolding ruleOf nearestOnward windowOnward
+stays-driven s depot trip h index i fine ok k = go h
+  where
+    last : i ≡ lastOf depot (trip .stops ++ (i ∷ []))
+    last = sym (last-more depot (trip .stops) i)
+
+    far : trip .travelled ⊕ distanceOf s (trip .current) i ≡ distanceOn s nought depot (trip .stops ++ (i ∷ []))
+    far = sym (rw (distance-on-more s nought depot (trip .stops) i, ← ok .last, ← ok .far))
+
+    load : trip .load + demandOf s i ≤ 1000000 * length (trip .stops ++ (i ∷ []))
+    load = omega (arith, ok .load, demand-bounded s fine i k, one-more (trip .stops) i)
+
+    go : (h : Heuristic) → Driven s depot (ruleOf s depot h index .onward trip i)
+    go Nearest = record { last = last; far = far; from = k; load = load }
+    go (NearestTw soft) = record { last = last; far = far; from = k; load = load }
+
+-- and may be stepped on from, with at most 100 stops so far
+ticks : (s : List ℕ) (depot : ℕ) (rest : Rest) (trip : Trip) → Accepted s → Driven s depot trip → length (trip .stops) ≤ 100 → Ticking s (clockAfter s depot rest (trip .stops))
+ticks s depot NoRest trip fine ok few = tt
+ticks s depot (Required b) trip fine ok few =
+    let at = clock-on-prev s (started b depot) (trip .stops) in
+    let place = clock-on-place s (started b depot) (trip .stops) in
+    (record { sheet = fine; from = rw (at, ← ok .last) (ok .from); room = omega (arith, place) }, omega (arith, place))
+
+pub riding : (s : List ℕ) (depot : ℕ) (rest : Rest) (trip : Trip) → Accepted s → Driven s depot trip → length (trip .stops) ≤ 100 → Riding s (rideOf s depot rest trip)
+riding s depot rest trip fine ok few = record { sheet = fine; from = ok .from; few = few; load = ok .load; ticking = ticks s depot rest trip fine ok few }
+
+-- ---- at the depot
+pub sets-out : (s : List ℕ) (depot : ℕ) (rest : Rest) → setOut rest depot ≡ rideOf s depot rest (setOff depot)
+unfolding clockOn
+sets-out s depot NoRest = refl
+sets-out s depot (Required b) = refl
+
+pub off : (s : List ℕ) (depot : ℕ) → depot < rowsOf s → Driven s depot (setOff depot)
+unfolding lastOf distanceOn
+off s depot h = record { last = refl; far = refl; from = h; load = omega arith }
+
+-- ---- the best of the stops left, by offers that agree
+pub choose-alike : (f g : ℕ → Offer) → ((i : ℕ) → f i ≡ g i) → (c : Choice) (j : ℕ) (left : List ℕ) → choose f c j left ≡ choose g c j left
+unfolding choose
+choose-alike f g e c j [] = refl
+choose-alike f g e c j (row ∷ rows) = ap (λ (o : Offer). choose f (better c j o) (j + 1) rows) (e row) ∙ choose-alike f g e (better c j (g row)) (j + 1) rows

@@ -1,0 +1,6 @@
+pub mod Judging
+pub mod Bringing
+pub mod Keeping
+pub mod Leaving
+pub mod Growing
+pub mod Laying

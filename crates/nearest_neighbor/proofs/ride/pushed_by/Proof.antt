@@ -1,0 +1,28 @@
+-- `nearest_neighbor::ride::pushed_by` meets its contract. Assumes nothing.
+use borrow.Author.Needs.{needs}
+use mathlib.Core.Path.{subst}
+use Rattle.evaluation.specs.Clock.{pushedOf}
+use Rattle.nearest_neighbor.specs.declared.ride.RideClock.{RideClock}
+use Rattle.nearest_neighbor.specs.Ride.{pushedBy, Ticking}
+use Rattle.nearest_neighbor.proofs.ride.pushed_by.Statement.{statement}
+use Rattle.nearest_neighbor.proofs.ride.pushed_by.Tie as tie
+
+enum-told : tie.Need-enum-told
+enum-told c = search needs
+
+enum-known-kept : tie.Need-enum-known-kept
+enum-known-kept c = search needs
+
+pushed-requires : tie.Need-pushed-requires
+pushed-requires c κs = (subst (λ (k : RideClock). Ticking (c .before .before .before .before .args .sheet .now) k) (c .before .kept .given .1) (c .before .before .before .before .pre .0) .0, c .before .before .before .before .pre .1)
+
+returns : tie.Need-returns
+unfolding pushedBy
+returns c = rw (c .enum-told .given .1)
+
+returns-2 : tie.Need-returns-2
+unfolding pushedBy pushedOf
+returns-2 c = rw (c .before .before .before .kept .given .1, c .before .pushed .ensures)
+
+pub pushed-by-spec : {M : Type 1} → statement M
+pushed-by-spec = tie.close (tie.spec enum-told enum-known-kept pushed-requires returns returns-2)

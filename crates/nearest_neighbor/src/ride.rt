@@ -1,0 +1,99 @@
+// A round so far, with what a next stop is judged by.
+use evaluation::clock::BreakClock;
+use evaluation::limits::RouteLimits;
+use sheet::customer;
+use sheet::vehicle::Rest;
+use sheet::vehicle::Vehicle;
+ghost use mathlib.Core.Path.{_≡_};
+ghost use Prim.Native.Nat.{_<_};
+ghost use Rattle.sheet.specs.Fields.{rowsOf};
+ghost use Rattle.nearest_neighbor.specs.Ride.{setOut, clockFor, pushedBy, allowsBy, carriesBy, Riding, Ticking};
+
+// The clock after the round so far, where the vehicle has a rest to place.
+pub enum RideClock {
+    NoClock,
+    Kept(BreakClock),
+}
+
+pub struct Ride {
+    pub current: usize,
+    pub served: usize,
+    pub load: u32,
+    pub travelled: f64,
+    pub clock: f64,
+    pub rest: RideClock,
+}
+
+fn clock_for(rest: Rest, depot: usize) -> RideClock
+    ensures { λ r. ⌜ r ≡ clockFor rest depot ⌝ }
+{
+    match rest {
+        Rest::NoRest => RideClock::NoClock,
+        Rest::Required(b) => RideClock::Kept(BreakClock::new(b, depot)),
+    }
+}
+
+// At the depot at 0, with nothing loaded.
+pub fn set_out(rest: Rest, depot: usize) -> Ride
+    ensures { λ r. ⌜ r ≡ setOut rest depot ⌝ }
+{
+    let clock = clock_for(rest, depot);
+    Ride {
+        current: depot,
+        served: 0,
+        load: 0,
+        travelled: 0.0,
+        clock: 0.0,
+        rest: clock,
+    }
+}
+
+// The clock driven on to `row`.
+pub fn pushed_by(sheet: &[u8], kept: RideClock, row: usize) -> RideClock
+    requires { ⌜ Ticking (now sheet) kept ⌝ }
+    requires { ⌜ row < rowsOf (now sheet) ⌝ }
+    ensures { λ r. ⌜ r ≡ pushedBy (now (sheet .entry)) kept row ⌝ }
+{
+    match kept {
+        RideClock::NoClock => RideClock::NoClock,
+        RideClock::Kept(clock) => {
+            let pushed = clock.pushed(sheet, row);
+            let next = pushed.clock;
+            RideClock::Kept(next)
+        }
+    }
+}
+
+// Whether the vehicle can load what the row asks.
+pub fn carries(sheet: &[u8], vehicle: Vehicle, ride: Ride, row: usize) -> bool
+    requires { ⌜ Riding (now sheet) ride ⌝ }
+    requires { ⌜ row < rowsOf (now sheet) ⌝ }
+    ensures { λ r. ⌜ r ≡ carriesBy (now (sheet .entry)) vehicle ride row ⌝ }
+{
+    ride.load + customer::demand(sheet, row) <= vehicle.capacity
+}
+
+// Whether the limits are kept with the row as the last stop: by the clock, pushed once, where there is one to keep;
+// else by the distance and the duration that are given.
+pub fn allows(
+    sheet: &[u8],
+    depot: usize,
+    limits: RouteLimits,
+    kept: RideClock,
+    row: usize,
+    distance: f64,
+    duration: f64,
+) -> bool
+    requires { ⌜ Ticking (now sheet) kept ⌝ }
+    requires { ⌜ (row < rowsOf (now sheet)) × (depot < rowsOf (now sheet)) ⌝ }
+    ensures { λ r. ⌜ r ≡ allowsBy (now (sheet .entry)) depot limits kept row distance duration ⌝ }
+{
+    match kept {
+        RideClock::NoClock => limits.allow(distance, duration),
+        RideClock::Kept(clock) => {
+            let pushed = clock.pushed(sheet, row);
+            let next = pushed.clock;
+            evaluation::kept_by(limits, next.finish(sheet, distance, depot))
+        }
+    }
+}
