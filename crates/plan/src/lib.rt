@@ -30,7 +30,7 @@ fn link(chain: &[u16], i: usize) -> u16
 }
 
 // Where the record of a row stands.
-fn visit_place(sheet: &[u8], row: usize) -> usize
+pub fn visit_place(sheet: &[u8], row: usize) -> usize
     requires { ⌜ Sized (now sheet) ⌝ }
     requires { ⌜ row < rowsOf (now sheet) ⌝ }
     ensures { λ r. ⌜ (r ≡ visitAt (rowsOf (now (sheet .entry))) row) × (r + 24 ≤ planLength (now (sheet .entry))) ⌝ }
