@@ -13,6 +13,7 @@ use u_routing::evaluation::{route_feasible, RouteLimits};
 use crate::planner::probe_rounds;
 use crate::random::Random;
 use crate::reference::Problem;
+use crate::refusal::OFFERED;
 use crate::sheet::{Row, Sheet, Vehicle};
 use crate::sheet::{DEPOT, MAX_DISTANCE, MAX_DURATION, REST, WINDOW};
 
@@ -196,7 +197,7 @@ impl Drive {
 /// never reached; its rest falls into the round.
 fn sheet(random: &mut Random, case: Case) -> Sheet {
     let mut sheet = Sheet {
-        method: 0,
+        method: OFFERED[0],
         rows: (0..ROWS).map(|k| row(random, k == 0, case)).collect(),
         vehicles: vec![vehicle(case)],
         distances: Vec::new(),

@@ -3,7 +3,7 @@
 
 use crate::plan::plan_len;
 use crate::random::Random;
-use crate::refusal::{LEAST_RATE, MOST_FIGURE, MOST_MAXIMUM, MOST_PENALTY};
+use crate::refusal::{LEAST_RATE, MOST_FIGURE, MOST_MAXIMUM, MOST_PENALTY, OFFERED};
 use crate::sheet::{field, Header, Sheet, ENTRY, HEADER, REST, ROW, VEHICLE, WINDOW};
 
 /// The sign of an f64.
@@ -254,7 +254,7 @@ pub fn noise(len: usize, random: &mut Random) -> Case {
 /// Random bytes after a header that asks for just as many.
 pub fn noise_after_header(random: &mut Random) -> Case {
     let counts = [random.below(3) as u8, 0, random.below(3) as u8, 0];
-    let mut sheet = [counts, [random.below(5) as u8, random.below(2) as u8, 0, 0]].concat();
+    let mut sheet = [counts, [random.pick(OFFERED), random.below(2) as u8, 0, 0]].concat();
     sheet.resize(HEADER, 0);
     let header = Header::of(&sheet);
     sheet.resize_with(header.sheet_len(), || random.bits() as u8);

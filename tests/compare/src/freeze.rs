@@ -10,7 +10,7 @@ use std::{fs, io};
 use crate::damage::{Base, Case, Values};
 use crate::generate::{sheet_of, tiny};
 use crate::random::Random;
-use crate::refusal::{refusal, MOST_FIGURE, MOST_ROWS};
+use crate::refusal::{refusal, METHODS, MOST_FIGURE, MOST_ROWS, OFFERED};
 use crate::sheet::{Row, Sheet, Vehicle, DEPOT};
 
 pub fn run(count: usize, seed: u64, folder: &Path) -> io::Result<()> {
@@ -88,7 +88,8 @@ fn marked(early: f64, late: f64) -> Sheet {
         latest: late,
         rest_duration: 1.0,
     };
-    Sheet { method: 0, rows: vec![row], vehicles: vec![vehicle], distances: vec![1.0], times: None }
+    let (rows, vehicles) = (vec![row], vec![vehicle]);
+    Sheet { method: OFFERED[0], rows, vehicles, distances: vec![1.0], times: None }
 }
 
 /// One row and one vehicle without a mark, all zeros, and a time table.
@@ -109,7 +110,7 @@ fn corners() -> Vec<Sheet> {
         vehicles: ids.map(|id| Vehicle { id, ..Vehicle::default() }).into(),
         ..plain()
     };
-    let none = [0, 1, 2, 3, 4].map(|method| Sheet { method, vehicles: vec![], ..plain() });
+    let without = |&method: &u8| Sheet { method, vehicles: vec![], ..plain() };
     let elsewhere = Vehicle { depot: 1, ..Vehicle::default() };
     let marks = [DEPOT, 0, DEPOT];
     let stray = Sheet {
@@ -124,5 +125,5 @@ fn corners() -> Vec<Sheet> {
     let matrix_and_row = Sheet { rows: vec![negative], ..not_a_number.clone() };
     let matrix_and_vehicle = Sheet { vehicles: vec![elsewhere], ..not_a_number };
     let others = [stray, matrix_and_row, matrix_and_vehicle];
-    ids.map(with_ids).into_iter().chain(none).chain(others).collect()
+    ids.map(with_ids).into_iter().chain(METHODS.iter().map(without)).chain(others).collect()
 }

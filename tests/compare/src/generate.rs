@@ -1,7 +1,7 @@
 //! Sheets to compare on: tiny ones enumerated, and random ones with many ties.
 
 use crate::random::Random;
-use crate::refusal::{LEAST_RATE, MOST_FIGURE, MOST_MAXIMUM, MOST_PENALTY, MOST_RATE};
+use crate::refusal::{LEAST_RATE, MOST_FIGURE, MOST_MAXIMUM, MOST_PENALTY, MOST_RATE, OFFERED};
 use crate::sheet::{Row, Sheet, Vehicle};
 use crate::sheet::{DEPOT, MAX_DISTANCE, MAX_DURATION, PENALTY, REST, WINDOW};
 
@@ -128,6 +128,11 @@ fn number(random: &mut Random, style: Style, most: f64) -> f64 {
     }
 }
 
+/// What is reached, or one step beside it.
+pub fn beside(random: &mut Random, x: f64, most: f64) -> f64 {
+    random.pick(&[x, x, x.next_up(), x.next_down()]).clamp(0.0, most)
+}
+
 /// Two numbers, the first not above the second.
 fn ordered(random: &mut Random, style: Style, most: f64) -> (f64, f64) {
     let (a, b) = (number(random, style, most), number(random, style, most));
@@ -157,7 +162,7 @@ pub fn sheet_of(random: &mut Random, rows: usize, vehicles: usize) -> Sheet {
     let depots = random.pick(&[0, 1, 1, 1, 1, 2, 2, 3, rows]);
     let reach = random.pick(&[1, 3, 3, 50, 1_000_000]);
     let mut sheet = Sheet {
-        method: random.below(5) as u8,
+        method: random.pick(OFFERED),
         rows: (0..rows).map(|k| row(random, style, reach, k < depots)).collect(),
         vehicles: Vec::new(),
         distances: Vec::new(),
@@ -253,7 +258,7 @@ fn matrix(random: &mut Random, style: Style, rows: &[Row]) -> Vec<f64> {
     matrix
 }
 
-fn straight(from: &Row, to: &Row) -> f64 {
+pub fn straight(from: &Row, to: &Row) -> f64 {
     let (dx, dy) = (f64::from(from.x - to.x), f64::from(from.y - to.y));
     (dx * dx + dy * dy).sqrt()
 }
@@ -263,7 +268,7 @@ mod tests {
     use super::{random_sheet, tiny};
     use crate::plan::plan_len;
     use crate::random::Random;
-    use crate::refusal::refusal;
+    use crate::refusal::{needs_vehicle, refusal};
     use crate::sheet::Sheet;
 
     /// Before any damage only the counts, or a missing vehicle, may be wrong.
@@ -274,7 +279,7 @@ mod tests {
             let sheet = random_sheet(&mut random);
             let answer = refusal(&sheet.encode(), plan_len(sheet.rows.len()));
             let counts = sheet.rows.len() > 101 || sheet.vehicles.len() > 16;
-            let bare = sheet.vehicles.is_empty() && ![2, 3].contains(&sheet.method);
+            let bare = sheet.vehicles.is_empty() && needs_vehicle(sheet.method);
             assert_eq!(
                 answer,
                 if counts {

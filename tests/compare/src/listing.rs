@@ -4,12 +4,13 @@ use std::fmt::Write;
 
 use crate::plan::{chains, round_at, stop_at};
 use crate::reference::plan;
+use crate::refusal::METHODS;
 use crate::sheet::{field, Header, Sheet};
 
 const MOST_ROWS: usize = 48;
 
 pub fn listing(sheet: &[u8]) -> String {
-    match plan(sheet) {
+    match plan(METHODS, sheet) {
         Err(1) => "refused 1\n".into(),
         _ if Header::of(sheet).rows > MOST_ROWS => "refused 2\n".into(),
         Err(number) => format!("refused {number}\n"),
@@ -17,7 +18,8 @@ pub fn listing(sheet: &[u8]) -> String {
     }
 }
 
-fn lines(plan: &[u8], sheet: &Sheet) -> Option<String> {
+/// `None` for chains that are no plan's.
+pub fn lines(plan: &[u8], sheet: &Sheet) -> Option<String> {
     let rows = sheet.rows.len();
     let chains = chains(plan, sheet)?;
     let mut text = String::new();

@@ -4,6 +4,9 @@
 //!     compare selftest               the harness against document 01's examples
 //!     compare refusals COUNT SEED    the planner's check on COUNT sheets
 //!     compare rounds COUNT SEED      the port's evaluation on COUNT rounds
+//!     compare plans COUNT SEED       the planner's plans of COUNT sheets
+//!     compare plan NUMBER SEED       one sheet of these again, both plans shown
+//!     compare checked COUNT SEED     the checker of demand 3 on COUNT plans of the Rust's
 //!     compare bench                  the port's route_feasible against the Rust's, timed
 //!     compare bench instructions     the same, counted by valgrind
 //!     compare bench SIDE CASE RUNS   one side of one case alone, for a profiler
@@ -15,12 +18,19 @@
 #![deny(warnings)]
 
 mod bench;
+mod checked;
 mod damage;
+mod fit;
+mod flavours;
 mod freeze;
 mod generate;
+mod greedy;
+mod kinds;
+mod lawful;
 mod listing;
 mod plan;
 mod planner;
+mod plans;
 mod random;
 mod reference;
 mod refusal;
@@ -34,6 +44,7 @@ use std::path::Path;
 use std::process::ExitCode;
 
 const USAGE: &str = "usage: compare selftest | refusals COUNT SEED | rounds COUNT SEED | \
+                     plans COUNT SEED | plan NUMBER SEED | checked COUNT SEED | \
                      bench [instructions | SIDE CASE RUNS] | freeze COUNT SEED DIR";
 
 fn main() -> ExitCode {
@@ -44,6 +55,9 @@ fn main() -> ExitCode {
         ["bench", ref words @ ..] => bench::run(words),
         ["refusals", count, seed] => numbers(count, seed).map(|(c, s)| refusals::run(c, s)),
         ["rounds", count, seed] => numbers(count, seed).map(|(c, s)| rounds::run(c, s)),
+        ["plans", count, seed] => numbers(count, seed).map(|(c, s)| plans::run(c, s)),
+        ["plan", number, seed] => numbers(number, seed).map(|(n, s)| plans::show(n, s)),
+        ["checked", count, seed] => numbers(count, seed).map(|(c, s)| checked::run(c, s)),
         ["freeze", count, seed, folder] => numbers(count, seed).map(|(c, s)| freeze(c, s, folder)),
         _ => None,
     };

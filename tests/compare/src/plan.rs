@@ -23,6 +23,7 @@ pub fn plan_len(rows: usize) -> usize {
 }
 
 /// The rounds, each its vehicle's id and its stops in order, and the stops set aside.
+#[derive(Clone)]
 pub struct Chains {
     pub rounds: Vec<(u32, Vec<usize>)>,
     pub aside: Vec<usize>,
@@ -42,6 +43,28 @@ pub fn encode(rows: usize, solution: &Solution) -> Vec<u8> {
         put(&mut plan, stop_at(rows, stop), link(aside.get(k + 1)));
     }
     plan
+}
+
+/// A plan of round count, ids and links alone.
+pub fn encode_chains(rows: usize, chains: &Chains) -> Vec<u8> {
+    let mut plan = vec![0; plan_len(rows)];
+    put(&mut plan, 0, (chains.rounds.len() as u16).to_le_bytes());
+    put_chain(&mut plan, rows, 2, &chains.aside);
+    for (k, (id, stops)) in chains.rounds.iter().enumerate() {
+        put(&mut plan, round_at(k), id.to_le_bytes());
+        put_chain(&mut plan, rows, round_at(k) + 8, stops);
+    }
+    plan
+}
+
+/// The links of a chain whose first stands at `first`.
+fn put_chain(plan: &mut [u8], rows: usize, first: usize, stops: &[usize]) {
+    let mut at = first;
+    for stop in stops {
+        put(plan, at, link(Some(stop)));
+        at = stop_at(rows, *stop);
+    }
+    put(plan, at, link(None));
 }
 
 fn encode_route(plan: &mut [u8], rows: usize, k: usize, route: &Route) {

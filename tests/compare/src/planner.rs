@@ -20,6 +20,26 @@ pub fn check(_sheet: &[u8], _plan_len: usize) -> u32 {
     std::process::exit(2)
 }
 
+#[cfg(plan_rounds)]
+#[link(name = "planner", kind = "static")]
+extern "C" {
+    fn plan_rounds(sheet: *const u8, sheet_len: usize, plan: *mut u8, plan_len: usize) -> u32;
+}
+
+/// A sheet's plan, written into `plan`, and 0; or a refusal.
+#[cfg(plan_rounds)]
+pub fn plan(sheet: &[u8], plan: &mut [u8]) -> u32 {
+    // SAFETY: the pointers and the lengths are those of slices that outlive the call, and no one
+    // else has the one that is written.
+    unsafe { plan_rounds(sheet.as_ptr(), sheet.len(), plan.as_mut_ptr(), plan.len()) }
+}
+
+#[cfg(not(plan_rounds))]
+pub fn plan(_sheet: &[u8], _plan: &mut [u8]) -> u32 {
+    eprintln!("compare: built without plan_rounds; build with PLAN_ROUNDS set");
+    std::process::exit(2)
+}
+
 #[cfg(probe)]
 mod probe {
     #[link(name = "probe", kind = "static")]

@@ -5,9 +5,9 @@ use u_routing::constructive::{
     sweep,
 };
 use u_routing::distance::DistanceMatrix;
-use u_routing::evaluation::RouteEvaluator;
+use u_routing::evaluation::{route_eval, RouteEval, RouteEvaluator, RouteLimits};
 use u_routing::fleet::limit_routes;
-use u_routing::models::{num_depots, Customer, Solution, TimeWindow, Vehicle, VehicleBreak};
+use u_routing::models::{num_depots, Customer, Route, Solution, TimeWindow, Vehicle, VehicleBreak};
 
 use crate::plan::{encode, plan_len, Chains};
 use crate::refusal::{accepted, limiter_accepted};
@@ -15,15 +15,23 @@ use crate::sheet::{self, Header, Row, Sheet};
 
 /// An accepted sheet in the Rust's types.
 pub struct Problem {
-    method: u8,
+    pub method: u8,
     pub customers: Vec<Customer>,
     pub distances: DistanceMatrix,
     pub vehicles: Vec<Vehicle>,
 }
 
-/// The planner's answer: a refusal or the plan's bytes.
-pub fn plan(bytes: &[u8]) -> Result<Vec<u8>, u32> {
-    let sheet = accepted(bytes, &[len_for(bytes)])?;
+/// What a constructor is given: a problem of one depot, or one depot's part of it.
+pub struct Table<'a> {
+    pub method: u8,
+    pub customers: &'a [Customer],
+    pub distances: &'a DistanceMatrix,
+    pub vehicles: &'a [Vehicle],
+}
+
+/// The answer of a planner that offers these methods: a refusal or the plan's bytes.
+pub fn plan(methods: &[u8], bytes: &[u8]) -> Result<Vec<u8>, u32> {
+    let sheet = accepted(methods, bytes, &[len_for(bytes)])?;
     Ok(encode(sheet.rows.len(), &Problem::taken(&sheet).solution()))
 }
 
@@ -63,20 +71,36 @@ impl Problem {
         (num_depots(&problem.customers) == depots).then_some(problem)
     }
 
-    fn taken(sheet: &Sheet) -> Problem {
+    pub fn taken(sheet: &Sheet) -> Problem {
         Problem::of(sheet).expect("the Rust takes every accepted sheet")
     }
 
     pub fn solution(&self) -> Solution {
-        let Problem { customers, distances, vehicles, .. } = self;
-        construct_by_depot(customers, distances, vehicles, |c, d, v| match self.method {
-            0 => clarke_wright_savings(c, d, &v[0]),
-            1 => solomon_i1(c, d, &v[0]),
-            2 => nearest_neighbor(c, d, v),
-            3 => nearest_neighbor_tw(c, d, v),
-            4 => sweep(c, d, &v[0]),
-            _ => unreachable!("refused as 3"),
+        self.solution_seen(|_, _| ())
+    }
+
+    /// The solution, each depot's shown on the way whenever it is planned.
+    pub fn solution_seen(&self, see: impl Fn(&Table, &Solution)) -> Solution {
+        let &Problem { method, ref customers, ref distances, ref vehicles } = self;
+        construct_by_depot(customers, distances, vehicles, |customers, distances, vehicles| {
+            let table = Table { method, customers, distances, vehicles };
+            let solution = table.solution();
+            see(&table, &solution);
+            solution
         })
+    }
+
+    pub fn built(&self, driver: &Vehicle, stops: &[usize]) -> Route {
+        RouteEvaluator::new(&self.customers, &self.distances, driver).build_route(stops).0
+    }
+
+    pub fn eval(
+        &self,
+        driver: &Vehicle,
+        stops: &[usize],
+        limits: &RouteLimits,
+    ) -> Option<RouteEval> {
+        route_eval(stops, driver.depot_id(), &self.distances, &self.customers, limits)
     }
 
     fn limited(&self, chains: Chains, greatest: usize) -> Solution {
@@ -99,6 +123,20 @@ impl Problem {
         aside.into_iter().for_each(|stop| solution.add_unassigned(stop));
         solution.price(|route| &vehicles[index(route.vehicle_id() as u32)]);
         solution
+    }
+}
+
+impl Table<'_> {
+    fn solution(&self) -> Solution {
+        let &Table { method, customers, distances, vehicles } = self;
+        match method {
+            0 => clarke_wright_savings(customers, distances, &vehicles[0]),
+            1 => solomon_i1(customers, distances, &vehicles[0]),
+            2 => nearest_neighbor(customers, distances, vehicles),
+            3 => nearest_neighbor_tw(customers, distances, vehicles),
+            4 => sweep(customers, distances, &vehicles[0]),
+            _ => unreachable!("refused as 3"),
+        }
     }
 }
 

@@ -5,8 +5,10 @@ use crate::sheet::{Header, Row, Sheet, Vehicle};
 use crate::sheet::{HEADER, MAX_DISTANCE, MAX_DURATION, PENALTY, REST, WINDOW};
 
 pub const MOST_ROWS: usize = 101;
-const MOST_VEHICLES: usize = 16;
-const MOST_METHOD: u8 = 4;
+pub const MOST_VEHICLES: usize = 16;
+/// The methods of document 01, and those that the planner offers today: it refuses the others as 3.
+pub const METHODS: &[u8] = &[0, 1, 2, 3, 4];
+pub const OFFERED: &[u8] = &[0, 1, 2, 3, 4];
 const MOST_MARKS: u32 = 7;
 const MOST_COORDINATE: i32 = 1_000_000;
 const MOST_DEMAND: i32 = 1_000_000;
@@ -20,11 +22,11 @@ pub const MOST_RATE: f64 = 1e6;
 /// The planner's answer to a sheet and a plan buffer of `plan_len` bytes, if it is a refusal;
 /// 0 for an accepted sheet.
 pub fn refusal(sheet: &[u8], plan_len: usize) -> u32 {
-    accepted(sheet, &[plan_len]).err().unwrap_or(0)
+    accepted(OFFERED, sheet, &[plan_len]).err().unwrap_or(0)
 }
 
-/// Refusals 1 to 8, for plan buffers of these lengths.
-pub fn accepted(bytes: &[u8], plan_lens: &[usize]) -> Result<Sheet, u32> {
+/// Refusals 1 to 8 where these methods are offered, for plan buffers of these lengths.
+pub fn accepted(methods: &[u8], bytes: &[u8], plan_lens: &[usize]) -> Result<Sheet, u32> {
     if bytes.len() < HEADER {
         return Err(1);
     }
@@ -35,7 +37,7 @@ pub fn accepted(bytes: &[u8], plan_lens: &[usize]) -> Result<Sheet, u32> {
     if header.rows > MOST_ROWS || header.vehicles > MOST_VEHICLES {
         return Err(2);
     }
-    if header.method > MOST_METHOD {
+    if !methods.contains(&header.method) {
         return Err(3);
     }
     let wrong_plan = |&len: &usize| len != plan_len(header.rows);
@@ -53,19 +55,24 @@ pub fn accepted(bytes: &[u8], plan_lens: &[usize]) -> Result<Sheet, u32> {
     if !(0..sheet.vehicles.len()).all(|k| vehicle_in_range(&sheet, k)) {
         return Err(7);
     }
-    if sheet.vehicles.is_empty() && matches!(sheet.method, 0 | 1 | 4) {
+    if sheet.vehicles.is_empty() && needs_vehicle(sheet.method) {
         return Err(8);
     }
     Ok(sheet)
 }
 
-/// Refusals 1 to 10, for a plan out of `plan_out_len` bytes.
+/// Whether a method asks for a vehicle: it makes all rounds with the depot's first.
+pub fn needs_vehicle(method: u8) -> bool {
+    matches!(method, 0 | 1 | 4)
+}
+
+/// Refusals 1 to 10, for a plan out of `plan_out_len` bytes. The limiter takes a sheet of any method.
 pub fn limiter_accepted(
     bytes: &[u8],
     plan_in: &[u8],
     plan_out_len: usize,
 ) -> Result<(Sheet, Chains), u32> {
-    let sheet = accepted(bytes, &[plan_in.len(), plan_out_len])?;
+    let sheet = accepted(METHODS, bytes, &[plan_in.len(), plan_out_len])?;
     if sheet.depots() > 1 {
         return Err(9);
     }

@@ -8,15 +8,16 @@
 use std::collections::BTreeMap;
 use std::process::ExitCode;
 
-use u_routing::evaluation::{route_eval, route_feasible, RouteEval, RouteEvaluator, RouteLimits};
+use u_routing::evaluation::{route_feasible, RouteEval, RouteLimits};
 use u_routing::models::{Route, Vehicle};
 
+use crate::fit::{fit_maximum, fit_rest, fit_window, Round};
 use crate::generate::sheet_of;
 use crate::plan::plan_len;
 use crate::planner::{probe_figure, probe_rounds};
 use crate::random::Random;
 use crate::reference::Problem;
-use crate::refusal::{refusal, MOST_FIGURE, MOST_MAXIMUM, MOST_ROWS};
+use crate::refusal::{refusal, MOST_ROWS};
 use crate::sheet::Sheet;
 use crate::sheet::{MAX_DISTANCE, MAX_DURATION, PENALTY, REST, WINDOW};
 
@@ -73,13 +74,6 @@ struct Case {
     times: bool,
     bytes: Box<[u8]>,
     problem: Problem,
-}
-
-/// A vehicle, by its index, and its stops.
-#[derive(Clone)]
-struct Round {
-    vehicle: usize,
-    stops: Vec<usize>,
 }
 
 pub fn run(count: usize, seed: u64) -> ExitCode {
@@ -268,78 +262,6 @@ fn renumber(sheet: &mut Sheet, random: &mut Random, flavour: usize) {
     }
     let entries = sheet.distances.iter_mut().chain(sheet.times.iter_mut().flatten());
     entries.for_each(|entry| *entry = number(random, flavour));
-}
-
-/// What is reached, or one step beside it.
-fn beside(random: &mut Random, x: f64, most: f64) -> f64 {
-    random.pick(&[x, x, x.next_up(), x.next_down()]).clamp(0.0, most)
-}
-
-/// Gives a round's vehicle a rest that starts, or is not needed, just at a time of the round.
-fn fit_rest(sheet: &mut Sheet, round: &Round, random: &mut Random) {
-    let problem = Problem::of(sheet).expect("the Rust takes every accepted sheet");
-    let driver = &problem.vehicles[round.vehicle];
-    let vehicle = &mut sheet.vehicles[round.vehicle];
-    vehicle.marks |= REST;
-    if round.stops.is_empty() || random.one_in(2) {
-        let free = problem.eval(driver, &round.stops, &RouteLimits::NONE);
-        let home = free.map_or(0.0, |eval| eval.duration);
-        vehicle.earliest = beside(random, home, MOST_FIGURE);
-        vehicle.latest = vehicle.latest.max(vehicle.earliest);
-    } else {
-        let route = problem.built(driver, &round.stops);
-        let visit = &route.visits()[random.below(round.stops.len())];
-        vehicle.latest = beside(random, visit.arrival_time, MOST_FIGURE);
-        vehicle.earliest = vehicle.earliest.min(vehicle.latest);
-    }
-}
-
-/// Gives a stop of a round a window that closes or opens just as the vehicle arrives.
-fn fit_window(sheet: &mut Sheet, round: &Round, random: &mut Random) {
-    if round.stops.is_empty() {
-        return;
-    }
-    let problem = Problem::of(sheet).expect("the Rust takes every accepted sheet");
-    let route = problem.built(&problem.vehicles[round.vehicle], &round.stops);
-    let visit = &route.visits()[random.below(round.stops.len())];
-    let arrival = beside(random, visit.arrival_time, MOST_FIGURE);
-    let row = &mut sheet.rows[visit.customer_id];
-    row.marks |= WINDOW;
-    if random.one_in(3) {
-        row.ready = arrival;
-        row.due = row.due.max(arrival);
-    } else {
-        row.due = arrival;
-        row.ready = row.ready.min(arrival);
-    }
-}
-
-/// Sets a maximum, and at times takes the other away, which it might be hidden by.
-fn fit_maximum(sheet: &mut Sheet, round: &Round, random: &mut Random) {
-    let problem = Problem::of(sheet).expect("the Rust takes every accepted sheet");
-    let route = problem.built(&problem.vehicles[round.vehicle], &round.stops);
-    let vehicle = &mut sheet.vehicles[round.vehicle];
-    if random.one_in(2) {
-        vehicle.marks &= REST;
-        (vehicle.max_distance, vehicle.max_duration) = (0.0, 0.0);
-    }
-    if random.one_in(2) {
-        vehicle.marks |= MAX_DISTANCE;
-        vehicle.max_distance = beside(random, route.total_distance(), MOST_MAXIMUM);
-    } else {
-        vehicle.marks |= MAX_DURATION;
-        vehicle.max_duration = beside(random, route.total_duration(), MOST_MAXIMUM);
-    }
-}
-
-impl Problem {
-    fn built(&self, driver: &Vehicle, stops: &[usize]) -> Route {
-        RouteEvaluator::new(&self.customers, &self.distances, driver).build_route(stops).0
-    }
-
-    fn eval(&self, driver: &Vehicle, stops: &[usize], limits: &RouteLimits) -> Option<RouteEval> {
-        route_eval(stops, driver.depot_id(), &self.distances, &self.customers, limits)
-    }
 }
 
 impl Case {

@@ -6,7 +6,7 @@ use std::process::ExitCode;
 use crate::listing::listing;
 use crate::plan::{chains, plan_len, round_at, stop_at};
 use crate::reference::{limit, plan};
-use crate::refusal::{limiter_accepted, refusal};
+use crate::refusal::{accepted, limiter_accepted, refusal, METHODS, OFFERED};
 use crate::sheet::{field, Row, Sheet, Vehicle};
 use crate::sheet::{DEPOT, MAX_DISTANCE, REST, WINDOW};
 
@@ -44,6 +44,7 @@ pub fn run() -> ExitCode {
     relatives(&mut tally);
     rests(&mut tally);
     turned_back(&mut tally);
+    offered(&mut tally);
     turned_back_by_limiter(&mut tally);
     limited(&mut tally);
     costs(&mut tally);
@@ -110,7 +111,7 @@ fn stands(plan: &[u8], sheet: &Sheet) -> Stands {
 }
 
 fn planned(sheet: &Sheet) -> Vec<u8> {
-    plan(&sheet.encode()).expect("an accepted sheet")
+    plan(METHODS, &sheet.encode()).expect("an accepted sheet")
 }
 
 /// Rows 1 to 10, 14 and 15 of "Sheet A and its relatives", and the listing of the first.
@@ -187,13 +188,26 @@ fn turned_back(tally: &mut Tally) {
     ];
     let round = planned(&sheet);
     for (number, bytes) in examples {
-        tally.expect("planner", refusal(&bytes, plan_len(3)), number);
+        tally.expect("planner", planner_refusal(&bytes, plan_len(3)), number);
         tally.expect("limiter", limiter_refusal(&bytes, &round, plan_len(3)), number);
     }
     let bytes = sheet.encode();
-    tally.expect("longer plan", refusal(&bytes, plan_len(3) + 1), 4);
+    tally.expect("longer plan", planner_refusal(&bytes, plan_len(3) + 1), 4);
     tally.expect("longer plan out", limiter_refusal(&bytes, &round, plan_len(3) + 1), 4);
     tally.expect("no plan in", limiter_refusal(&bytes, &[], plan_len(3)), 4);
+}
+
+/// Methods that are not offered are refused as 3, and no others.
+fn offered(tally: &mut Tally) {
+    for &method in METHODS {
+        let number = if OFFERED.contains(&method) { 0 } else { 3 };
+        tally.expect("offered", refusal(&sheet_a(method).encode(), plan_len(3)), number);
+    }
+}
+
+/// The answer of a planner that offers every method.
+fn planner_refusal(sheet: &[u8], plan_len: usize) -> u32 {
+    accepted(METHODS, sheet, &[plan_len]).err().unwrap_or(0)
 }
 
 fn limiter_refusal(sheet: &[u8], plan_in: &[u8], plan_out_len: usize) -> u32 {
@@ -204,7 +218,7 @@ fn limiter_refusal(sheet: &[u8], plan_in: &[u8], plan_out_len: usize) -> u32 {
 fn turned_back_by_limiter(tally: &mut Tally) {
     let depots = with_depots().encode();
     let round = planned(&sheet_a(SAVINGS));
-    tally.expect("planner, 2 depots", refusal(&depots, plan_len(3)), 0);
+    tally.expect("planner, 2 depots", planner_refusal(&depots, plan_len(3)), 0);
     tally.expect("limiter, 2 depots", limiter_refusal(&depots, &round, plan_len(3)), 9);
     let next_of = |row| stop_at(3, row);
     let damages: [(&str, usize, u8); 7] = [

@@ -1,0 +1,336 @@
+//! Fits a sheet to what its rounds reach, or one step beside it, so that every comparison is tried
+//! at the tie.
+
+use u_routing::evaluation::RouteLimits;
+
+use crate::generate::beside;
+use crate::greedy::{Candidate, Front};
+use crate::random::Random;
+use crate::reference::{Problem, Table};
+use crate::refusal::{MOST_FIGURE, MOST_MAXIMUM};
+use crate::sheet::{Sheet, Vehicle, MAX_DISTANCE, MAX_DURATION, PENALTY, REST, WINDOW};
+
+/// Windows tried until a wait rounds.
+const WAITS: usize = 12;
+
+/// A vehicle, by its index, and its stops.
+#[derive(Clone)]
+pub struct Round {
+    pub vehicle: usize,
+    pub stops: Vec<usize>,
+}
+
+/// Gives a round's vehicle a rest that starts, or is not needed, just at a time of the round.
+pub fn fit_rest(sheet: &mut Sheet, round: &Round, random: &mut Random) {
+    let problem = Problem::taken(sheet);
+    let driver = &problem.vehicles[round.vehicle];
+    let vehicle = &mut sheet.vehicles[round.vehicle];
+    vehicle.marks |= REST;
+    if round.stops.is_empty() || random.one_in(2) {
+        let free = problem.eval(driver, &round.stops, &RouteLimits::NONE);
+        let home = free.map_or(0.0, |eval| eval.duration);
+        vehicle.earliest = beside(random, home, MOST_FIGURE);
+        vehicle.latest = vehicle.latest.max(vehicle.earliest);
+    } else {
+        let route = problem.built(driver, &round.stops);
+        let visit = &route.visits()[random.below(round.stops.len())];
+        vehicle.latest = beside(random, visit.arrival_time, MOST_FIGURE);
+        vehicle.earliest = vehicle.earliest.min(vehicle.latest);
+    }
+}
+
+/// Gives a stop of a round a window that closes or opens just as the vehicle arrives.
+pub fn fit_window(sheet: &mut Sheet, round: &Round, random: &mut Random) {
+    if round.stops.is_empty() {
+        return;
+    }
+    let problem = Problem::taken(sheet);
+    let route = problem.built(&problem.vehicles[round.vehicle], &round.stops);
+    let visit = &route.visits()[random.below(round.stops.len())];
+    let arrival = beside(random, visit.arrival_time, MOST_FIGURE);
+    let row = &mut sheet.rows[visit.customer_id];
+    row.marks |= WINDOW;
+    if random.one_in(3) {
+        row.ready = arrival;
+        row.due = row.due.max(arrival);
+    } else {
+        row.due = arrival;
+        row.ready = row.ready.min(arrival);
+    }
+}
+
+/// Sets a maximum, and at times takes the other away, which it might be hidden by.
+pub fn fit_maximum(sheet: &mut Sheet, round: &Round, random: &mut Random) {
+    let problem = Problem::taken(sheet);
+    let route = problem.built(&problem.vehicles[round.vehicle], &round.stops);
+    let vehicle = &mut sheet.vehicles[round.vehicle];
+    if random.one_in(2) {
+        vehicle.marks &= REST;
+        (vehicle.max_distance, vehicle.max_duration) = (0.0, 0.0);
+    }
+    if random.one_in(2) {
+        vehicle.marks |= MAX_DISTANCE;
+        vehicle.max_distance = beside(random, route.total_distance(), MOST_MAXIMUM);
+    } else {
+        vehicle.marks |= MAX_DURATION;
+        vehicle.max_duration = beside(random, route.total_duration(), MOST_MAXIMUM);
+    }
+}
+
+/// A round of a sheet's plan cut short, and a stop that could come next.
+pub struct Step {
+    problem: Problem,
+    round: Round,
+    /// The stops before it was cut.
+    whole: Vec<usize>,
+    stop: usize,
+}
+
+impl Step {
+    /// `None` for a sheet without a vehicle or a stop.
+    pub fn new(sheet: &Sheet, random: &mut Random) -> Option<Step> {
+        let (depots, rows) = (sheet.depots(), sheet.rows.len());
+        if sheet.vehicles.is_empty() || depots >= rows {
+            return None;
+        }
+        let problem = Problem::taken(sheet);
+        let mut round = Round { vehicle: random.below(sheet.vehicles.len()), stops: vec![] };
+        let solution = problem.solution();
+        if solution.num_routes() > 0 && !random.one_in(6) {
+            let made = &solution.routes()[random.below(solution.num_routes())];
+            let driver = |vehicle: &Vehicle| vehicle.id as usize == made.vehicle_id();
+            round.vehicle = sheet.vehicles.iter().position(driver)?;
+            round.stops = made.customer_ids();
+        }
+        let whole = round.stops.clone();
+        round.stops.truncate(random.below(whole.len() + 1).min(rows - depots - 1));
+        let others: Vec<usize> = (depots..rows).filter(|k| !round.stops.contains(k)).collect();
+        let next = whole.get(round.stops.len()).copied();
+        let stop = next.filter(|_| random.one_in(2)).unwrap_or_else(|| random.pick(&others));
+        Some(Step { problem, round, whole, stop })
+    }
+
+    /// The round with the stop.
+    fn extended(&self) -> Round {
+        let Round { vehicle, stops } = &self.round;
+        Round { vehicle: *vehicle, stops: [&stops[..], &[self.stop]].concat() }
+    }
+
+    fn candidate(&self, stop: usize) -> Candidate {
+        let &Problem { method, ref customers, ref distances, ref vehicles } = &self.problem;
+        let table = Table { method, customers, distances, vehicles };
+        Front::at(&table, &vehicles[self.round.vehicle], &self.round.stops).candidate(stop)
+    }
+
+    pub fn fit(&self, sheet: &mut Sheet, fit: Fit, random: &mut Random) {
+        match fit {
+            Fit::Maximum => fit_maximum(sheet, &self.extended(), random),
+            Fit::Test => self.fit_test(sheet, random),
+            Fit::Due => self.fit_due(sheet, random),
+            Fit::Wait => self.fit_wait(sheet, random),
+            Fit::Alone => self.fit_alone(sheet, random),
+            Fit::Window => fit_window(sheet, &self.extended(), random),
+            Fit::Rest => fit_rest(sheet, &self.extended(), random),
+            Fit::RestEnd => self.fit_rest_end(sheet, random),
+            Fit::Capacity => self.fit_capacity(sheet, random),
+            Fit::Key => self.fit_key(sheet, random),
+            Fit::Dear => self.fit_dear(sheet, random),
+            Fit::Depot => fit_depot(sheet, self.stop, random),
+        }
+    }
+
+    /// Sets a maximum to what a nearest neighbour holds to it, summed in its own order or another.
+    fn fit_test(&self, sheet: &mut Sheet, random: &mut Random) {
+        let candidate = self.candidate(self.stop);
+        let vehicle = &mut sheet.vehicles[self.round.vehicle];
+        unlimit(vehicle);
+        if random.one_in(3) {
+            vehicle.marks = MAX_DISTANCE;
+            let (right, wrong) = (candidate.distance, candidate.other_distance);
+            vehicle.max_distance = between(random, right, &[wrong], MOST_MAXIMUM);
+        } else {
+            vehicle.marks = MAX_DURATION;
+            let (right, wrong) = (candidate.duration, candidate.other_durations);
+            vehicle.max_duration = between(random, right, &wrong, MOST_MAXIMUM);
+        }
+    }
+
+    /// Opens the stop's window so long after the arrival that the wait rounds, and then sets a
+    /// maximum to a round with it.
+    fn fit_wait(&self, sheet: &mut Sheet, random: &mut Random) {
+        let arrival = self.candidate(self.stop).arrival;
+        self.open_after(sheet, arrival, arrival, random);
+        if sheet.vehicles[self.round.vehicle].marks & REST != 0 {
+            fit_maximum(sheet, &self.extended(), random);
+        } else if random.one_in(3) {
+            self.anew(sheet).fit_test(sheet, random);
+        } else if let Some(next) = self.next(sheet, random) {
+            match random.below(2) {
+                0 => next.fit_test(sheet, random),
+                _ => next.fit_due(sheet, random),
+            }
+        }
+    }
+
+    /// Opens the stop's window after both times, so that the wait from the first rounds.
+    fn open_after(&self, sheet: &mut Sheet, time: f64, other: f64, random: &mut Random) {
+        let row = &mut sheet.rows[self.stop];
+        for _ in 0..WAITS {
+            let ready = time.max(other).ceil() + 0.1 * random.below(1000) as f64;
+            if time + (ready - time) != ready && ready <= MOST_FIGURE {
+                row.marks |= WINDOW;
+                (row.ready, row.due) = (ready, row.due.max(ready));
+                return;
+            }
+        }
+    }
+
+    /// A window that closes just as the vehicle comes, or as it would by another clock.
+    fn fit_due(&self, sheet: &mut Sheet, random: &mut Random) {
+        let Candidate { arrival, other_arrival, .. } = self.candidate(self.stop);
+        let row = &mut sheet.rows[self.stop];
+        row.marks |= WINDOW;
+        row.due = between(random, arrival, &[other_arrival], MOST_FIGURE);
+        row.ready = row.ready.min(row.due);
+    }
+
+    /// The step after this one, with any stop that is left.
+    fn next(&self, sheet: &Sheet, random: &mut Random) -> Option<Step> {
+        let round = self.extended();
+        let left = sheet.depots()..sheet.rows.len();
+        let left: Vec<usize> = left.filter(|k| !round.stops.contains(k)).collect();
+        let stop = *left.get(random.below(left.len().max(1)))?;
+        Some(Step { problem: Problem::taken(sheet), whole: round.stops.clone(), round, stop })
+    }
+
+    /// The same step of a sheet that has changed.
+    fn anew(&self, sheet: &Sheet) -> Step {
+        let (round, whole) = (self.round.clone(), self.whole.clone());
+        Step { problem: Problem::taken(sheet), round, whole, stop: self.stop }
+    }
+
+    /// A window that closes, or a rest that has to start, just as the rest before the stop allows.
+    fn fit_rest_end(&self, sheet: &mut Sheet, random: &mut Random) {
+        let vehicle = &mut sheet.vehicles[self.round.vehicle];
+        if vehicle.marks & REST == 0 {
+            return;
+        }
+        let start = self.candidate(self.stop).arrival.max(vehicle.earliest);
+        if random.one_in(2) {
+            vehicle.latest = beside(random, start, MOST_FIGURE).max(vehicle.earliest);
+        }
+        let row = &mut sheet.rows[self.stop];
+        row.marks |= WINDOW;
+        row.due = beside(random, start + vehicle.rest_duration, MOST_FIGURE);
+        row.ready = row.ready.min(row.due);
+    }
+
+    fn fit_capacity(&self, sheet: &mut Sheet, random: &mut Random) {
+        let load = self.candidate(self.stop).load;
+        sheet.vehicles[self.round.vehicle].capacity = random.pick(&[load, load, load - 1]).max(0);
+    }
+
+    /// Gives another stop the leg that makes its key this one's.
+    fn fit_key(&self, sheet: &mut Sheet, random: &mut Random) {
+        let (depots, rows) = (sheet.depots(), sheet.rows.len());
+        let other = depots + random.below(rows - depots);
+        let from = self.round.stops.last().copied();
+        let from = from.unwrap_or(sheet.vehicles[self.round.vehicle].depot as usize);
+        let leg = &mut sheet.distances[from * rows + other];
+        let late_cost = self.candidate(other).key - *leg;
+        let key = self.candidate(self.stop).key;
+        *leg = random.pick(&[key, key - late_cost, (key - late_cost).next_down()]).max(0.0);
+        *leg = leg.min(MOST_FIGURE);
+    }
+
+    /// A fixed cost that makes going alone cost what is added; the stop's window is soft.
+    fn fit_dear(&self, sheet: &mut Sheet, random: &mut Random) {
+        let row = &mut sheet.rows[self.stop];
+        if row.marks & WINDOW == 0 {
+            row.marks |= WINDOW;
+            row.due = beside(random, self.candidate(self.stop).arrival / 2.0, MOST_FIGURE);
+        }
+        if row.marks & PENALTY == 0 {
+            row.marks |= PENALTY;
+            row.penalty = random.pick(&[0.0, 0.1, 0.5, 1.0, 1.0, 2.0, 3.0]);
+        }
+        let vehicle = &mut sheet.vehicles[self.round.vehicle];
+        (vehicle.cost_per_distance, vehicle.fixed_cost) = (1.0, 0.0);
+        let candidate = self.anew(sheet).candidate(self.stop);
+        let Candidate { added, other_added, alone, .. } = candidate;
+        let vehicle = &mut sheet.vehicles[self.round.vehicle];
+        if added > alone && added - alone < MOST_FIGURE {
+            vehicle.fixed_cost = beside(random, added.max(other_added) - alone, MOST_FIGURE);
+        }
+    }
+
+    /// A stop that waits, soft and as dear next as alone, where a round of it alone just keeps a
+    /// maximum or just does not.
+    fn fit_alone(&self, sheet: &mut Sheet, random: &mut Random) {
+        let stop = self.stop;
+        let mut round = self.round.clone();
+        round.stops = self.whole.iter().copied().filter(|&other| other != stop).collect();
+        let Some(&current) = round.stops.last() else {
+            return fit_maximum(sheet, &self.extended(), random);
+        };
+        let rows = sheet.rows.len();
+        let depot = sheet.vehicles[round.vehicle].depot as usize;
+        let there = sheet.distances[current * rows + depot] + sheet.distances[depot * rows + stop];
+        sheet.distances[current * rows + stop] = there.min(MOST_FIGURE);
+        let vehicle = &mut sheet.vehicles[self.round.vehicle];
+        unlimit(vehicle);
+        vehicle.fixed_cost = 0.0;
+        let step = Step { round, ..self.anew(sheet) };
+        let leg = step.problem.distances.travel_time(depot, stop);
+        step.open_after(sheet, leg, step.candidate(stop).arrival, random);
+        let row = &mut sheet.rows[stop];
+        row.marks |= WINDOW | PENALTY;
+        row.due = row.due.max(row.ready);
+        let home = step.problem.distances.travel_time(stop, depot);
+        let durations = [leg + (row.ready - leg).max(0.0), leg.max(row.ready)];
+        let [right, wrong] = durations.map(|start| start + row.service + home);
+        let vehicle = &mut sheet.vehicles[self.round.vehicle];
+        vehicle.marks = MAX_DURATION;
+        vehicle.max_duration = between(random, right, &[wrong], MOST_MAXIMUM);
+    }
+}
+
+/// Takes a vehicle's maxima and its rest away.
+fn unlimit(vehicle: &mut Vehicle) {
+    vehicle.marks = 0;
+    (vehicle.max_distance, vehicle.max_duration) = (0.0, 0.0);
+    (vehicle.earliest, vehicle.latest, vehicle.rest_duration) = (0.0, 0.0, 0.0);
+}
+
+/// The lesser of a sum and a wrong one, which a maximum there tells apart; or a step beside it.
+fn between(random: &mut Random, right: f64, wrong: &[f64], most: f64) -> f64 {
+    let apart: Vec<f64> = wrong.iter().copied().filter(|&sum| sum != right).collect();
+    if apart.is_empty() || random.one_in(4) {
+        return beside(random, right, most);
+    }
+    right.min(random.pick(&apart)).clamp(0.0, most)
+}
+
+/// Puts a stop as far from one depot as from another, or one step beside it.
+fn fit_depot(sheet: &mut Sheet, stop: usize, random: &mut Random) {
+    let (depots, rows) = (sheet.depots(), sheet.rows.len());
+    let far = sheet.distances[random.below(depots) * rows + stop];
+    sheet.distances[random.below(depots) * rows + stop] = beside(random, far, MOST_FIGURE);
+}
+
+/// What a sheet can be fitted to.
+#[derive(Clone, Copy)]
+pub enum Fit {
+    Maximum,
+    Test,
+    Alone,
+    Wait,
+    Due,
+    Window,
+    Rest,
+    RestEnd,
+    Capacity,
+    Key,
+    Dear,
+    Depot,
+}

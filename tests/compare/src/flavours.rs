@@ -1,0 +1,347 @@
+//! Sheets to plan, by flavour: each leans on what a port could get wrong, and is fitted to its own
+//! plan so that the comparisons are met at their ties.
+//!
+//! A sheet depends on the seed and its number alone, so that each can be drawn again.
+
+use crate::damage::{noise, noise_after_header, Base, Values};
+use crate::fit::{Fit, Step};
+use crate::generate::{random_sheet, straight};
+use crate::plan::plan_len;
+use crate::random::Random;
+use crate::refusal::{needs_vehicle, MOST_ROWS, MOST_VEHICLES};
+use crate::sheet::{Row, Sheet, Vehicle};
+use crate::sheet::{DEPOT, MAX_DISTANCE, MAX_DURATION, PENALTY, REST, WINDOW};
+
+/// The most stops of a usual sheet, and the fewest of a large one.
+const SMALL: usize = 7;
+const LARGE: usize = 19;
+/// A plan buffer of a wrong length is kept below this.
+const MOST_LENT: usize = 1 << 17;
+
+/// One call of the planner.
+pub struct Drawn {
+    pub flavour: usize,
+    pub sheet: Vec<u8>,
+    pub plan_len: usize,
+}
+
+/// How the numbers of a sheet are drawn.
+#[derive(Clone, Copy)]
+enum Numbers {
+    /// Few and whole, so that most of them tie.
+    Few,
+    Whole,
+    /// Sums of these round.
+    Tenths,
+    Thirds,
+    Fine,
+}
+use Numbers::{Few, Fine, Tenths, Thirds, Whole};
+
+/// What a flavour's sheets are made of.
+struct Recipe {
+    numbers: &'static [Numbers],
+    /// Of 12 rows so many have a window, and so many a penalty.
+    windows: usize,
+    penalties: usize,
+    /// The vehicle marks that occur.
+    marks: u32,
+    depots: &'static [usize],
+    fits: &'static [Fit],
+}
+
+pub const FLAVOURS: [&str; 11] = [
+    "ties", "tenths", "waits", "limits", "rests", "soft", "depots", "whole", "large", "any",
+    "refused",
+];
+const WHOLE: usize = 7;
+const LARGE_FLAVOUR: usize = 8;
+const ANY: usize = 9;
+const REFUSED: usize = 10;
+/// How likely each is.
+const SHARES: [usize; 11] = [12, 9, 14, 15, 15, 18, 18, 12, 2, 6, 8];
+
+const MAXIMA: u32 = MAX_DISTANCE | MAX_DURATION;
+
+/// Of the flavours before `large`.
+const RECIPES: [Recipe; 8] = [
+    Recipe {
+        numbers: &[Few],
+        windows: 2,
+        penalties: 2,
+        marks: MAXIMA | REST,
+        depots: &[1, 1, 2],
+        fits: &[Fit::Key, Fit::Key, Fit::Capacity, Fit::Depot],
+    },
+    Recipe {
+        numbers: &[Tenths],
+        windows: 4,
+        penalties: 2,
+        marks: MAXIMA | REST,
+        depots: &[1, 1, 1, 2],
+        fits: &[Fit::Test, Fit::Maximum, Fit::Due, Fit::Capacity],
+    },
+    Recipe {
+        numbers: &[Tenths, Thirds, Fine],
+        windows: 10,
+        penalties: 2,
+        marks: MAXIMA | REST,
+        depots: &[1, 1, 1, 2],
+        fits: &[Fit::Wait, Fit::Wait, Fit::Due, Fit::Window, Fit::Test, Fit::Maximum],
+    },
+    Recipe {
+        numbers: &[Tenths, Thirds, Fine],
+        windows: 2,
+        penalties: 1,
+        marks: MAXIMA,
+        depots: &[1, 1, 1, 2],
+        fits: &[Fit::Test, Fit::Test, Fit::Maximum],
+    },
+    Recipe {
+        numbers: &[Few, Whole, Tenths, Thirds],
+        windows: 4,
+        penalties: 2,
+        marks: MAXIMA | REST,
+        depots: &[1, 1, 1, 2],
+        fits: &[Fit::Rest, Fit::Rest, Fit::RestEnd, Fit::Maximum, Fit::Window, Fit::Wait],
+    },
+    Recipe {
+        numbers: &[Few, Whole, Whole, Tenths, Fine],
+        windows: 8,
+        penalties: 9,
+        marks: MAXIMA | REST,
+        depots: &[1, 1, 1, 2],
+        fits: &[
+            Fit::Dear,
+            Fit::Dear,
+            Fit::Dear,
+            Fit::Key,
+            Fit::Window,
+            Fit::Wait,
+            Fit::Test,
+            Fit::Alone,
+            Fit::Rest,
+        ],
+    },
+    Recipe {
+        numbers: &[Few, Whole, Tenths, Fine],
+        windows: 4,
+        penalties: 3,
+        marks: MAXIMA | REST,
+        depots: &[2, 2, 3, 3, 4],
+        fits: &[Fit::Capacity, Fit::Depot, Fit::Test, Fit::Window, Fit::Key, Fit::Dear],
+    },
+    Recipe {
+        numbers: &[Few, Whole, Whole],
+        windows: 4,
+        penalties: 0,
+        marks: MAXIMA | REST,
+        depots: &[1, 1, 1, 2, 3],
+        fits: &[Fit::Test, Fit::Maximum, Fit::Window, Fit::Rest, Fit::RestEnd, Fit::Capacity],
+    },
+];
+
+/// The sheet of a number, of one of these methods if its header is not damaged.
+pub fn drawn(methods: &[u8], seed: u64, number: usize) -> Drawn {
+    let mixed = Random::new(seed ^ (number as u64).wrapping_mul(0xd134_2543_de82_ef95)).bits();
+    let random = &mut Random::new(mixed);
+    let mut share = random.below(SHARES.iter().sum());
+    let mut flavour = 0;
+    while share >= SHARES[flavour] {
+        share -= SHARES[flavour];
+        flavour += 1;
+    }
+    if flavour == REFUSED {
+        return refused(methods, random);
+    }
+    let sheet = sheet(methods, flavour, random);
+    Drawn { flavour, sheet: sheet.encode(), plan_len: plan_len(sheet.rows.len()) }
+}
+
+/// A sheet whose rounds have to be lawful.
+pub fn whole_sheet(methods: &[u8], random: &mut Random) -> Vec<u8> {
+    sheet(methods, WHOLE, random).encode()
+}
+
+/// A damaged sheet, a plan buffer of a wrong length, or noise. Some of these are no worse for it.
+fn refused(methods: &[u8], random: &mut Random) -> Drawn {
+    let case = match random.below(16) {
+        0 => noise(random.below(200), random),
+        1 => noise_after_header(random),
+        _ => {
+            let flavour = random.pick(&[0, 4, 6, ANY]);
+            Base::new(&sheet(methods, flavour, random)).damaged(&Values::all(), random)
+        }
+    };
+    Drawn { flavour: REFUSED, sheet: case.sheet, plan_len: case.plan_len % MOST_LENT }
+}
+
+fn sheet(methods: &[u8], flavour: usize, random: &mut Random) -> Sheet {
+    let method = random.pick(methods);
+    if flavour == ANY {
+        return loop {
+            let sheet = Sheet { method, ..random_sheet(random) };
+            let bare = sheet.vehicles.is_empty() && needs_vehicle(method);
+            let over = sheet.rows.len() > MOST_ROWS || sheet.vehicles.len() > MOST_VEHICLES;
+            if !over && !bare {
+                break sheet;
+            }
+        };
+    }
+    let (recipe, stops) = match flavour {
+        LARGE_FLAVOUR => (random.below(RECIPES.len()), LARGE + random.below(MOST_ROWS - LARGE)),
+        _ => (flavour, 1 + random.below(SMALL)),
+    };
+    let mut sheet = RECIPES[recipe].sheet(method, stops, random);
+    for _ in 0..random.pick(&[0, 1, 1, 2, 3, 4]) {
+        let fit = random.pick(RECIPES[recipe].fits);
+        if let Some(step) = Step::new(&sheet, random) {
+            step.fit(&mut sheet, fit, random);
+        }
+    }
+    if recipe == WHOLE {
+        make_whole(&mut sheet);
+    }
+    sheet
+}
+
+/// Rounds all that a lawful round is read from; the maxima stay.
+fn make_whole(sheet: &mut Sheet) {
+    let round = |figures: &mut [&mut f64]| figures.iter_mut().for_each(|x| **x = x.round());
+    for row in &mut sheet.rows {
+        round(&mut [&mut row.service, &mut row.ready, &mut row.due]);
+    }
+    for vehicle in &mut sheet.vehicles {
+        round(&mut [&mut vehicle.earliest, &mut vehicle.latest, &mut vehicle.rest_duration]);
+    }
+    sheet.distances.iter_mut().chain(sheet.times.iter_mut().flatten()).for_each(|x| *x = x.round());
+}
+
+fn number(random: &mut Random, numbers: Numbers) -> f64 {
+    match numbers {
+        Few => random.below(5) as f64,
+        Whole => random.below(40) as f64,
+        Tenths => random.below(400) as f64 * 0.1,
+        Thirds => random.below(120) as f64 / 3.0,
+        Fine => 40.0 * random.unit(),
+    }
+}
+
+impl Recipe {
+    fn sheet(&self, method: u8, stops: usize, random: &mut Random) -> Sheet {
+        let numbers = random.pick(self.numbers);
+        let depots = random.pick(self.depots);
+        let rows = (depots + stops).min(MOST_ROWS);
+        let mut sheet = Sheet {
+            method,
+            rows: (0..rows).map(|k| self.row(random, numbers, k < depots)).collect(),
+            vehicles: Vec::new(),
+            distances: Vec::new(),
+            times: None,
+        };
+        if depots == 1 && random.one_in(4) {
+            sheet.rows[0].marks &= !DEPOT;
+        }
+        let count = match random.below(32) {
+            0 => usize::from(needs_vehicle(method)),
+            1 => MOST_VEHICLES,
+            _ => depots + random.below(3),
+        };
+        let first = random.pick(&[0, 7, u32::MAX - 20]);
+        let ids = random.pick(&[[0, 1], [16, u32::MAX]]);
+        for k in 0..count as u32 {
+            let id = first.wrapping_add(ids[0]).wrapping_add(ids[1].wrapping_mul(k));
+            let vehicle = self.vehicle(random, numbers, &sheet, depots);
+            sheet.vehicles.push(Vehicle { id, ..vehicle });
+        }
+        sheet.distances = matrix(random, numbers, &sheet.rows);
+        if random.one_in(3) {
+            sheet.times = Some(matrix(random, numbers, &sheet.rows));
+        }
+        sheet
+    }
+
+    fn row(&self, random: &mut Random, numbers: Numbers, depot: bool) -> Row {
+        let stray = random.one_in(24);
+        let reach = random.pick(&[2, 20]);
+        let mut coordinate = || random.below(2 * reach + 1) as i32 - reach as i32;
+        let (x, y) = (coordinate(), coordinate());
+        let mut row = Row {
+            x,
+            y,
+            demand: random.pick(&[0, 1, 1, 1, 2, 2, 3, 5]),
+            marks: if depot || stray { DEPOT } else { 0 },
+            ..Row::default()
+        };
+        if random.one_in(2) {
+            row.service = number(random, numbers);
+        }
+        if random.below(12) < self.windows {
+            row.marks |= WINDOW;
+            row.ready = random.pick(&[0.0, 1.0, 2.0, 4.0]) * number(random, numbers);
+            row.due = row.ready + random.pick(&[0.0, 1.0, 4.0, 8.0]) * number(random, numbers);
+        }
+        if random.below(12) < self.penalties {
+            row.marks |= PENALTY;
+            row.penalty = random.pick(&[0.0, 0.1, 0.3, 0.5, 1.0, 2.0, 7.0]);
+        }
+        row
+    }
+
+    fn vehicle(
+        &self,
+        random: &mut Random,
+        numbers: Numbers,
+        sheet: &Sheet,
+        depots: usize,
+    ) -> Vehicle {
+        let taken = random.pick(&[1, 1, 2, 3, 4]);
+        let carried = (0..taken).map(|_| sheet.rows[random.below(sheet.rows.len())].demand).sum();
+        let mut vehicle = Vehicle {
+            depot: random.below(depots) as u32,
+            capacity: random.pick(&[carried, carried, 1_000_000]),
+            marks: random.below(8) as u32 & random.below(8) as u32 & self.marks,
+            cost_per_distance: random.pick(&[0.0, 0.1, 1.0, 1.0, 2.0, 3.0]),
+            ..Vehicle::default()
+        };
+        if random.one_in(2) {
+            vehicle.fixed_cost = number(random, numbers);
+        }
+        let mut times = |of: &[f64]| random.pick(of) * number(random, numbers);
+        if vehicle.marks & MAX_DISTANCE != 0 {
+            vehicle.max_distance = times(&[2.0, 4.0, 8.0]);
+        }
+        if vehicle.marks & MAX_DURATION != 0 {
+            vehicle.max_duration = times(&[2.0, 4.0, 8.0, 16.0]);
+        }
+        if vehicle.marks & REST != 0 {
+            vehicle.earliest = times(&[1.0, 2.0]);
+            vehicle.latest = vehicle.earliest + times(&[0.0, 1.0, 2.0]);
+            vehicle.rest_duration = times(&[0.0, 1.0]);
+        }
+        vehicle
+    }
+}
+
+/// Legs as the rows lie, drawn for both ways at once, or for each.
+fn matrix(random: &mut Random, numbers: Numbers, rows: &[Row]) -> Vec<f64> {
+    let count = rows.len();
+    let mut matrix: Vec<f64> = match random.below(6) {
+        0 if matches!(numbers, Tenths | Thirds | Fine) => {
+            let leg = |k| straight(&rows[k / count], &rows[k % count]);
+            return (0..count * count).map(leg).collect();
+        }
+        _ => (0..count * count).map(|_| number(random, numbers)).collect(),
+    };
+    let (both_ways, idle) = (random.one_in(2), !random.one_in(6));
+    for k in 0..matrix.len() {
+        let (from, to) = (k / count, k % count);
+        if from == to && idle {
+            matrix[k] = 0.0;
+        }
+        if to < from && both_ways {
+            matrix[k] = matrix[to * count + from];
+        }
+    }
+    matrix
+}

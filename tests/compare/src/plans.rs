@@ -1,0 +1,194 @@
+//! `compare plans`: the planner's plans against the Rust's, bytes to bytes, and each plan against
+//! document 01's "A lawful round".
+
+use std::process::ExitCode;
+
+use crate::flavours::{drawn, Drawn, FLAVOURS};
+use crate::kinds::{solved, Seen, KINDS};
+use crate::lawful::{judge, Claims};
+use crate::listing::lines;
+use crate::plan::encode;
+use crate::planner;
+use crate::reference::Problem;
+use crate::refusal::{accepted, needs_vehicle, OFFERED};
+use crate::sheet::Sheet;
+
+/// Differences shown whole.
+const SHOWN: usize = 3;
+/// In a run of so many sheets every flavour and every kind has to occur.
+const MANY: usize = 100_000;
+/// Sheets up to this length are shown by their bytes.
+const MOST_SHOWN: usize = 4000;
+
+/// A plan buffer before the call.
+fn pattern(len: usize) -> Box<[u8]> {
+    (0..len).map(|k| (k as u8).wrapping_mul(37) ^ 0xa5).collect()
+}
+
+#[derive(Default)]
+struct Tally {
+    seed: u64,
+    sheets: [usize; FLAVOURS.len()],
+    differences: [usize; FLAVOURS.len()],
+    methods: [usize; 5],
+    answers: [usize; 9],
+    kinds: Vec<usize>,
+    claims: Claims,
+}
+
+pub fn run(count: usize, seed: u64) -> ExitCode {
+    println!("plans: seed {seed}");
+    let mut tally = Tally { seed, kinds: vec![0; KINDS.len()], ..Tally::default() };
+    (0..count).for_each(|number| tally.try_sheet(number));
+    tally.print();
+    let missing = count >= MANY && tally.missing();
+    if missing {
+        println!("  a flavour, a kind or an answer never occurred, so nothing is shown of it");
+    }
+    let differences: usize = tally.differences.iter().sum();
+    println!("plans: {count} sheets, {differences} differences");
+    ExitCode::from(u8::from(missing || differences > 0))
+}
+
+/// One sheet again, both answers shown.
+pub fn show(number: usize, seed: u64) -> ExitCode {
+    let drawn = drawn(OFFERED, seed, number);
+    let (right, ..) = expected(&drawn);
+    let said = answer(&drawn);
+    println!("{}", about(&drawn, seed, number));
+    println!("{}", decoded(&drawn, "Rust", &right));
+    println!("{}", decoded(&drawn, "planner", &said));
+    ExitCode::from(u8::from(said != right))
+}
+
+/// The Rust's answer and what it has met.
+fn expected(drawn: &Drawn) -> (Result<Vec<u8>, u32>, Seen, Option<&'static str>) {
+    match accepted(OFFERED, &drawn.sheet, &[drawn.plan_len]) {
+        Err(number) => (Err(number), Seen::default(), None),
+        Ok(sheet) => {
+            let (solution, seen, lost) = solved(&Problem::taken(&sheet));
+            (Ok(encode(sheet.rows.len(), &solution)), seen, lost)
+        }
+    }
+}
+
+/// The planner's, where a refused call leaves the buffer as it was; an answer that does not is 99.
+fn answer(drawn: &Drawn) -> Result<Vec<u8>, u32> {
+    let lent: Box<[u8]> = drawn.sheet[..].into();
+    let mut plan = pattern(drawn.plan_len);
+    match planner::plan(&lent, &mut plan) {
+        _ if lent[..] != drawn.sheet[..] => Err(98),
+        0 => Ok(plan.into()),
+        _ if plan != pattern(drawn.plan_len) => Err(99),
+        number => Err(number),
+    }
+}
+
+impl Tally {
+    fn try_sheet(&mut self, number: usize) {
+        let drawn = drawn(OFFERED, self.seed, number);
+        let (right, seen, lost) = expected(&drawn);
+        let said = answer(&drawn);
+        self.sheets[drawn.flavour] += 1;
+        self.answers[right.as_ref().err().copied().unwrap_or(0) as usize] += 1;
+        if right.is_ok() {
+            self.methods[usize::from(drawn.sheet[4])] += 1;
+        }
+        for (kind, count) in self.kinds.iter_mut().enumerate() {
+            *count += usize::from(seen.has(kind));
+        }
+        let broken = said.as_ref().ok().and_then(|plan| match &right {
+            Ok(_) => judge(&drawn.sheet, plan, &mut self.claims).err(),
+            Err(_) => None,
+        });
+        if let Some(what) = apart(&said, &right).or(lost.map(String::from)).or(broken) {
+            self.differ(&drawn, number, &what, [&right, &said]);
+        }
+    }
+
+    fn differ(
+        &mut self,
+        drawn: &Drawn,
+        number: usize,
+        what: &str,
+        [right, said]: [&Result<Vec<u8>, u32>; 2],
+    ) {
+        self.differences[drawn.flavour] += 1;
+        if self.differences.iter().sum::<usize>() <= SHOWN {
+            println!("difference: {what}; {}", about(drawn, self.seed, number));
+            println!("{}", decoded(drawn, "Rust", right));
+            println!("{}", decoded(drawn, "planner", said));
+        }
+    }
+
+    fn print(&self) {
+        println!("  {:40} {:>9} {:>12}", "flavour", "sheets", "differences");
+        for ((name, sheets), differences) in FLAVOURS.iter().zip(self.sheets).zip(self.differences)
+        {
+            println!("  {name:40} {sheets:>9} {differences:>12}");
+        }
+        for (number, times) in self.answers.iter().enumerate() {
+            println!("  {:40} {times:>9}", format!("answer {number}"));
+        }
+        for &method in OFFERED {
+            let times = self.methods[usize::from(method)];
+            println!("  {:40} {times:>9}", format!("plans of method {method}"));
+        }
+        for (kind, times) in KINDS.iter().zip(&self.kinds) {
+            println!("  {kind:40} {times:>9}");
+        }
+        self.claims.print();
+    }
+
+    fn missing(&self) -> bool {
+        let vehicles = OFFERED.iter().any(|&method| needs_vehicle(method));
+        let answers = if vehicles { &self.answers[..] } else { &self.answers[..8] };
+        let methods = |&method: &u8| self.methods[usize::from(method)] == 0;
+        self.sheets.contains(&0)
+            || self.kinds.contains(&0)
+            || answers.contains(&0)
+            || OFFERED.iter().any(methods)
+            || self.claims.missing(OFFERED)
+    }
+}
+
+/// Where two answers part.
+fn apart(said: &Result<Vec<u8>, u32>, right: &Result<Vec<u8>, u32>) -> Option<String> {
+    match (said, right) {
+        _ if said == right => None,
+        (Ok(said), Ok(right)) => {
+            let at = said.iter().zip(right).position(|(one, other)| one != other);
+            Some(format!("another plan, from byte {} on", at.unwrap_or(right.len())))
+        }
+        _ => Some("another answer".into()),
+    }
+}
+
+fn about(drawn: &Drawn, seed: u64, number: usize) -> String {
+    let Drawn { flavour, sheet, plan_len } = drawn;
+    let hex: String = sheet.iter().take(MOST_SHOWN).map(|byte| format!("{byte:02x}")).collect();
+    let more = if sheet.len() > MOST_SHOWN { ".." } else { "" };
+    let method = sheet.get(4).map_or("none".into(), |method| method.to_string());
+    format!(
+        "seed {seed}, sheet {number}, flavour {}, method {method}, plan of {plan_len} bytes, \
+         sheet {hex}{more}",
+        FLAVOURS[*flavour]
+    )
+}
+
+/// An answer as the listing shows it, and the cost.
+fn decoded(drawn: &Drawn, who: &str, answer: &Result<Vec<u8>, u32>) -> String {
+    match answer {
+        Err(98) => format!("{who}: the sheet was changed"),
+        Err(99) => format!("{who}: refused, but the plan buffer was changed"),
+        Err(number) => format!("{who}: refused {number}"),
+        Ok(plan) => {
+            let read = accepted(OFFERED, &drawn.sheet, &[plan.len()]).ok();
+            let text = read.and_then(|sheet: Sheet| lines(plan, &sheet));
+            let text = text.unwrap_or_else(|| "no plan of this sheet\n".into());
+            let cost = plan.get(8..16).map_or(&[][..], |cost| cost);
+            let cost: String = cost.iter().rev().map(|byte| format!("{byte:02X}")).collect();
+            format!("{who}: cost {cost}\n{}", text.trim_end())
+        }
+    }
+}
