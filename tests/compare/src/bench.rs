@@ -108,13 +108,13 @@ fn time(_: usize, drive: &Drive) -> Option<[f64; 3]> {
     Some(runs.map(median))
 }
 
-fn nanoseconds(work: impl FnOnce() -> usize) -> f64 {
+pub fn nanoseconds(work: impl FnOnce() -> usize) -> f64 {
     let start = Instant::now();
     black_box(work());
     start.elapsed().as_nanos() as f64
 }
 
-fn median(mut runs: Vec<f64>) -> f64 {
+pub fn median(mut runs: Vec<f64>) -> f64 {
     runs.sort_by(f64::total_cmp);
     runs[runs.len() / 2]
 }

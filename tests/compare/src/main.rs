@@ -10,6 +10,7 @@
 //!     compare bench                  the port's route_feasible against the Rust's, timed
 //!     compare bench instructions     the same, counted by valgrind
 //!     compare bench SIDE CASE RUNS   one side of one case alone, for a profiler
+//!     compare bench plans ..         the planner against the Rust, in the same three ways
 //!     compare freeze COUNT SEED DIR  writes DIR/stdin and DIR/stdout, a sample to keep
 //!
 //! build.rs says where the sources and the planner's library are looked for. The exit status is
@@ -18,6 +19,7 @@
 #![deny(warnings)]
 
 mod bench;
+mod bench_plans;
 mod checked;
 mod damage;
 mod fit;
@@ -45,13 +47,14 @@ use std::process::ExitCode;
 
 const USAGE: &str = "usage: compare selftest | refusals COUNT SEED | rounds COUNT SEED | \
                      plans COUNT SEED | plan NUMBER SEED | checked COUNT SEED | \
-                     bench [instructions | SIDE CASE RUNS] | freeze COUNT SEED DIR";
+                     bench [plans] [instructions | SIDE CASE RUNS] | freeze COUNT SEED DIR";
 
 fn main() -> ExitCode {
     let words: Vec<String> = std::env::args().skip(1).collect();
     let words: Vec<&str> = words.iter().map(String::as_str).collect();
     let done = match words[..] {
         ["selftest"] => Some(selftest::run()),
+        ["bench", "plans", ref words @ ..] => bench_plans::run(words),
         ["bench", ref words @ ..] => bench::run(words),
         ["refusals", count, seed] => numbers(count, seed).map(|(c, s)| refusals::run(c, s)),
         ["rounds", count, seed] => numbers(count, seed).map(|(c, s)| rounds::run(c, s)),
