@@ -12,6 +12,7 @@
 //!     compare bench SIDE CASE RUNS   one side of one case alone, for a profiler
 //!     compare bench plans ..         the planner against the Rust, in the same three ways
 //!     compare freeze COUNT SEED DIR  writes DIR/stdin and DIR/stdout, a sample to keep
+//!     compare freeze plans COUNT SEED DIR   the same, of plans
 //!
 //! build.rs says where the sources and the planner's library are looked for. The exit status is
 //! 0 if all is well, 1 for a failure or a difference, 2 if the command could not be run.
@@ -25,6 +26,7 @@ mod damage;
 mod fit;
 mod flavours;
 mod freeze;
+mod freeze_plans;
 mod generate;
 mod greedy;
 mod kinds;
@@ -42,12 +44,13 @@ mod selftest;
 mod sheet;
 mod stream;
 
+use std::io;
 use std::path::Path;
 use std::process::ExitCode;
 
 const USAGE: &str = "usage: compare selftest | refusals COUNT SEED | rounds COUNT SEED | \
                      plans COUNT SEED | plan NUMBER SEED | checked COUNT SEED | \
-                     bench [plans] [instructions | SIDE CASE RUNS] | freeze COUNT SEED DIR";
+                     bench [plans] [instructions | SIDE CASE RUNS] | freeze [plans] COUNT SEED DIR";
 
 fn main() -> ExitCode {
     let words: Vec<String> = std::env::args().skip(1).collect();
@@ -61,7 +64,12 @@ fn main() -> ExitCode {
         ["plans", count, seed] => numbers(count, seed).map(|(c, s)| plans::run(c, s)),
         ["plan", number, seed] => numbers(number, seed).map(|(n, s)| plans::show(n, s)),
         ["checked", count, seed] => numbers(count, seed).map(|(c, s)| checked::run(c, s)),
-        ["freeze", count, seed, folder] => numbers(count, seed).map(|(c, s)| freeze(c, s, folder)),
+        ["freeze", "plans", count, seed, folder] => {
+            numbers(count, seed).map(|(c, s)| written(folder, |to| freeze_plans::run(c, s, to)))
+        }
+        ["freeze", count, seed, folder] => {
+            numbers(count, seed).map(|(c, s)| written(folder, |to| freeze::run(c, s, to)))
+        }
         _ => None,
     };
     done.unwrap_or_else(|| {
@@ -74,8 +82,8 @@ fn numbers(count: &str, seed: &str) -> Option<(usize, u64)> {
     Some((count.parse().ok()?, seed.parse().ok()?))
 }
 
-fn freeze(count: usize, seed: u64, folder: &str) -> ExitCode {
-    match freeze::run(count, seed, Path::new(folder)) {
+fn written(folder: &str, write: impl FnOnce(&Path) -> io::Result<()>) -> ExitCode {
+    match write(Path::new(folder)) {
         Ok(()) => ExitCode::SUCCESS,
         Err(error) => {
             eprintln!("compare: {folder}: {error}");

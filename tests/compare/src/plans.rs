@@ -10,7 +10,7 @@ use crate::listing::lines;
 use crate::plan::encode;
 use crate::planner;
 use crate::reference::Problem;
-use crate::refusal::{accepted, needs_vehicle, OFFERED};
+use crate::refusal::{accepted, can_occur, OFFERED};
 use crate::sheet::Sheet;
 
 /// Differences shown whole.
@@ -61,8 +61,8 @@ pub fn show(number: usize, seed: u64) -> ExitCode {
     ExitCode::from(u8::from(said != right))
 }
 
-/// The Rust's answer and what it has met.
-fn expected(drawn: &Drawn) -> (Result<Vec<u8>, u32>, Seen, Option<&'static str>) {
+/// The Rust's answer, what it has met, and what is wrong with that.
+pub fn expected(drawn: &Drawn) -> (Result<Vec<u8>, u32>, Seen, Option<&'static str>) {
     match accepted(OFFERED, &drawn.sheet, &[drawn.plan_len]) {
         Err(number) => (Err(number), Seen::default(), None),
         Ok(sheet) => {
@@ -141,12 +141,11 @@ impl Tally {
     }
 
     fn missing(&self) -> bool {
-        let vehicles = OFFERED.iter().any(|&method| needs_vehicle(method));
-        let answers = if vehicles { &self.answers[..] } else { &self.answers[..8] };
+        let answers = (0..9).any(|number| self.answers[number] == 0 && can_occur(number));
         let methods = |&method: &u8| self.methods[usize::from(method)] == 0;
         self.sheets.contains(&0)
             || self.kinds.contains(&0)
-            || answers.contains(&0)
+            || answers
             || OFFERED.iter().any(methods)
             || self.claims.missing(OFFERED)
     }

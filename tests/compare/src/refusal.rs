@@ -66,6 +66,11 @@ pub fn needs_vehicle(method: u8) -> bool {
     matches!(method, 0 | 1 | 4)
 }
 
+/// Whether a call can be answered so: 8 is told of methods that ask for a vehicle alone.
+pub fn can_occur(number: usize) -> bool {
+    number != 8 || OFFERED.iter().any(|&method| needs_vehicle(method))
+}
+
 /// Refusals 1 to 10, for a plan out of `plan_out_len` bytes. The limiter takes a sheet of any method.
 pub fn limiter_accepted(
     bytes: &[u8],

@@ -8,7 +8,7 @@ use crate::damage::Case;
 use crate::plan::{chains, encode};
 use crate::planner;
 use crate::reference::Problem;
-use crate::refusal::{accepted, needs_vehicle, OFFERED};
+use crate::refusal::{accepted, can_occur, OFFERED};
 use crate::sheet::Sheet;
 use crate::stream::Stream;
 
@@ -44,11 +44,6 @@ pub fn run(count: usize, seed: u64) -> ExitCode {
     }
     println!("refusals: {} sheets, {} differences", tally.sheets, tally.differences);
     ExitCode::from(u8::from(missing || tally.differences > 0))
-}
-
-/// 8 is the answer of methods that ask for a vehicle alone.
-fn can_occur(number: usize) -> bool {
-    number != 8 || OFFERED.iter().any(|&method| needs_vehicle(method))
 }
 
 impl Tally {
