@@ -13,6 +13,7 @@
 //!     compare bench plans ..         the planner against the Rust, in the same three ways
 //!     compare freeze COUNT SEED DIR  writes DIR/stdin and DIR/stdout, a sample to keep
 //!     compare freeze plans COUNT SEED DIR   the same, of plans
+//!     compare example DIR            writes DIR/sheet and DIR/plan, to be drawn
 //!
 //! build.rs says where the sources and the planner's library are looked for. The exit status is
 //! 0 if all is well, 1 for a failure or a difference, 2 if the command could not be run.
@@ -23,6 +24,7 @@ mod bench;
 mod bench_plans;
 mod checked;
 mod damage;
+mod example;
 mod fit;
 mod flavours;
 mod freeze;
@@ -50,7 +52,7 @@ use std::process::ExitCode;
 
 const USAGE: &str = "usage: compare selftest | refusals COUNT SEED | rounds COUNT SEED | \
                      plans COUNT SEED | plan NUMBER SEED | checked COUNT SEED | \
-                     bench [plans] [instructions | SIDE CASE RUNS] | freeze [plans] COUNT SEED DIR";
+                     bench [plans] [instructions | SIDE CASE RUNS] | freeze [plans] COUNT SEED DIR | example DIR";
 
 fn main() -> ExitCode {
     let words: Vec<String> = std::env::args().skip(1).collect();
@@ -70,6 +72,7 @@ fn main() -> ExitCode {
         ["freeze", count, seed, folder] => {
             numbers(count, seed).map(|(c, s)| written(folder, |to| freeze::run(c, s, to)))
         }
+        ["example", folder] => Some(written(folder, example::run)),
         _ => None,
     };
     done.unwrap_or_else(|| {
