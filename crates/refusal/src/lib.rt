@@ -10,7 +10,7 @@ ghost use Rattle.sheet.specs.Accepted.{Sized};
 ghost use Rattle.sheet.specs.Fields.{rowsOf, vehiclesOf, timesOf};
 ghost use Rattle.sheet.specs.Refusal.{headerRight, countsRight, methodRight, lengthsRight, needsVehicle, fleetRight, refusalOf};
 
-fn header_right(sheet: &[u8]) -> bool
+pub fn header_right(sheet: &[u8]) -> bool
     ensures { λ r. ⌜ r ≡ headerRight (now (sheet .entry)) ⌝ }
 {
     if sheet.len() < 16 {

@@ -1,0 +1,5 @@
+pub mod Putting
+pub mod Copying
+pub mod Digits
+pub mod Following
+pub mod Counting
