@@ -24,7 +24,7 @@ extern "C" {
  *   offset  type     field
  *        0  u16      rows R, 0 to 101
  *        2  u16      vehicles V, 0 to 16
- *        4  u8       method, 0 to 4, see enum planner_method
+ *        4  u8       method, see enum planner_method
  *        5  u8       time table, 0 or 1
  *        6  10 bytes zero
  *
@@ -68,7 +68,45 @@ extern "C" {
  *
  * "Zero" is all zero bits. The sheet ends here: not a byte more.
  *
- * THE PLAN has exactly 16 + 80 * R bytes.
+ * THE PLAN has exactly 16 + 80 * R bytes, little-endian too. Rounds, and places
+ * in a round, are counted from 1. Unused bytes are zero.
+ *
+ * Header, at byte 0:
+ *
+ *   offset  type     field
+ *        0  u16      number of rounds
+ *        2  u16      first stop set aside, 0 if there is none
+ *        4  u16      rows R
+ *        6  u16      zero
+ *        8  f64      cost of all rounds
+ *
+ * Round k, counted from 0, at byte 16 + 56 * k; R records, those after the last
+ * round all zero:
+ *
+ *   offset  type     field
+ *        0  u32      its vehicle's id
+ *        4  i32      load
+ *        8  u16      first stop
+ *       10  u16      place of the rest: before that stop, 1 is before the first;
+ *                    0 is no rest
+ *       12  u32      zero
+ *       16  f64      distance, depot to depot
+ *       24  f64      duration, from leaving the depot at 0 to the return
+ *       32  f64      lateness, summed
+ *       40  f64      cost of the lateness
+ *       48  f64      start of the rest, 0 without one
+ *
+ * Row r, at byte 16 + 56 * R + 24 * r:
+ *
+ *   offset  type     field
+ *        0  u16      the next stop of its chain, 0 at the end
+ *        2  u16      zero
+ *        4  i32      load after it
+ *        8  f64      arrival, before a rest that stands before it
+ *       16  f64      departure
+ *
+ * A chain starts at a round's first stop, or at the first stop set aside. A stop
+ * set aside has only its next; a depot's row is all zero.
  */
 enum {
     PLANNER_HEADER_BYTES = 16,
@@ -78,9 +116,13 @@ enum {
     PLANNER_MOST_ROWS = 101,
     PLANNER_MOST_VEHICLES = 16,
     PLANNER_PLAN_HEADER_BYTES = 16,
-    PLANNER_PLAN_ROW_BYTES = 80
+    PLANNER_PLAN_ROUND_BYTES = 56,
+    PLANNER_PLAN_STOP_BYTES = 24,
+    PLANNER_PLAN_ROW_BYTES = 80 /* a round's record and a stop's */
 };
 
+/* Offered today are PLANNER_NEAREST_NEIGHBOR and PLANNER_NN_TW; each of the others
+   is refused as PLANNER_BAD_METHOD until it is proved. */
 enum planner_method {
     PLANNER_SAVINGS = 0,
     PLANNER_INSERTION = 1,
@@ -128,7 +170,7 @@ enum planner_refusal {
     PLANNER_BAD_HEADER = 1,
     /* Rows above 101 or vehicles above 16. */
     PLANNER_TOO_MANY = 2,
-    /* Method above 4. */
+    /* Method above 4, or not offered yet. */
     PLANNER_BAD_METHOD = 3,
     /* Sheet or plan not of its exact length. */
     PLANNER_BAD_LENGTH = 4,
@@ -158,6 +200,23 @@ enum planner_refusal {
  * the lent bytes during the call.
  */
 uint32_t check_sheet(const uint8_t *sheet, size_t sheet_len, size_t plan_len);
+
+/*
+ * Plans a sheet's rounds. PLANNER_ACCEPTED, and the plan fills the buffer; or the
+ * first refusal of enum planner_refusal that holds, and every byte of the buffer
+ * is as it was. Every byte string of every length has an answer, and the same
+ * sheet the same plan on every call.
+ *
+ *   sheet, sheet_len  as for check_sheet
+ *   plan              where the plan goes, not NULL and apart from the sheet
+ *   plan_len          how many bytes are lent: no other byte is written.
+ *                     PLANNER_PLAN_BYTES(rows) is the only length accepted
+ *
+ * It allocates nothing, keeps no state, calls nothing outside the archive, and
+ * always returns; several threads may call it at once, each with a plan buffer of
+ * its own. No other thread may touch the plan, or write the sheet, during the call.
+ */
+uint32_t plan_rounds(const uint8_t *sheet, size_t sheet_len, uint8_t *plan, size_t plan_len);
 
 #ifdef __cplusplus
 }

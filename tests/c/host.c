@@ -1,6 +1,6 @@
 /*
- * A host in C: builds sheet A of document 01, asks the planner whether it would
- * be planned, then damages it in the way of each refusal's example.
+ * A host in C: builds sheet A of document 01, has it planned and prints the rounds
+ * in plain words, then damages it in the way of each refusal's example.
  */
 #include <stdint.h>
 #include <stdio.h>
@@ -12,8 +12,14 @@ enum { ROWS = 3, VEHICLES = 1 };
 
 /* Offsets in a row, a vehicle and the header that this host names. */
 enum { AT_VERTICAL = 4, AT_DEMAND = 8, AT_MARKS = 12, AT_READY = 24, AT_DUE = 32 };
-enum { AT_DEPOT = 4, AT_CAPACITY = 8, AT_COST_PER_DISTANCE = 16 };
+enum { AT_DEPOT = 4, AT_CAPACITY = 8, AT_VEHICLE_MARKS = 12, AT_COST_PER_DISTANCE = 16 };
+enum { AT_EARLIEST = 48, AT_LATEST = 56, AT_REST = 64 };
 enum { AT_ROWS = 0, AT_VEHICLES = 2, AT_METHOD = 4 };
+
+/* Offsets in a plan's header, in a round's record and in a stop's. */
+enum { AT_ASIDE = 2, AT_COST = 8 };
+enum { AT_LOAD = 4, AT_FIRST = 8, AT_REST_PLACE = 10, AT_DISTANCE = 16, AT_DURATION = 24, AT_REST_START = 48 };
+enum { AT_NEXT = 0, AT_LOAD_AFTER = 4, AT_ARRIVAL = 8, AT_DEPARTURE = 16 };
 
 /* A sheet with room for one byte too many. */
 struct sheet {
@@ -42,6 +48,22 @@ static void put_f64(uint8_t *at, double value)
     uint64_t bits;
     memcpy(&bits, &value, sizeof bits);
     put(at, bits, 8);
+}
+
+static uint64_t get(const uint8_t *at, int width)
+{
+    uint64_t value = 0;
+    for (int i = width; i > 0; i--)
+        value = value << 8 | at[i - 1];
+    return value;
+}
+
+static double get_f64(const uint8_t *at)
+{
+    uint64_t bits = get(at, 8);
+    double value;
+    memcpy(&value, &bits, sizeof value);
+    return value;
 }
 
 static uint8_t *row(struct sheet *s, unsigned r)
@@ -105,7 +127,7 @@ static const char *words(uint32_t answer)
     case PLANNER_ACCEPTED: return "accepted";
     case PLANNER_BAD_HEADER: return "refused 1, no header";
     case PLANNER_TOO_MANY: return "refused 2, too many rows or vehicles";
-    case PLANNER_BAD_METHOD: return "refused 3, no such method";
+    case PLANNER_BAD_METHOD: return "refused 3, no such method, or not offered yet";
     case PLANNER_BAD_LENGTH: return "refused 4, not of its exact length";
     case PLANNER_BAD_ROW: return "refused 5, a row out of range";
     case PLANNER_BAD_MATRIX: return "refused 6, a distance or time out of range";
@@ -127,10 +149,78 @@ static void ask(const char *what, const struct sheet *s)
     ask_with_plan(what, s, 0);
 }
 
+static const uint8_t *stop_record(const uint8_t *plan, unsigned stop)
+{
+    return plan + PLANNER_PLAN_HEADER_BYTES + PLANNER_PLAN_ROUND_BYTES * ROWS + PLANNER_PLAN_STOP_BYTES * stop;
+}
+
+static unsigned next_stop(const uint8_t *plan, unsigned stop)
+{
+    return (unsigned)get(stop_record(plan, stop) + AT_NEXT, 2);
+}
+
+static void print_round(const uint8_t *plan, unsigned k)
+{
+    const uint8_t *round = plan + PLANNER_PLAN_HEADER_BYTES + PLANNER_PLAN_ROUND_BYTES * k;
+    unsigned rest = (unsigned)get(round + AT_REST_PLACE, 2);
+    printf("  round %u, vehicle %u: load %u, distance %g, duration %g\n", k + 1, (unsigned)get(round, 4),
+           (unsigned)get(round + AT_LOAD, 4), get_f64(round + AT_DISTANCE), get_f64(round + AT_DURATION));
+    unsigned place = 1;
+    for (unsigned stop = (unsigned)get(round + AT_FIRST, 2); stop != 0; stop = next_stop(plan, stop)) {
+        if (place++ == rest)
+            printf("    rest at %g\n", get_f64(round + AT_REST_START));
+        const uint8_t *visit = stop_record(plan, stop);
+        printf("    stop %u: arrives at %g, leaves at %g with %u\n", stop, get_f64(visit + AT_ARRIVAL),
+               get_f64(visit + AT_DEPARTURE), (unsigned)get(visit + AT_LOAD_AFTER, 4));
+    }
+}
+
+static void print_plan(const uint8_t *plan)
+{
+    unsigned rounds = (unsigned)get(plan, 2);
+    printf("  %u round%s, cost %g\n", rounds, rounds == 1 ? "" : "s", get_f64(plan + AT_COST));
+    for (unsigned k = 0; k < rounds; k++)
+        print_round(plan, k);
+    for (unsigned stop = (unsigned)get(plan + AT_ASIDE, 2); stop != 0; stop = next_stop(plan, stop))
+        printf("    stop %u is set aside\n", stop);
+}
+
+/* Has the sheet planned; a refused call leaves the buffer as it was. */
+static void plan_it(const char *what, const struct sheet *s)
+{
+    uint8_t plan[PLANNER_PLAN_BYTES(ROWS)];
+    memset(plan, 0xa5, sizeof plan);
+    uint32_t answer = plan_rounds(s->bytes, s->len, plan, sizeof plan);
+    printf("%s: %s\n", what, words(answer));
+    if (answer == PLANNER_ACCEPTED) {
+        print_plan(plan);
+        return;
+    }
+    for (size_t i = 0; i < sizeof plan; i++)
+        if (plan[i] != 0xa5)
+            printf("  byte %zu was changed\n", i);
+}
+
 int main(void)
 {
     struct sheet s = sheet_a();
-    ask("sheet A: 3 rows, 1 vehicle, nearest neighbour", &s);
+    plan_it("sheet A: 3 rows, 1 vehicle, nearest neighbour", &s);
+
+    s = sheet_a();
+    put_i32(vehicle(&s, 0) + AT_CAPACITY, 1);
+    plan_it("sheet A, capacity 1", &s);
+
+    s = sheet_a();
+    s.bytes[AT_METHOD] = PLANNER_NN_TW;
+    put_i32(vehicle(&s, 0) + AT_VEHICLE_MARKS, PLANNER_REST);
+    put_f64(vehicle(&s, 0) + AT_EARLIEST, 12.0);
+    put_f64(vehicle(&s, 0) + AT_LATEST, 12.0);
+    put_f64(vehicle(&s, 0) + AT_REST, 5.0);
+    plan_it("sheet A, nn_tw, a rest of 5 at 12", &s);
+
+    s = sheet_a();
+    s.bytes[AT_METHOD] = PLANNER_SAVINGS;
+    plan_it("sheet A, savings", &s);
 
     s = sheet_a();
     s.len = 0;

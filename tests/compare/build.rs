@@ -3,8 +3,7 @@
 //!
 //! U_ROUTING_SRC names the folder that holds the sources' `src`; without it they are looked for
 //! beside the repository. PLANNER_LIB is the whole path of the folder of libplanner.a, PROBE_LIB
-//! of that of libprobe.a; without one the commands that do not need it still build. PLAN_ROUNDS
-//! says that libplanner.a has plan_rounds.
+//! of that of libprobe.a; without one the commands that do not need it still build.
 
 #![deny(warnings)]
 
@@ -52,11 +51,6 @@ fn main() {
     }
     link("planner", "PLANNER_LIB");
     link("probe", "PROBE_LIB");
-    println!("cargo::rerun-if-env-changed=PLAN_ROUNDS");
-    println!("cargo::rustc-check-cfg=cfg(plan_rounds)");
-    if env::var_os("PLAN_ROUNDS").is_some() {
-        println!("cargo::rustc-cfg=plan_rounds");
-    }
 }
 
 /// Copies one file. A last line that is a doc comment of an item the copy lacks gets an empty

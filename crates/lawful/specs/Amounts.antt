@@ -1,9 +1,9 @@
 -- What an accepted sheet of whole numbers gives a walk: each amount is its natural number, at most 10 ^ 9. Assumes nothing.
 use mathlib.Core.Path.{_≡_, ap, subst}
-use Prim.Native.Nat.{ℕ, zero, suc, _+_, _*_, _^_, _≤_, _<_, zero-le, suc-le-suc}
+use Prim.Native.Nat.{ℕ, _+_, _*_, _^_, _≤_, _<_}
 use native.Mathlib.Nat.{le-trans}
 use native.Mathlib.Omega.{arith}
-use mathlib.Core.Bool.{Bool, true, false}
+use mathlib.Core.Bool.{Bool, false}
 use mathlib.Core.List.{List}
 use lib.Arith.{digits-lt}
 use lib.Dec.{T, eqb→eq}
@@ -13,7 +13,7 @@ use Rattle.wire.specs.Bytes.{u64At, f64At}
 use Rattle.numbers.specs.Upto.{Upto}
 use Rattle.sheet.specs.Fields.{rowsOf, vehiclesOf, timesOf, rowAt, rowMarks, serviceAt, readyAt, dueAt, vehicleAt, earliestAt, latestAt, restAt, marked}
 use Rattle.sheet.specs.Ranges.{zeroBits, interval}
-use Rattle.sheet.specs.Depots.{isDepot, orStop, leading, atLeastOne, depotsOf}
+use Rattle.sheet.specs.Depots.{depots-few}
 use Rattle.sheet.specs.Accepted.{Accepted}
 use Rattle.sheet.specs.Values.{distanceOf, timeOf}
 use Rattle.sheet.specs.Finite.{row-finite, vehicle-finite, entries-split, distance-bounded, time-bounded}
@@ -48,22 +48,8 @@ unmarked s at mark e t =
     ap (λ (n : ℕ). natOf (ofBits binary64 n)) (eqb→eq (u64At s at) 0 (and-l (zeroBits s at) _ (subst (λ (b : Bool). T (interval b s at)) e t)))
 
 -- "a vehicle's depot is below the number of depots", which are rows where there is a row at all
-or-stop-upto : (t : Bool) (k n : ℕ) → k ≤ n → orStop t k ≤ suc n
-or-stop-upto true k n h = suc-le-suc h
-or-stop-upto false k n h = zero-le
-
-leading-upto : (s : List ℕ) (n i : ℕ) → leading s n i ≤ n
-unfolding leading
-leading-upto s zero i = zero-le
-leading-upto s (suc n) i = or-stop-upto (isDepot s i) (leading s n (i + 1)) n (leading-upto s n (i + 1))
-
 pub home-row : (s : List ℕ) (v : ℕ) → Accepted s → v < vehiclesOf s → 0 < rowsOf s → homeOf s v < rowsOf s
-unfolding depotsOf
-home-row s v a h r = le-trans (a .vehicle v h .depot) (go (leading s (rowsOf s) 0) (leading-upto s (rowsOf s) 0))
-  where
-    go : (n : ℕ) → n ≤ rowsOf s → atLeastOne n ≤ rowsOf s
-    go zero k = r
-    go (suc n) k = k
+home-row s v a h r = le-trans (a .vehicle v h .depot) (depots-few s r)
 
 module _ (s : List ℕ) (a : Accepted s) (w : Whole s) where
   pub row-amounts : (i : ℕ) → i < rowsOf s → RowAmounts s i

@@ -3,14 +3,13 @@ use mathlib.Core.Path.{_≡_, refl, sym, ap, _∙_}
 use Prim.Native.Nat.{ℕ, zero, suc, _+_, _-_, _≤_, _<_}
 use native.Mathlib.Numerals.{add-one}
 use native.Mathlib.Omega.{arith}
-use mathlib.Core.Bool.{Bool, true, false}
 use mathlib.Core.List.{List, [], _∷_}
 use lib.ListN.{length, take, drop, getD, length-take, length-drop}
 use lib.Seq.{getD-take, getD-drop}
 use lib.Ieee.{Float}
 use Rattle.sheet.specs.Fields.{rowsOf, vehiclesOf}
 use Rattle.sheet.specs.Accepted.{Accepted}
-use Rattle.sheet.specs.Depots.{isDepot, orStop, leading, atLeastOne, depotsOf}
+use Rattle.sheet.specs.Depots.{depots-few}
 use Rattle.sheet.specs.Values.{vehicleOf}
 use Rattle.evaluator.specs.Record.{priceStart}
 use Rattle.plan.specs.Outcome.{Round, roundsIn, startIn}
@@ -19,23 +18,6 @@ use Rattle.plan.specs.Writable.{RoundOf, RoundsOf}
 use Rattle.plan.specs.Tables.{Tables}
 
 -- ---- a vehicle's depot is a row, where there is a row
-or-stop : (b : Bool) (m n : ℕ) → m ≤ n → orStop b m ≤ suc n
-or-stop true m n h = omega arith
-or-stop false m n h = omega arith
-
-leading-few : (s : List ℕ) (n i : ℕ) → leading s n i ≤ n
-unfolding leading
-leading-few s zero i = omega arith
-leading-few s (suc n) i = or-stop (isDepot s i) (leading s n (i + 1)) n (leading-few s n (i + 1))
-
-at-least-one : (m n : ℕ) → m ≤ n → 0 < n → atLeastOne m ≤ n
-at-least-one zero n h k = k
-at-least-one (suc m) n h k = h
-
-depots-few : (s : List ℕ) → 0 < rowsOf s → depotsOf s ≤ rowsOf s
-unfolding depotsOf
-depots-few s h = at-least-one (leading s (rowsOf s) 0) (rowsOf s) (leading-few s (rowsOf s) 0) h
-
 home : (s : List ℕ) → Accepted s → 0 < rowsOf s → (v : ℕ) → v < vehiclesOf s → vehicleOf s v .depot < rowsOf s
 unfolding vehicleOf
 home s a h v l = let d = a .vehicle v l .depot in let f = depots-few s h in omega arith

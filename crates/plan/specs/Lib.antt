@@ -15,3 +15,5 @@ pub mod TablesBack
 pub mod Members
 pub mod Laid
 pub mod LaidLaws
+pub mod Same
+pub mod Holds

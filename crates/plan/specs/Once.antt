@@ -115,7 +115,7 @@ depot-one : (n : ℕ) → 0 < atLeastOne n
 depot-one zero = omega arith
 depot-one (suc n) = omega arith
 
-depots-some : (s : List ℕ) → 0 < depotsOf s
+pub depots-some : (s : List ℕ) → 0 < depotsOf s
 unfolding depotsOf
 depots-some s = depot-one (leading s (rowsOf s) 0)
 

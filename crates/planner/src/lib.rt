@@ -1,6 +1,13 @@
 // What a host calls.
 ghost use mathlib.Core.Path.{_≡_};
+ghost use Prim.Native.Nat.{_-_};
+ghost use lib.ListN.{length};
+ghost use Rattle.sheet.specs.Fields.{rowsOf, planLength};
+ghost use Rattle.sheet.specs.Depots.{depotsOf};
+ghost use Rattle.sheet.specs.Accepted.{Sized, Accepted};
 ghost use Rattle.sheet.specs.Refusal.{refusalOf};
+ghost use Rattle.planner.specs.Answer.{priced, planFor, Answered, Once, Lawful};
+ghost use Rattle.planner.specs.Tabled.{Tabled};
 
 // Whether a sheet would be planned into a buffer of `plan_len` bytes: 0, or the number of the refusal.
 #[no_mangle]
@@ -8,4 +15,93 @@ pub extern "C" fn check_sheet(sheet: &[u8], plan_len: usize) -> u32
     ensures { λ r. ⌜ r ≡ refusalOf (now (sheet .entry)) «plan_len» ⌝ }
 {
     refusal::refusal(sheet, plan_len)
+}
+
+// How many rows are no depots.
+fn stops_in(sheet: &[u8]) -> usize
+    requires { ⌜ Sized (now sheet) ⌝ }
+    ensures { λ r. ⌜ r ≡ rowsOf (now (sheet .entry)) - depotsOf (now (sheet .entry)) ⌝ }
+{
+    let rows = sheet::rows(sheet);
+    let depots = sheet::customer::depots(sheet);
+    if depots < rows { rows - depots } else { 0 }
+}
+
+fn is_priced(sheet: &[u8]) -> bool
+    requires { ⌜ Sized (now sheet) ⌝ }
+    ensures { λ r. ⌜ r ≡ priced (now (sheet .entry)) ⌝ }
+{
+    if sheet::customer::depots(sheet) != 1 {
+        return true;
+    }
+    1 < sheet::rows(sheet)
+}
+
+// The plan of an accepted sheet, by way of tables that are lent.
+fn fill_by(
+    sheet: &[u8],
+    plan: &mut [u8],
+    at: &mut [u16],
+    marks: &mut [u16],
+    fleet: &mut [u16],
+    stops: &mut [u16],
+    ends: &mut [u16],
+    vehicles: &mut [u16],
+)
+    requires { ⌜ Accepted (now sheet) ⌝ }
+    requires { ⌜ length (now plan) ≡ planLength (now sheet) ⌝ }
+    requires { ⌜ Tabled (now at) (now marks) (now fleet) (now stops) (now ends) (now vehicles) ⌝ }
+    ensures { λ _. ⌜ now (plan .exit) ≡ planFor (now (sheet .entry)) ⌝ }
+{
+    let filled = multi_depot::outcome(sheet, at, marks, fleet, stops, ends, vehicles);
+    let rounds = filled.rounds;
+    plan::write_plan(
+        plan,
+        sheet,
+        stops,
+        ends,
+        vehicles,
+        rounds,
+        stops_in(sheet),
+        is_priced(sheet),
+    );
+}
+
+// The plan of an accepted sheet. The tables stand here, some kilobyte in all.
+fn fill(sheet: &[u8], plan: &mut [u8])
+    requires { ⌜ Accepted (now sheet) ⌝ }
+    requires { ⌜ length (now plan) ≡ planLength (now sheet) ⌝ }
+    ensures { λ _. ⌜ now (plan .exit) ≡ planFor (now (sheet .entry)) ⌝ }
+{
+    let mut at = [0u16; 101];
+    let mut marks = [0u16; 101];
+    let mut fleet = [0u16; 16];
+    let mut stops = [0u16; 101];
+    let mut ends = [0u16; 101];
+    let mut vehicles = [0u16; 101];
+    fill_by(
+        sheet,
+        plan,
+        &mut at,
+        &mut marks,
+        &mut fleet,
+        &mut stops,
+        &mut ends,
+        &mut vehicles,
+    );
+}
+
+// Plans a sheet's rounds: 0 and the plan, or the number of the refusal and every byte of `plan` as it was.
+#[no_mangle]
+pub extern "C" fn plan_rounds(sheet: &[u8], plan: &mut [u8]) -> u32
+    ensures { λ r. ⌜ Answered (now (sheet .entry)) (now (plan .entry)) r (now (plan .exit)) ⌝ }
+    ensures { λ r. ⌜ Once (now (sheet .entry)) r (now (plan .exit)) ⌝ }
+    ensures { λ r. ⌜ Lawful (now (sheet .entry)) r (now (plan .exit)) ⌝ }
+{
+    let number = refusal::refusal(sheet, plan.len());
+    if number != 0 {
+        return number;
+    }
+    fill(sheet, plan);
+    0
 }

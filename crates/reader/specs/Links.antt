@@ -27,6 +27,11 @@ module _ (s : List ℕ) where
   links-front [] ys t = tt
   links-front (x ∷ xs) ys t = and-i (isStop s x) (linksRight s xs) (and-l (isStop s x) (linksRight s (xs ++ ys)) t) (links-front xs ys (and-r (isStop s x) (linksRight s (xs ++ ys)) t))
 
+  pub links-back : (xs ys : List ℕ) → T (linksRight s (xs ++ ys)) → T (linksRight s ys)
+  unfolding linksRight
+  links-back [] ys t = t
+  links-back (x ∷ xs) ys t = links-back xs ys (and-r (isStop s x) (linksRight s (xs ++ ys)) t)
+
   pub links-at : (rows : List ℕ) (i : ℕ) → i < length rows → T (linksRight s rows) → (depotsOf s ≤ getD rows i 0) × (getD rows i 0 < rowsOf s)
   unfolding linksRight
   links-at [] i h t = absurd (omega arith)

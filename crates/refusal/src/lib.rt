@@ -35,11 +35,16 @@ fn counts_right(sheet: &[u8]) -> bool
     sheet::vehicles(sheet) <= 16
 }
 
+// Whether the method's constructor is here.
 fn method_right(sheet: &[u8]) -> bool
     requires { ⌜ 16 ≤ length (now sheet) ⌝ }
     ensures { λ r. ⌜ r ≡ methodRight (now (sheet .entry)) ⌝ }
 {
-    sheet::method(sheet) <= 4
+    let method = sheet::method(sheet);
+    if method == 2 {
+        return true;
+    }
+    method == 3
 }
 
 // How many distances and times a sheet of these counts has.

@@ -4,6 +4,7 @@
 #[link(name = "planner", kind = "static")]
 extern "C" {
     fn check_sheet(sheet: *const u8, sheet_len: usize, plan_len: usize) -> u32;
+    fn plan_rounds(sheet: *const u8, sheet_len: usize, plan: *mut u8, plan_len: usize) -> u32;
 }
 
 /// Refusals 1 to 8, 0 for an accepted sheet. The sheet is lent from memory of exactly its size.
@@ -14,29 +15,27 @@ pub fn check(sheet: &[u8], plan_len: usize) -> u32 {
     unsafe { check_sheet(lent.as_ptr(), lent.len(), plan_len) }
 }
 
-#[cfg(not(planner))]
-pub fn check(_sheet: &[u8], _plan_len: usize) -> u32 {
-    eprintln!("compare: built without a planner; build with PLANNER_LIB set to its folder");
-    std::process::exit(2)
-}
-
-#[cfg(plan_rounds)]
-#[link(name = "planner", kind = "static")]
-extern "C" {
-    fn plan_rounds(sheet: *const u8, sheet_len: usize, plan: *mut u8, plan_len: usize) -> u32;
-}
-
 /// A sheet's plan, written into `plan`, and 0; or a refusal.
-#[cfg(plan_rounds)]
+#[cfg(planner)]
 pub fn plan(sheet: &[u8], plan: &mut [u8]) -> u32 {
     // SAFETY: the pointers and the lengths are those of slices that outlive the call, and no one
     // else has the one that is written.
     unsafe { plan_rounds(sheet.as_ptr(), sheet.len(), plan.as_mut_ptr(), plan.len()) }
 }
 
-#[cfg(not(plan_rounds))]
+#[cfg(not(planner))]
+pub fn check(_sheet: &[u8], _plan_len: usize) -> u32 {
+    no_planner()
+}
+
+#[cfg(not(planner))]
 pub fn plan(_sheet: &[u8], _plan: &mut [u8]) -> u32 {
-    eprintln!("compare: built without plan_rounds; build with PLAN_ROUNDS set");
+    no_planner()
+}
+
+#[cfg(not(planner))]
+fn no_planner() -> ! {
+    eprintln!("compare: built without a planner; build with PLANNER_LIB set to its folder");
     std::process::exit(2)
 }
 

@@ -8,7 +8,7 @@ pub const MOST_ROWS: usize = 101;
 pub const MOST_VEHICLES: usize = 16;
 /// The methods of document 01, and those that the planner offers today: it refuses the others as 3.
 pub const METHODS: &[u8] = &[0, 1, 2, 3, 4];
-pub const OFFERED: &[u8] = &[0, 1, 2, 3, 4];
+pub const OFFERED: &[u8] = &[2, 3];
 const MOST_MARKS: u32 = 7;
 const MOST_COORDINATE: i32 = 1_000_000;
 const MOST_DEMAND: i32 = 1_000_000;

@@ -1,0 +1,9 @@
+pub mod Manning
+pub mod Asking
+pub mod Gathering
+pub mod Marking
+pub mod Firsts
+pub mod Moving
+pub mod Sharing
+pub mod Planning
+pub mod Settling

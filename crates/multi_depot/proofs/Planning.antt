@@ -1,0 +1,123 @@
+-- The depots one after another: there is room for the next one's members, and its stops set aside are marked. Assumes nothing.
+use mathlib.Core.Path.{_≡_, refl, sym, ap, _∙_, subst}
+use Prim.Native.Nat.{ℕ, suc, _+_, _-_, _≤_, _<_}
+use native.Mathlib.Numerals.{add-one}
+use native.Mathlib.Omega.{arith}
+use mathlib.Core.Bool.{Bool, true, false, _&&_}
+use mathlib.Core.List.{List, [], _∷_, _++_, append-assoc, append-nil}
+use lib.Dec.{leb, ltb, eqb, ltb→lt}
+use lib.Ieee.Fits.{and-l, and-r}
+use lib.ListN.{length, getD, set, replicate, length-set, length-replicate, getD-replicate}
+use lib.Seq.{getD-set-same, getD-set-other}
+use borrow.Author.Tests.{eqb-true, eqb-false, lt-ltb}
+use Rattle.sheet.specs.Fields.{rowsOf}
+use Rattle.sheet.specs.Depots.{depotsOf}
+use Rattle.plan.specs.declared.tables.Filled.{Filled}
+use Rattle.plan.specs.Read.{chains, stopsOf, isStop, one, count}
+use Rattle.plan.specs.Once.{count-append}
+use Rattle.plan.specs.Same.{same-length, count-at}
+use Rattle.plan.specs.Laid.{routedIn}
+use Rattle.plan.specs.LaidLaws.{chains-aside, length-chains}
+use Rattle.plan.specs.Members.{part}
+use Rattle.plan.specs.Holds.{empty, holds-none}
+use Rattle.multi_depot.specs.Those.{those-few, those-parts}
+use Rattle.multi_depot.specs.ByDepot.{stopsWith, membersOf, plannedOf, plannedUpto, isIn}
+use Rattle.multi_depot.specs.Each.{planned-keeps, stops-count, stop-counted, one-more, upto-count}
+use Rattle.multi_depot.specs.Rounds.{upto-routed}
+use Rattle.multi_depot.specs.declared.Share.{Share}
+use Rattle.multi_depot.specs.Asked.{Marks, markedBy, Lent, Next, Shared, Planned}
+
+-- ---- room for the next members
+upto-length : (s at : List ℕ) (n : ℕ) → length (stopsOf (plannedUpto s at n)) ≡ length (stopsWith s (λ c. ltb (getD at c 0) n))
+upto-length s at n =
+    same-length (stopsOf (plannedUpto s at n)) (stopsWith s (λ c. ltb (getD at c 0) n)) (λ x. upto-count s at n x ∙ sym (stops-count s (λ c. ltb (getD at c 0) n) x))
+
+room-next : (s at : List ℕ) (n : ℕ) → routedIn (plannedUpto s at n .rounds) + length (membersOf s at n) ≤ rowsOf s
+unfolding membersOf
+room-next s at n =
+    let o = plannedUpto s at n in
+    let m = rowsOf s - depotsOf s in
+    omega (arith, length-chains (o .rounds) (o .aside), upto-length s at n, those-parts (λ c. ltb (getD at c 0) n) (λ c. eqb (getD at c 0) n) (λ c. ltb (getD at c 0) (suc n)) (λ x. one-more true (getD at x 0) n) m (depotsOf s), those-few (λ c. ltb (getD at c 0) (suc n)) m (depotsOf s))
+
+pub next-there : (s at marks stops ends vehicles : List ℕ) (d : ℕ) (f : Filled) → d < depotsOf s → Planned s marks stops ends vehicles f (plannedUpto s at d) → Next s at d f
+next-there s at marks stops ends vehicles d f h p = record {
+  home = h;
+  rounds = omega (arith, p .holds .count, p .holds .routed, upto-routed s at d (omega arith));
+  room = omega (arith, p .holds .routed, room-next s at d);
+}
+
+-- ---- a depot sets stops aside
+member : (s at : List ℕ) (d x : ℕ) → 0 < count x (membersOf s at d) → x < rowsOf s
+unfolding membersOf
+member s at d x h =
+    let t = stop-counted (isStop s x && eqb (getD at x 0) d) (omega (arith, stops-count s (λ c. eqb (getD at c 0) d) x)) in
+    ltb→lt x (rowsOf s) (and-r (leb (depotsOf s) x) (ltb x (rowsOf s)) (and-l (isStop s x) (eqb (getD at x 0) d) t))
+
+aside-row : (s at : List ℕ) (d k : ℕ) → k < length (plannedOf s d (membersOf s at d) .aside) → getD (plannedOf s d (membersOf s at d) .aside) k 0 < rowsOf s
+aside-row s at d k h =
+    let o = plannedOf s d (membersOf s at d) in
+    let x = getD (o .aside) k 0 in
+    member s at d x (omega (arith, count-at (o .aside) k h, planned-keeps s d (membersOf s at d) x, ap (count x) (chains-aside (o .rounds) (o .aside)), count-append x (chains (o .rounds) []) (o .aside)))
+
+pub part-row : (s at marks aside : List ℕ) (d : ℕ) (table : List ℕ) → Marks s marks aside → table ≡ plannedOf s d (membersOf s at d) .aside → (k : ℕ) → k < length table → getD table k 0 < length marks
+part-row s at marks aside d table m e k h = rw e (omega (arith, m .long, aside-row s at d k (rw e at h)))
+
+-- ---- and they are marked
+mark-one : (s marks xs : List ℕ) (y : ℕ) → y < length marks → Marks s marks xs → Marks s (set marks y 1) (xs ++ (y ∷ []))
+unfolding count
+mark-one s marks xs y h m = record {
+  long = omega (arith, m .long, length-set marks y 1);
+  mark = λ c l. go c l (eqb c y) refl;
+}
+  where
+    go : (c : ℕ) → c < rowsOf s → (b : Bool) → eqb c y ≡ b → getD (set marks y 1) c 0 ≡ one (isIn c (xs ++ (y ∷ [])))
+    go c l true e =
+        let n : count c (xs ++ (y ∷ [])) ≡ count c xs + 1 = count-append c xs (y ∷ []) ∙ rw e in
+        rw (n, lt-ltb 0 (count c xs + 1) (omega arith), eqb-true c y e) (getD-set-same marks y 1 0 h)
+    go c l false e =
+        let n : count c (xs ++ (y ∷ [])) ≡ count c xs = count-append c xs (y ∷ []) ∙ rw e (omega arith) in
+        rw n (getD-set-other marks y c 1 0 (eqb-false c y e) ∙ m .mark c l)
+
+marks-more : (s ys marks xs : List ℕ) → ((k : ℕ) → k < length ys → getD ys k 0 < length marks) → Marks s marks xs → Marks s (markedBy marks ys) (xs ++ ys)
+unfolding markedBy
+marks-more s [] marks xs f m = rw (append-nil xs) m
+marks-more s (y ∷ ys) marks xs f m =
+    subst (Marks s (markedBy (set marks y 1) ys)) (append-assoc xs (y ∷ []) ys)
+    (marks-more s ys (set marks y 1) (xs ++ (y ∷ [])) (λ k h. rw (length-set marks y 1) (f (suc k) (omega arith))) (mark-one s marks xs y (f 0 (omega arith)) m))
+
+pub marks-none : (s marks : List ℕ) → rowsOf s ≤ length marks → Marks s (replicate (length marks) 0) []
+unfolding count
+marks-none s marks h = record { long = omega (arith, length-replicate {A = ℕ} (length marks) 0); mark = λ c l. getD-replicate (length marks) c 0 0 (omega arith) }
+
+-- ---- the next depot planned
+module _ {s : List ℕ} (at : List ℕ) {marks stops ends vehicles : List ℕ} (d : ℕ) {f : Filled} (p : Planned s marks stops ends vehicles f (plannedUpto s at d))
+    {stops′ ends′ vehicles′ : List ℕ} {share : Share} (laid : Shared stops ends vehicles f (plannedOf s d (membersOf s at d)) stops′ ends′ vehicles′ share)
+    {marks′ : List ℕ} (marked : marks′ ≡ markedBy marks (part stops′ (share .filled .routed) (share .total))) where
+  pub planned-more : Planned s marks′ stops′ ends′ vehicles′ (share .filled) (plannedUpto s at (d + 1))
+  unfolding plannedUpto
+  planned-more = rw (add-one d) (record {
+    holds = laid .holds (plannedUpto s at d .rounds) (p .holds);
+    turned = rw (marked, laid .aside) (marks-more s (plannedOf s d (membersOf s at d) .aside) marks (plannedUpto s at d .aside) (part-row s at marks (plannedUpto s at d .aside) d (plannedOf s d (membersOf s at d) .aside) (p .turned) refl) (p .turned));
+  })
+
+pub planned-none : (s at marks stops ends vehicles : List ℕ) → rowsOf s ≤ length marks → Planned s (replicate (length marks) 0) stops ends vehicles empty (plannedUpto s at 0)
+unfolding plannedUpto
+planned-none s at marks stops ends vehicles h = record { holds = holds-none stops ends vehicles; turned = marks-none s marks h }
+
+-- ---- the tables stay as long
+pub record Kept (marks₀ fleet₀ stops₀ ends₀ vehicles₀ marks fleet stops ends vehicles : List ℕ) : Type 0 where
+  pub marked : length marks ≡ length marks₀
+  pub manned : length fleet ≡ length fleet₀
+  pub stopped : length stops ≡ length stops₀
+  pub ended : length ends ≡ length ends₀
+  pub driven : length vehicles ≡ length vehicles₀
+
+pub lent-still : {s at₀ marks₀ fleet₀ stops₀ ends₀ vehicles₀ at marks fleet stops ends vehicles : List ℕ} → Lent s at₀ fleet₀ stops₀ ends₀ vehicles₀ → Kept marks₀ fleet₀ stops₀ ends₀ vehicles₀ marks fleet stops ends vehicles → length at ≡ rowsOf s → Lent s at fleet stops ends vehicles
+lent-still l k e = record {
+  sheet = l .sheet;
+  rows = e;
+  manned = omega (arith, l .manned, k .manned);
+  stopped = omega (arith, l .stopped, k .stopped);
+  ended = omega (arith, l .ended, k .ended);
+  driven = omega (arith, l .driven, k .driven);
+}

@@ -1,0 +1,147 @@
+-- The rounds of offers: one that moves a stop leaves fewer attempts, and one that moves none is the last; then the stops set aside are laid behind the rounds. Assumes nothing.
+use mathlib.Core.Path.{_≡_, refl, sym, ap, _∙_, subst}
+use Prim.Native.Nat.{ℕ, zero, suc, _+_, _-_, _*_, _≤_, _<_}
+use native.Mathlib.Omega.{arith}
+use mathlib.Core.Bool.{Bool, true, false, _||_}
+use mathlib.Core.List.{List, []}
+use lib.Dec.{eqb}
+use lib.ListN.{length, getD, take, replicate, length-replicate, getD-replicate}
+use lib.Seq.{length-take-le}
+use borrow.Author.Tests.{eq-eqb, ne-eqb}
+use Rattle.wire.specs.Bytes.{write}
+use Rattle.wire.specs.Laws.{length-write}
+use Rattle.sheet.specs.Fields.{rowsOf}
+use Rattle.sheet.specs.Depots.{depotsOf}
+use Rattle.sheet.specs.Accepted.{Accepted}
+use Rattle.plan.specs.declared.tables.Filled.{Filled}
+use Rattle.plan.specs.Outcome.{Outcome}
+use Rattle.plan.specs.Read.{stopsOf}
+use Rattle.plan.specs.Once.{depots-some}
+use Rattle.plan.specs.Same.{same-length}
+use Rattle.plan.specs.Members.{part}
+use Rattle.plan.specs.LaidLaws.{length-chains}
+use Rattle.plan.specs.Holds.{Held, empty, holds-none, holds-behind, held-outcome, held-tables}
+use Rattle.multi_depot.specs.Those.{those-all, those-alike}
+use Rattle.multi_depot.specs.ByDepot.{isNobody, stopsWith, allStops, membersOf, plannedOf, planned, leftOut, offered, moved, settledIn, firstAt, settledAt, gathered, byDepot, outcomeOf}
+use Rattle.multi_depot.specs.Settled.{attemptsLeft, length-offered, unmoved, offer-falls, settles, moves-on, length-first, enough}
+use Rattle.multi_depot.specs.Each.{gathered-once, all-once}
+use Rattle.multi_depot.specs.Rounds.{outcome-right, rounds-few}
+use Rattle.multi_depot.specs.declared.Share.{Share}
+use Rattle.multi_depot.specs.Asked.{Marks, setAside, Lent, Desk, Next, Shared, Planned, Told}
+use Rattle.multi_depot.proofs.Moving.{turned}
+use Rattle.multi_depot.proofs.Sharing.{part-there, length-planned}
+
+-- so many rounds of offers are enough, and settle the stops as they are to be
+pub record Settling (s at : List ℕ) : Type 0 where
+  pub long : length at ≡ rowsOf s
+  pub rounds : ℕ
+  pub most : attemptsLeft s at ≤ rounds
+  pub same : settledAt s ≡ settledIn rounds s at
+
+pub begins : (s at : List ℕ) → at ≡ firstAt s → Settling s at
+unfolding settledAt
+begins s at e = rw e (record { long = length-first s; rounds = rowsOf s * depotsOf s; most = enough s; same = refl })
+
+module _ (s at : List ℕ) (a : Accepted s) (g : Settling s at) where
+  pub falls : moved at (offered s at) ≡ true → attemptsLeft s (offered s at) < attemptsLeft s at
+  falls e = offer-falls s a at (g .long) e
+
+  pub goes-on : moved at (offered s at) ≡ true → Settling s (offered s at)
+  goes-on e = go (g .rounds) (g .most) (g .same)
+    where
+      go : (n : ℕ) → attemptsLeft s at ≤ n → settledAt s ≡ settledIn n s at → Settling s (offered s at)
+      go zero h q = absurd (let f = falls e in omega arith)
+      go (suc n) h q = record { long = length-offered s at ∙ g .long; rounds = n; most = let f = falls e in omega arith; same = q ∙ moves-on s at n e }
+
+  module _ (e : moved at (offered s at) ≡ false) where
+    pub stays : offered s at ≡ at
+    stays = unmoved at (offered s at) (length-offered s at) e
+
+    pub ends : settledAt s ≡ at
+    ends = g .same ∙ settles s at (g .rounds) e
+
+-- ---- the stops set aside
+aside-is : (s at marks aside : List ℕ) → Marks s marks aside → setAside s at marks ≡ stopsWith s (leftOut s at aside)
+unfolding setAside
+aside-is s at marks aside m =
+    those-alike (λ c. isNobody s (getD at c 0) || eqb (getD marks c 0) 1) (leftOut s at aside) (rowsOf s - depotsOf s) (depotsOf s)
+    (λ c l u. ap (λ (b : Bool). isNobody s (getD at c 0) || b) (turned s marks aside m c (omega arith)))
+
+gathered-long : (s at : List ℕ) → length (stopsOf (gathered s at)) ≡ rowsOf s - depotsOf s
+gathered-long s at =
+    same-length (stopsOf (gathered s at)) (allStops s) (λ x. gathered-once s at x ∙ sym (all-once s x)) ∙ those-all (rowsOf s - depotsOf s) (depotsOf s)
+
+module _ {s : List ℕ} (at : List ℕ) {marks stops ends vehicles : List ℕ} {f : Filled} (p : Planned s marks stops ends vehicles f (planned s at)) (long : rowsOf s ≤ length stops) where
+  abbrev o : Outcome
+  o = gathered s at
+
+  aside-so : setAside s at marks ≡ o .aside
+  unfolding gathered
+  aside-so = aside-is s at marks (planned s at .aside) (p .turned)
+
+  counted : f .routed + length (setAside s at marks) ≡ rowsOf s - depotsOf s
+  unfolding gathered
+  counted = rw aside-so (omega (arith, p .holds .routed, gathered-long s at, length-chains (o .rounds) (o .aside)))
+
+  pub room-aside : f .routed + length (setAside s at marks) ≤ length stops
+  room-aside = omega (arith, counted)
+
+  pub gathered-held : {stops′ : List ℕ} → stops′ ≡ write stops (f .routed) (setAside s at marks) → Held stops′ ends vehicles f (rowsOf s - depotsOf s) o
+  unfolding gathered
+  gathered-held e = rw e (record {
+    holds = holds-behind stops ends vehicles f (o .rounds) (p .holds) (setAside s at marks) room-aside;
+    from = omega (arith, counted);
+    within = omega (arith, counted, room-aside, length-write stops (f .routed) (setAside s at marks) room-aside);
+    aside = ap (part (write stops (f .routed) (setAside s at marks)) (f .routed)) (sym counted) ∙ part-there stops (f .routed) (setAside s at marks) room-aside ∙ aside-so;
+  })
+
+-- ---- one depot
+zeros-members : (s : List ℕ) (n : ℕ) → n ≡ rowsOf s → membersOf s (replicate n 0) 0 ≡ allStops s
+unfolding membersOf
+zeros-members s n e =
+    those-alike (λ c. eqb (getD (replicate n 0) c 0) 0) (λ c. true) (rowsOf s - depotsOf s) (depotsOf s)
+    (λ c l u. eq-eqb (getD (replicate n 0) c 0) 0 (getD-replicate n c 0 0 (omega arith)))
+
+module _ {s at₀ fleet stops ends vehicles : List ℕ} (lent : Lent s at₀ fleet stops ends vehicles) {at : List ℕ} (zeros : at ≡ replicate (length at₀) 0) where
+  pub lent-zeros : Lent s at fleet stops ends vehicles
+  lent-zeros = record { sheet = lent .sheet; rows = ap length zeros ∙ length-replicate {A = ℕ} (length at₀) 0 ∙ lent .rows; manned = lent .manned; stopped = lent .stopped; ended = lent .ended; driven = lent .driven }
+
+  members-all : membersOf s at 0 ≡ allStops s
+  members-all = rw zeros (zeros-members s (length at₀) (lent .rows))
+
+  pub next-zeros : Next s at 0 empty
+  next-zeros = record { home = depots-some s; rounds = omega arith; room = rw members-all (omega (arith, those-all (rowsOf s - depotsOf s) (depotsOf s))) }
+
+  pub one-held : {stops′ ends′ vehicles′ : List ℕ} {share : Share} → Shared stops ends vehicles empty (plannedOf s 0 (membersOf s at 0)) stops′ ends′ vehicles′ share → Held stops′ ends′ vehicles′ (share .filled) (rowsOf s - depotsOf s) (plannedOf s 0 (allStops s))
+  one-held {stops′} {ends′} {vehicles′} {share} h =
+      let k : Shared stops ends vehicles empty (plannedOf s 0 (allStops s)) stops′ ends′ vehicles′ share = rw members-all at h in
+      let n : share .total ≡ rowsOf s - depotsOf s = omega (arith, k .count, length-planned s 0 (allStops s), those-all (rowsOf s - depotsOf s) (depotsOf s)) in
+      subst (λ (m : ℕ). Held stops′ ends′ vehicles′ (share .filled) m (plannedOf s 0 (allStops s))) n (record { holds = k .holds [] (holds-none stops ends vehicles); from = k .from; within = k .within; aside = k .aside })
+
+-- ---- either
+-- the part of the offers' table that is used
+pub desk-lent : {s at marks fleet stops ends vehicles : List ℕ} (n : ℕ) → Desk s at marks fleet stops ends vehicles → n ≡ rowsOf s → Lent s (take (n - 0) at) fleet stops ends vehicles
+desk-lent {at = at} n d e = record {
+  sheet = d .sheet;
+  rows = length-take-le (n - 0) at (omega (arith, d .offered)) ∙ omega arith;
+  manned = d .manned;
+  stopped = d .stopped;
+  ended = d .ended;
+  driven = d .driven;
+}
+
+pub told : (s stops ends vehicles : List ℕ) (f : Filled) (o : Outcome) → Accepted s → outcomeOf s ≡ o → Held stops ends vehicles f (rowsOf s - depotsOf s) o → Told s stops ends vehicles f (outcomeOf s)
+told s stops ends vehicles f o a e h =
+    let k : Held stops ends vehicles f (rowsOf s - depotsOf s) (outcomeOf s) = rw e h in
+    record {
+      tables = held-tables stops ends vehicles f (rowsOf s - depotsOf s) (outcomeOf s) k s a (outcome-right s) (rounds-few s);
+      outcome = held-outcome stops ends vehicles f (rowsOf s - depotsOf s) (outcomeOf s) k;
+    }
+
+pub outcome-one : (s : List ℕ) → depotsOf s ≡ 1 → outcomeOf s ≡ plannedOf s 0 (allStops s)
+unfolding outcomeOf
+outcome-one s e = rw (eq-eqb (depotsOf s) 1 e)
+
+pub outcome-several : (s : List ℕ) → (depotsOf s ≡ 1 → ⊥) → outcomeOf s ≡ byDepot s
+unfolding outcomeOf
+outcome-several s e = rw (ne-eqb (depotsOf s) 1 e)

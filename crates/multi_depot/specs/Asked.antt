@@ -1,0 +1,90 @@
+-- What the functions ask, and what they leave in the tables that are lent.
+use mathlib.Core.Path.{_≡_}
+use Prim.Native.Nat.{ℕ, _+_, _-_, _≤_, _<_}
+use mathlib.Core.Bool.{_||_}
+use mathlib.Core.List.{List, [], _∷_, _++_}
+use lib.Dec.{eqb}
+use lib.ListN.{length, getD, set}
+use Rattle.sheet.specs.Fields.{rowsOf}
+use Rattle.sheet.specs.Depots.{depotsOf}
+use Rattle.sheet.specs.Accepted.{Accepted}
+use Rattle.plan.specs.Read.{one, stopsOf}
+use Rattle.plan.specs.Outcome.{Round, Outcome, outcomeIn}
+use Rattle.plan.specs.Members.{part}
+use Rattle.plan.specs.Tables.{Tables}
+use Rattle.plan.specs.Holds.{Holds}
+use Rattle.plan.specs.declared.tables.Filled.{Filled}
+use Rattle.multi_depot.specs.declared.Share.{Share}
+use Rattle.multi_depot.specs.ByDepot.{isNobody, stopsWith, membersOf, isIn}
+
+-- a row of a sheet with so many depots
+pub record Asked (s : List ℕ) (depots stop : ℕ) : Type 0 where
+  pub sheet : Accepted s
+  pub count : depots ≡ depotsOf s
+  pub row : stop < rowsOf s
+
+-- a depot, or nobody, for each row
+pub record Gathers (s at : List ℕ) : Type 0 where
+  pub sheet : Accepted s
+  pub rows : length at ≡ rowsOf s
+
+pub record Offering (s : List ℕ) (depots : ℕ) (at : List ℕ) : Type 0 where
+  pub sheet : Accepted s
+  pub count : depots ≡ depotsOf s
+  pub rows : length at ≡ rowsOf s
+
+-- ---- marks: 1 for a row that is turned down, else 0
+pub record Marks (s marks aside : List ℕ) : Type 0 where
+  pub long : rowsOf s ≤ length marks
+  pub mark : (c : ℕ) → c < rowsOf s → getD marks c 0 ≡ one (isIn c aside)
+
+unfoldable pub markedBy : List ℕ → List ℕ → List ℕ
+markedBy marks [] = marks
+markedBy marks (row ∷ rows) = markedBy (set marks row 1) rows
+
+-- the stops set aside, by the marks
+unfoldable pub setAside : List ℕ → List ℕ → List ℕ → List ℕ
+setAside s at marks = stopsWith s (λ c. isNobody s (getD at c 0) || eqb (getD marks c 0) 1)
+
+-- ---- the tables
+pub record Lent (s at fleet stops ends vehicles : List ℕ) : Type 0 where
+  pub sheet : Accepted s
+  pub rows : length at ≡ rowsOf s
+  pub manned : 16 ≤ length fleet
+  pub stopped : rowsOf s ≤ length stops
+  pub ended : rowsOf s ≤ length ends
+  pub driven : rowsOf s ≤ length vehicles
+
+-- as a caller lends them, who has a number for each row and for each vehicle at least
+pub record Desk (s at marks fleet stops ends vehicles : List ℕ) : Type 0 where
+  pub sheet : Accepted s
+  pub offered : rowsOf s ≤ length at
+  pub marked : rowsOf s ≤ length marks
+  pub manned : 16 ≤ length fleet
+  pub stopped : rowsOf s ≤ length stops
+  pub ended : rowsOf s ≤ length ends
+  pub driven : rowsOf s ≤ length vehicles
+
+-- a depot, and room for its members behind what is filled
+pub record Next (s at : List ℕ) (depot : ℕ) (f : Filled) : Type 0 where
+  pub home : depot < depotsOf s
+  pub rounds : f .rounds ≤ f .routed
+  pub room : f .routed + length (membersOf s at depot) ≤ rowsOf s
+
+-- a depot's outcome behind the rounds that the tables held
+pub record Shared (stops ends vehicles : List ℕ) (f : Filled) (o : Outcome) (stops′ ends′ vehicles′ : List ℕ) (share : Share) : Type 0 where
+  pub holds : (rounds : List Round) → Holds stops ends vehicles f rounds → Holds stops′ ends′ vehicles′ (share .filled) (rounds ++ o .rounds)
+  pub count : share .total ≡ f .routed + length (stopsOf o)
+  pub from : share .filled .routed ≤ share .total
+  pub within : share .total ≤ length stops′
+  pub aside : part stops′ (share .filled .routed) (share .total) ≡ o .aside
+
+-- the outcome of depots, whose stops set aside are marked
+pub record Planned (s marks stops ends vehicles : List ℕ) (f : Filled) (o : Outcome) : Type 0 where
+  pub holds : Holds stops ends vehicles f (o .rounds)
+  pub turned : Marks s marks (o .aside)
+
+-- the sheet's outcome, as the writer takes it
+pub record Told (s stops ends vehicles : List ℕ) (f : Filled) (o : Outcome) : Type 0 where
+  pub tables : Tables s stops ends vehicles (f .rounds) (rowsOf s - depotsOf s)
+  pub outcome : outcomeIn stops ends vehicles (f .rounds) (rowsOf s - depotsOf s) ≡ o

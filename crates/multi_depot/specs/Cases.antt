@@ -1,0 +1,42 @@
+-- A sheet with two depots, rows 0 and 1, and two stops of demand 2: both are nearest to depot 0, whose vehicle carries one. Computed from the definitions.
+use mathlib.Core.Path.{_≡_, refl}
+use Prim.Native.Nat.{ℕ}
+use mathlib.Core.List.{List, [], _∷_, _++_}
+use lib.Ieee.{add, mul, ofBits, lt, le, eq}
+use Rattle.wire.specs.Bytes.{le as number, bytes, f64At}
+use Rattle.sheet.specs.Fields.{rowsOf, vehiclesOf, methodOf, timesOf, rowMarks, idField, depotField, vehicleMarks, marked}
+use Rattle.sheet.specs.Depots.{leading, depotsOf}
+use Rattle.sheet.specs.Values.{gateAt, demandOf, stopOf, limitAt, restAfter, vehicleOf, distanceOf, timeOf}
+use Rattle.evaluation.specs.Limits.{allowOf}
+use Rattle.evaluation.specs.Checks.{someWindowed, hasSoftWindows}
+use Rattle.plan.specs.Outcome.{Outcome}
+use Rattle.plan.specs.Read.{count}
+use Rattle.plan.specs.SheetA.{one, three, four, ten, f64s, header, row, none, vehicle}
+use Rattle.nearest_neighbor.specs.Greedy.{choose, grow, growOn, greedy}
+use Rattle.nearest_neighbor.specs.Nearest.{nearestOffer, nearestOnward, nearestNeighbor, windowOffer, windowOnward, nearestNeighborTw}
+use Rattle.multi_depot.specs.Those.{those}
+use Rattle.multi_depot.specs.ByDepot.{fleetOf, manned, sooner, askedAfter, nearestFrom, nextDepot, membersOf, constructOf, plannedOf, plannedUpto, movesTo, offeredFrom, offered, moved, settledIn, firstFrom, firstAt, settledAt, gathered, byDepot, outcomeOf}
+
+abbrev rows : List ℕ
+rows = row 0 0 1 none ++ (row 0 0 1 none ++ (row 0 2 0 none ++ row 0 2 0 none))
+
+-- from depot 0 stop 2 is at 1 and stop 3 at 3, from depot 1 at 10 and at `far`
+abbrev table : ℕ → List ℕ
+table far = f64s (0 ∷ ten ∷ one ∷ three ∷ ten ∷ 0 ∷ ten ∷ far ∷ one ∷ ten ∷ 0 ∷ four ∷ three ∷ far ∷ four ∷ 0 ∷ [])
+
+abbrev sheet : ℕ → List ℕ → ℕ → List ℕ
+sheet n fleet far = header 4 n 2 ++ (rows ++ (fleet ++ table far))
+
+pub record Rows : Type 0 where
+  -- stop 3 is turned down, and goes to depot 1
+  pub next : outcomeOf (sheet 2 (vehicle 0 ++ vehicle 1) four) ≡ record { rounds = record { vehicle = 0; stops = 2 ∷ [] } ∷ record { vehicle = 1; stops = 3 ∷ [] } ∷ []; aside = [] }
+  -- at equal distances it goes to the lower depot first
+  pub tie : firstAt (sheet 2 (vehicle 0 ++ vehicle 1) three) ≡ 0 ∷ 1 ∷ 0 ∷ 0 ∷ []
+  -- no other depot has a vehicle
+  pub last : outcomeOf (sheet 1 (vehicle 0) four) ≡ record { rounds = record { vehicle = 0; stops = 2 ∷ [] } ∷ []; aside = 3 ∷ [] }
+  -- none has
+  pub nobody : outcomeOf (sheet 0 [] four) ≡ record { rounds = []; aside = 2 ∷ 3 ∷ [] }
+
+pub cases : Rows
+unfolding outcomeOf byDepot gathered settledAt firstAt firstFrom settledIn moved offered offeredFrom movesTo plannedUpto plannedOf constructOf membersOf nextDepot nearestFrom askedAfter sooner manned fleetOf those count nearestNeighbor nearestNeighborTw greedy grow growOn choose nearestOffer nearestOnward windowOffer windowOnward allowOf someWindowed hasSoftWindows gateAt demandOf stopOf limitAt restAfter vehicleOf distanceOf timeOf rowsOf vehiclesOf methodOf timesOf rowMarks idField depotField vehicleMarks marked leading depotsOf number bytes f64At add mul ofBits lt le eq
+cases = record { next = refl; tie = refl; last = refl; nobody = refl }

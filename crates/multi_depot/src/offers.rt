@@ -1,0 +1,72 @@
+// Rounds of offers: where each row goes at first, and where it goes once it is turned down.
+use crate::depots;
+ghost use mathlib.Core.Path.{_≡_};
+ghost use Prim.Native.Nat.{ℕ, _<_};
+ghost use lib.ListN.{length, getD, replicate};
+ghost use Rattle.multi_depot.specs.ByDepot.{planned, movesTo, offered, moved, firstAt};
+ghost use Rattle.multi_depot.specs.Asked.{Asked, Offering, Marks, markedBy};
+
+// Every row at its nearest depot with a vehicle.
+pub fn first_at(sheet: &[u8], depots: usize, at: &mut [u16])
+    requires { ⌜ Offering (now sheet) depots (now at) ⌝ }
+    ensures { λ _. ⌜ now (at .exit) ≡ firstAt (now (sheet .entry)) ⌝ }
+{
+    for row in 0..at.len() {
+        at[row] = depots::next_depot(sheet, depots, row, depots) as u16;
+    }
+}
+
+// The same number for every row.
+pub fn fill(table: &mut [u16], value: u16)
+    ensures { λ _. ⌜ now (table .exit) ≡ replicate (length (now (table .entry))) value ⌝ }
+{
+    for i in 0..table.len() {
+        table[i] = value;
+    }
+}
+
+// Marks the stops that a depot turned down.
+pub fn mark(marks: &mut [u16], aside: &[u16])
+    requires { ⌜ ((k : ℕ) → k < length (now aside) → getD (now aside) k 0 < length (now marks)) ⌝ }
+    ensures { λ _. ⌜ now (marks .exit) ≡ markedBy (now (marks .entry)) (now (aside .entry)) ⌝ }
+{
+    for i in 0..aside.len() {
+        let stop = aside[i] as usize;
+        marks[stop] = 1;
+    }
+}
+
+// The depot of a row after an offer: a stop turned down goes to its next depot, where there is one.
+fn moves_to(sheet: &[u8], depots: usize, turned: bool, row: usize, depot: usize) -> usize
+    requires { ⌜ Asked (now sheet) depots row ⌝ }
+    ensures { λ r. ⌜ r ≡ movesTo (now (sheet .entry)) turned row depot ⌝ }
+{
+    if !turned {
+        return depot;
+    }
+    let next = depots::next_depot(sheet, depots, row, depot);
+    if depots <= next {
+        return depot;
+    }
+    next
+}
+
+// Offers every stop turned down to its next depot; answers whether one has moved.
+pub fn offer(sheet: &[u8], depots: usize, at: &mut [u16], marks: &[u16]) -> bool
+    requires { ⌜ Offering (now sheet) depots (now at) ⌝ }
+    requires { ⌜ Marks (now sheet) (now marks) (planned (now sheet) (now at) .aside) ⌝ }
+    ensures { λ r. ⌜ r ≡ moved (now (at .entry)) (offered (now (sheet .entry)) (now (at .entry))) ⌝ }
+    ensures { λ _. ⌜ now (at .exit) ≡ offered (now (sheet .entry)) (now (at .entry)) ⌝ }
+{
+    let mut any = false;
+    for row in 0..at.len() {
+        let here = at[row] as usize;
+        let next = moves_to(sheet, depots, marks[row] == 1, row, here);
+        if next == here {
+            continue;
+        }
+        at[row] = next as u16;
+        any = true;
+    }
+    any
+}

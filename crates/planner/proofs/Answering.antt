@@ -1,0 +1,57 @@
+-- The answer, refused or planned, and that it keeps what is promised. Assumes nothing.
+use mathlib.Core.Path.{_≡_, refl, sym, _∙_}
+use Prim.Native.Nat.{ℕ, zero, suc, _<_}
+use mathlib.Core.Bool.{Bool, true, false, not}
+use mathlib.Core.List.{List}
+use lib.Dec.{leb, ltb}
+use borrow.Author.Tests.{lt-leb, le-leb, ltb-true, ltb-false}
+use lib.ListN.{length, getD}
+use Rattle.sheet.specs.Fields.{planLength}
+use Rattle.sheet.specs.Refusal.{refusalOf}
+use Rattle.sheet.specs.Accepted.{Accepted, accepted}
+use Rattle.planner.specs.Answer.{planFor, answerOf, Answered, Once, Lawful}
+use Rattle.planner.specs.Promised.{stands, lawful-rounds}
+
+module _ (s lent : List ℕ) (n : ℕ) (told : n ≡ refusalOf s (length lent)) where
+  -- a refused sheet: nothing is promised of it
+  module _ (refused : n ≡ 0 → ⊥) where
+    pub refused-answer : Answered s lent n lent
+    unfolding answerOf
+    refused-answer = go (refusalOf s (length lent)) refl
+      where
+        go : (m : ℕ) → refusalOf s (length lent) ≡ m → Answered s lent n lent
+        go zero e = absurd (refused (told ∙ e))
+        go (suc m) e = record { number = rw e (told ∙ e); bytes = rw e }
+
+    pub refused-once : Once s n lent
+    refused-once e = absurd (refused e)
+
+    pub refused-lawful : Lawful s n lent
+    refused-lawful e = absurd (refused e)
+
+  -- an accepted one
+  module _ (none : n ≡ 0) where
+    fine : Accepted s
+    fine = accepted s (length lent) (sym told ∙ none) .0
+
+    pub asks : Accepted s × (length lent ≡ planLength s)
+    asks = accepted s (length lent) (sym told ∙ none)
+
+    module _ (plan : List ℕ) (filled : plan ≡ planFor s) where
+      pub planned-answer : Answered s lent 0 plan
+      unfolding answerOf
+      planned-answer = let e : refusalOf s (length lent) ≡ 0 = sym told ∙ none in record { number = rw e; bytes = rw e filled }
+
+      pub planned-once : ((i : ℕ) → getD s i 0 < 256) → Once s 0 plan
+      planned-once small e = rw filled (stands s fine small)
+
+      pub planned-lawful : ((i : ℕ) → getD s i 0 < 256) → Lawful s 0 plan
+      planned-lawful small e whole other = rw filled (lawful-rounds s fine small whole other)
+
+-- more than one row
+pub above-one : (n : ℕ) → ltb 1 n ≡ not (leb n 1)
+above-one n = go (ltb 1 n) refl
+  where
+    go : (b : Bool) → ltb 1 n ≡ b → ltb 1 n ≡ not (leb n 1)
+    go true e = rw (e, lt-leb n 1 (ltb-true 1 n e))
+    go false e = rw (e, le-leb n 1 (ltb-false 1 n e))

@@ -1,0 +1,76 @@
+-- What the planner answers a sheet with, and what holds of every plan: demands 1 to 3, read from the bytes of sheet and plan alone.
+use mathlib.Core.Path.{_≡_}
+use Prim.Native.Nat.{ℕ, zero, suc, _≤_, _<_}
+use mathlib.Core.Bool.{Bool, not, _&&_, _||_}
+use mathlib.Core.List.{List}
+use lib.Dec.{T, leb, eqb}
+use lib.ListN.{length}
+use Rattle.sheet.specs.Fields.{rowsOf, methodOf}
+use Rattle.sheet.specs.Depots.{depotsOf}
+use Rattle.sheet.specs.Refusal.{refusalOf}
+use Rattle.plan.specs.Outcome.{Round}
+use Rattle.plan.specs.Plan.{planOf}
+use Rattle.plan.specs.Read.{readPlan, stopsOf, count, planRight}
+use Rattle.plan.specs.Every.{Every}
+use Rattle.lawful.specs.Whole.{Whole}
+use Rattle.lawful.specs.Lawful.{lawful, keepsCapacity}
+use Rattle.multi_depot.specs.ByDepot.{outcomeOf}
+
+-- ---- the answer
+-- with one depot and no stop the Rust returns before it prices
+unfoldable pub priced : List ℕ → Bool
+priced s = not (eqb (depotsOf s) 1 && leb (rowsOf s) 1)
+
+-- the plan of an accepted sheet
+unfoldable pub planFor : List ℕ → List ℕ
+planFor s = planOf s (outcomeOf s) (priced s)
+
+-- "Every sheet ends in a plan or in one of the refusals": "The number is the whole answer."
+pub data Answer : Type 0 where
+  refused : ℕ → Answer
+  planned : List ℕ → Answer
+
+abbrev pub toldBy : ℕ → List ℕ → Answer
+toldBy zero s = planned (planFor s)
+toldBy (suc n) s = refused (suc n)
+
+-- the answer to a sheet with a plan buffer of `room` bytes
+unfoldable pub answerOf : List ℕ → ℕ → Answer
+answerOf s room = toldBy (refusalOf s room) s
+
+-- its number
+abbrev pub numberOf : Answer → ℕ
+numberOf (refused n) = n
+numberOf (planned bytes) = 0
+
+-- the bytes lent for the plan, after it: "A refused call writes no lent byte."
+abbrev pub bytesOf : Answer → List ℕ → List ℕ
+bytesOf (refused n) lent = lent
+bytesOf (planned bytes) lent = bytes
+
+-- ---- the parts of the contract: a sheet, the bytes lent, the number and the bytes after it
+-- **answer**, demands 1 and 2: number and bytes are the definition's, refused sheets included
+pub record Answered (s lent : List ℕ) (r : ℕ) (plan : List ℕ) : Type 0 where
+  pub number : r ≡ numberOf (answerOf s (length lent))
+  pub bytes : plan ≡ bytesOf (answerOf s (length lent)) lent
+
+-- **once**, demand 3: "Every pond of an accepted sheet stands once in its plan [..]: on one round or set aside."
+pub record Standing (s plan : List ℕ) : Type 0 where
+  pub each : (i : ℕ) → depotsOf s ≤ i → i < rowsOf s → count i (stopsOf (readPlan s plan)) ≡ 1
+  -- nothing else does: every id is a vehicle's, every link a stop's, and refusal 10 is not told of it
+  pub right : T (planRight s plan)
+
+abbrev pub Once : List ℕ → ℕ → List ℕ → Type 0
+Once s r plan = r ≡ 0 → Standing s plan
+
+-- "keeps capacity, save a lone savings pond"
+abbrev pub capacityKept : List ℕ → Round → Bool
+capacityKept s r = keepsCapacity s (r .vehicle) (r .stops) || (eqb (methodOf s) 0 && eqb (length (r .stops)) 1)
+
+pub record LawfulRound (s : List ℕ) (r : Round) : Type 0 where
+  pub schedule : T (lawful s (r .vehicle) (r .stops))
+  pub capacity : T (capacityKept s r)
+
+-- **lawful**, demand 3: "every round of the plan, whichever constructor but plain nearest neighbour made it, has a lawful schedule [..] and keeps capacity"
+abbrev pub Lawful : List ℕ → ℕ → List ℕ → Type 0
+Lawful s r plan = r ≡ 0 → Whole s → (methodOf s ≡ 2 → ⊥) → Every (LawfulRound s) (readPlan s plan .rounds)
