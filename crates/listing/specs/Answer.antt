@@ -2,7 +2,10 @@
 use mathlib.Core.Path.{_≡_, refl}
 use Prim.Native.Nat.{ℕ, zero, suc}
 use mathlib.Core.List.{List}
-use Rattle.listing_text.specs.Listing.{listingOf, refusedText}
+use Rattle.sheet.specs.Fields.{planLength}
+use Rattle.sheet.specs.Refusal.{refusalOf}
+use Rattle.planner.specs.Answer.{planFor}
+use Rattle.listing_text.specs.Listing.{listingOf, refusedText, listingRefusal}
 
 -- "prints `refused N` or", where nothing is refused, the listing of the sheet's plan
 unfoldable pub answerText : ℕ → List ℕ → List ℕ → List ℕ
@@ -17,3 +20,7 @@ pub answer-refused : (n : ℕ) (s plan : List ℕ) → (n ≡ 0 → ⊥) → ans
 unfolding answerText
 answer-refused zero s plan h = absurd (h refl)
 answer-refused (suc n) s plan h = refl
+
+-- the text of a sheet: its early refusal, the planner's, or the listing of its plan
+unfoldable pub listedText : List ℕ → List ℕ
+listedText s = answerText (listingRefusal s (refusalOf s (planLength s))) s (planFor s)

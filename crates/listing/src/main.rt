@@ -7,7 +7,8 @@ ghost use lib.ListN.{length};
 ghost use Rattle.sheet.specs.Fields.{rowsOf};
 ghost use Rattle.sheet.specs.Refusal.{refusalOf};
 ghost use Rattle.listing_text.specs.Put.{Put};
-ghost use Rattle.listing.specs.Answer.{answerText};
+ghost use Rattle.planner.specs.Answer.{planFor};
+ghost use Rattle.listing.specs.Answer.{answerText, listedText};
 
 // One byte more than the longest sheet that is listed, which has 16 + 48 * 48 + 72 * 16 + 16 * 48 * 48
 // bytes. A longer input is refused as its first ROOM bytes are: refusals 1 to 3 read the header
@@ -20,7 +21,7 @@ const PLAN_ROOM: usize = 3_856;
 // The listing of a sheet of at most 48 rows, which is planned into `plan`, or its refusal.
 fn write_planned(out: &mut [u8], sheet: &[u8], plan: &mut [u8]) -> usize
     requires { ⌜ (8192 ≤ length (now out)) × (rowsOf (now sheet) ≤ 48) ⌝ }
-    ensures { λ r. ⌜ Put (now (out .entry)) (now (out .exit)) 0 (answerText (refusalOf (now (sheet .entry)) (length (now (plan .entry)))) (now (sheet .entry)) (now (plan .exit))) r ⌝ }
+    ensures { λ r. ⌜ Put (now (out .entry)) (now (out .exit)) 0 (answerText (refusalOf (now (sheet .entry)) (length (now (plan .entry)))) (now (sheet .entry)) (planFor (now (sheet .entry)))) r ⌝ }
 {
     let refused = planner::plan_rounds(sheet, plan);
     if refused != 0 {
@@ -32,7 +33,7 @@ fn write_planned(out: &mut [u8], sheet: &[u8], plan: &mut [u8]) -> usize
 // What is printed, in the buffer, and where it ends.
 fn write_answer(out: &mut [u8], sheet: &[u8], plan: &mut [u8]) -> usize
     requires { ⌜ (8192 ≤ length (now out)) × (3856 ≤ length (now plan)) ⌝ }
-    ensures { λ r. ⌜ r ≤ length (now (out .exit)) ⌝ }
+    ensures { λ r. ⌜ Put (now (out .entry)) (now (out .exit)) 0 (listedText (now (sheet .entry))) r ⌝ }
 {
     let early = listing_text::early_refusal(sheet);
     if early != 0 {

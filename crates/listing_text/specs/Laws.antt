@@ -1,7 +1,7 @@
 -- Laws of numbers as text, and what it means that nothing is refused early. Assumes nothing.
 use mathlib.Core.Path.{_≡_, refl, ap, _∙_}
 use Prim.Native.Nat.{ℕ, zero, suc, _+_, _-_, _/_, _%_, _^_, _≤_, _<_}
-use native.Mathlib.Nat.{pow-zero, pow-succ'}
+use native.Mathlib.Nat.{pow-zero, pow-succ', suc-ne-zero}
 use native.Mathlib.Numerals.{add-one}
 use native.Mathlib.Omega.{arith}
 use mathlib.Core.Bool.{Bool, true, false, cond}
@@ -66,3 +66,22 @@ not-early s e = go (headerRight s) refl (leb (rowsOf s) 48) refl e
     go true h true k f = (header-of s (rw h tt) .0, leb-true (rowsOf s) 48 k)
     go true h false k f = absurd (omega arith)
     go false h b k f = absurd (omega arith)
+
+-- what is refused early is refused whatever is told later, and else what is told stands
+pub early-stands : (s : List ℕ) (told : ℕ) → (listingRefusal s 0 ≡ 0 → ⊥) → listingRefusal s told ≡ listingRefusal s 0
+unfolding listingRefusal
+early-stands s told h = go (headerRight s) (leb (rowsOf s) 48) h
+  where
+    go : (a b : Bool) → (unless a 1 (unless b 2 0) ≡ 0 → ⊥) → unless a 1 (unless b 2 told) ≡ unless a 1 (unless b 2 0)
+    go false b h = refl
+    go true false h = refl
+    go true true h = absurd (h refl)
+
+pub told-stands : (s : List ℕ) (told : ℕ) → listingRefusal s 0 ≡ 0 → listingRefusal s told ≡ told
+unfolding listingRefusal
+told-stands s told e = go (headerRight s) (leb (rowsOf s) 48) e
+  where
+    go : (a b : Bool) → unless a 1 (unless b 2 0) ≡ 0 → unless a 1 (unless b 2 told) ≡ told
+    go false b e = absurd (suc-ne-zero 0 e)
+    go true false e = absurd (suc-ne-zero 1 e)
+    go true true e = refl

@@ -34,7 +34,7 @@ use Rattle.nearest_neighbor.specs.Feasible.{window-feasible}
 use Rattle.multi_depot.specs.ByDepot.{fleetOf, constructOf, outcomeOf}
 use Rattle.multi_depot.specs.Each.{once, links-right, each-once}
 use Rattle.multi_depot.specs.Rounds.{RoundFrom, constructs-from, rounds-every, outcome-right, rounds-few}
-use Rattle.planner.specs.Answer.{planFor, toldBy, answerOf, numberOf, capacityKept, Standing, LawfulRound}
+use Rattle.planner.specs.Answer.{planFor, toldBy, answerOf, numberOf, Answered, capacityKept, Standing, LawfulRound}
 
 -- the number is the refusal's, or 0
 pub number-is : (s : List ℕ) (room : ℕ) → numberOf (answerOf s room) ≡ refusalOf s room
@@ -44,6 +44,13 @@ number-is s room = go (refusalOf s room)
     go : (n : ℕ) → numberOf (toldBy n s) ≡ n
     go zero = refl
     go (suc n) = refl
+
+-- and where it is 0 the bytes are the plan's
+pub bytes-are : (s lent : List ℕ) (r : ℕ) (plan : List ℕ) → Answered s lent r plan → r ≡ 0 → plan ≡ planFor s
+unfolding answerOf
+bytes-are s lent r plan a e =
+    let z : refusalOf s (length lent) ≡ 0 = sym (number-is s (length lent)) ∙ sym (a .number) ∙ e in
+    a .bytes ∙ rw z
 
 or-l : (a b : Bool) → T a → T (a || b)
 or-l true b t = tt

@@ -12,7 +12,7 @@ slice-reshare-prefix-write-all : tie.Need-slice-reshare-prefix-write-all
 slice-reshare-prefix-write-all c = search needs
 
 slice-aggregate-write-all : tie.Need-slice-aggregate-write-all
-slice-aggregate-write-all c = let w = c .before .before .before .before .before .write-answer in sym (length-take-le (w .result) (w .last .0) (w .ensures))
+slice-aggregate-write-all c = let w = c .before .before .before .before .before .write-answer in sym (length-take-le (w .result) (w .last .0) (w .ensures .within))
 
 write-all-requires : tie.Need-write-all-requires
 write-all-requires c κs = search needs

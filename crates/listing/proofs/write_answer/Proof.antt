@@ -1,11 +1,14 @@
 -- `listing::write_answer` meets its contract. Assumes nothing.
-use mathlib.Core.Path.{sym, _∙_}
-use Prim.Native.Nat.{_≤_}
+use mathlib.Core.Path.{sym, ap, _∙_}
+use Prim.Native.Nat.{ℕ, _+_, _*_, _≤_}
 use native.Mathlib.Omega.{arith}
 use lib.ListN.{length}
 use lib.Seq.{length-take-le}
-use Rattle.sheet.specs.Fields.{rowsOf}
-use Rattle.listing_text.specs.Laws.{not-early}
+use Rattle.sheet.specs.Fields.{rowsOf, planLength}
+use Rattle.sheet.specs.Refusal.{refusalOf}
+use Rattle.planner.specs.Answer.{planFor}
+use Rattle.listing_text.specs.Laws.{not-early, early-stands, told-stands}
+use Rattle.listing.specs.Answer.{answer-refused, listedText}
 use borrow.Author.Needs.{needs}
 use Rattle.listing.proofs.write_answer.Statement.{statement}
 use Rattle.listing.proofs.write_answer.Tie as tie
@@ -20,7 +23,8 @@ same-length : tie.Need-same-length
 same-length c = search needs
 
 returns : tie.Need-returns
-returns c = search needs
+unfolding listedText
+returns c = let s = c .before .before .before .before .before .before .before .before .before .args .sheet .now in rw (early-stands s (refusalOf s (planLength s)) (λ e. c .before .before .before .before .if1 .taken (c .before .before .before .before .before .early-refusal .ensures ∙ e)), ← c .before .before .before .before .before .early-refusal .ensures, answer-refused (c .before .before .before .before .before .early-refusal .result) s (planFor s) (c .before .before .before .before .if1 .taken)) (c .before .before .write-refused .ensures)
 
 -- a sheet that is not refused early
 passed : (c : tie.Else1) → (16 ≤ length (c .before .before .before .before .before .args .sheet .now)) × (rowsOf (c .before .before .before .before .before .args .sheet .now) ≤ 48)
@@ -54,7 +58,8 @@ same-length-3 : tie.Need-same-length-3
 same-length-3 c = search needs
 
 returns-2 : tie.Need-returns-2
-returns-2 c = search needs
+unfolding listedText
+returns-2 c = let s = c .before .before .before .before .before .before .before .before .before .before .before .before .before .args .sheet .now in let h = few (c .before .before .before .before .before .before .before) in let l = length-take-le (16 + 80 * c .before .before .before .before .before .before .before .rows .result) (c .before .before .before .before .before .before .before .before .before .before .before .before .before .args .plan .now) (omega (arith, c .before .before .before .before .before .before .before .before .before .before .before .before .before .pre .1)) ∙ ap (λ (k : ℕ). 16 + 80 * k) (c .before .before .before .before .before .before .before .rows .ensures) in rw (told-stands s (refusalOf s (planLength s)) (sym (c .before .before .before .before .before .before .before .before .before .early-refusal .ensures) ∙ c .before .before .before .before .before .before .before .before .if1 .left), ← l) (c .before .before .before .before .write-planned .ensures)
 
 pub write-answer-spec : {M : Type 1} → statement M
 write-answer-spec =

@@ -1,7 +1,7 @@
 -- `listing::write_planned` meets its contract. Assumes nothing.
 use mathlib.Core.Path.{sym, _∙_}
 use Rattle.sheet.specs.Accepted.{accepted}
-use Rattle.planner.specs.Promised.{number-is}
+use Rattle.planner.specs.Promised.{number-is, bytes-are}
 use Rattle.listing.specs.Answer.{answer-listed, answer-refused}
 use borrow.Author.Needs.{needs}
 use Rattle.listing.proofs.write_planned.Statement.{statement}
@@ -35,7 +35,7 @@ same-length-4 : tie.Need-same-length-4
 same-length-4 c = search needs
 
 returns-2 : tie.Need-returns-2
-returns-2 c = rw (← number-is _ _, ← c .before .before .before .before .before .before .before .before .plan-rounds .ensures .0 .number, c .before .before .before .before .before .if1 .left, answer-listed) (c .before .before .write-listing .ensures)
+returns-2 c = rw (← number-is _ _, ← c .before .before .before .before .before .before .before .before .plan-rounds .ensures .0 .number, c .before .before .before .before .before .if1 .left, answer-listed, ← bytes-are _ _ _ _ (c .before .before .before .before .before .before .before .before .plan-rounds .ensures .0) (c .before .before .before .before .before .if1 .left)) (c .before .before .write-listing .ensures)
 
 pub write-planned-spec : {M : Type 1} → statement M
 write-planned-spec =
