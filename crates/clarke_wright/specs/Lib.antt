@@ -1,2 +1,4 @@
 pub mod Savings
+pub mod Joined
+pub mod Permutation
 pub mod Cases
