@@ -1,11 +1,11 @@
 -- A merge joins the stops of two different rounds, within capacity, and feasible where that is checked. So what each merge keeps, all rounds have. Assumes nothing.
-use mathlib.Core.Path.{_≡_, refl, sym, ap, _∙_, subst}
+use mathlib.Core.Path.{_≡_, sym, ap, _∙_, subst}
 use Prim.Native.Nat.{ℕ, zero, suc, _+_, _≤_, _<_, suc-le-suc}
 use native.Mathlib.Nat.{zero-lt-suc}
 use native.Mathlib.Omega.{arith}
 use mathlib.Core.Bool.{Bool, true, false, not, _&&_, _||_, cond}
 use mathlib.Core.List.{List, [], _∷_, _++_, reverse, reverseAux}
-use lib.Dec.{T, leb, ltb, eqb, leb→le}
+use lib.Dec.{T, leb, eqb, leb→le}
 use lib.ListN.{length, getD, set}
 use lib.Ieee.Fits.{and-l, and-r}
 use borrow.Author.Tests.{eq-eqb}
@@ -14,7 +14,7 @@ use Rattle.evaluation.specs.Feasible.{routeFeasible}
 use Rattle.plan.specs.Read.{count}
 use Rattle.plan.specs.Once.{count-append}
 use Rattle.plan.specs.Every.{Every, every-at, every-append, loadOf, load-append}
-use Rattle.clarke_wright.specs.Savings.{Terms, limitsIn, Saving, routeAt, slotOf, firstIs, lastIs, Merge, apart, joined, joining, onlyIf, mayJoin, tooDear, passes, passing, mergeIn, mergeOf, after, noSaving, mergedBy}
+use Rattle.clarke_wright.specs.Savings.{Terms, limitsIn, Saving, routeAt, slotOf, firstIs, lastIs, Merge, apart, joined, joining, onlyIf, mayJoin, tooDear, passes, mergeOf, after, noSaving, mergedBy}
 
 -- ---- a round reversed has the same stops
 count-onto : (x : ℕ) (xs ys : List ℕ) → count x (reverseAux xs ys) ≡ count x xs + count x ys

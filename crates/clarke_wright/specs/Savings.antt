@@ -92,9 +92,12 @@ unfoldable pub numbered : ℕ → ℕ → List ℕ
 numbered zero k = []
 numbered (suc n) k = k ∷ numbered n (k + 1)
 
+abbrev pub valuesOf : List Saving → List Float
+valuesOf savings = map (λ (x : Saving). x .value) savings
+
 -- "greatest first, ties as generated": the savings by their places
 unfoldable pub ranked : List Saving → List ℕ
-ranked savings = sorted (greater (map (λ (x : Saving). x .value) savings)) (numbered (length savings) 0)
+ranked savings = sorted (greater (valuesOf savings)) (numbered (length savings) 0)
 
 -- ---- the rounds: a slot for each member, in order
 abbrev pub routeAt : List (List ℕ) → ℕ → List ℕ
