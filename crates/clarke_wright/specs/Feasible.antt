@@ -1,18 +1,20 @@
 -- Every round of the savings is feasible, and with two stops or more it keeps its vehicle's capacity. Assumes nothing.
-use mathlib.Core.Path.{_≡_, refl, sym, _∙_}
+use mathlib.Core.Path.{_≡_, refl, sym, ap, _∙_}
 use Prim.Native.Nat.{ℕ, _≤_, _<_}
 use native.Mathlib.Nat.{zero-lt-suc}
 use native.Mathlib.Omega.{arith}
 use mathlib.Core.Bool.{Bool, true, false, not, _||_, true≢false}
 use mathlib.Core.List.{List, [], _∷_}
-use lib.Dec.{T}
+use lib.Dec.{T, eqb}
 use lib.ListN.{length}
+use borrow.Author.Tests.{eq-eqb}
 use Rattle.sheet.specs.Values.{vehicleOf}
 use Rattle.evaluation.specs.Limits.{limitsOf}
 use Rattle.evaluation.specs.Feasible.{routeFeasible}
 use Rattle.evaluation.specs.Checks.{routeChecksNeeded}
 use Rattle.plan.specs.Outcome.{Round}
-use Rattle.plan.specs.Every.{Every, every-of, every-map, loadOf}
+use Rattle.plan.specs.Read.{one, count}
+use Rattle.plan.specs.Every.{Every, every-of, every-map, loadOf, OfFleet}
 use Rattle.clarke_wright.specs.Savings.{Terms, termsOf, savingsOf, ranked, goesAlone, lone, startsOf, roundsOf, routesOf, plannedBy, clarkeWright}
 use Rattle.clarke_wright.specs.Joined.{Stands, Keeps, merged-every}
 use Rattle.clarke_wright.specs.Unchecked.{Windowless, free-feasible, unchecked-free, unchecked-windowless}
@@ -96,3 +98,11 @@ module _ (s : List ℕ) (depot v : ℕ) (members : List ℕ) where
       rounds-every (Built s t Known) (Saved s depot v) v
       (λ stops h b. record { vehicle = refl; some = h; capacity = b .capacity; feasible = stands-feasible stops (b .rows) (b .stands h) })
       (routesOf s t members) (routes-built s t Known members members-known)
+
+-- so of the first vehicle of a fleet
+pub savings-fleet : (s : List ℕ) (depot v : ℕ) (fleet members : List ℕ) → Every (OfFleet (v ∷ fleet)) (clarkeWright s depot v members .rounds)
+unfolding count
+savings-fleet s depot v fleet members =
+    every-map (Saved s depot v) (OfFleet (v ∷ fleet))
+    (λ r k. let here : one (eqb (r .vehicle) v) ≡ 1 = ap one (eq-eqb (r .vehicle) v (k .vehicle)) in omega (arith, here))
+    (clarkeWright s depot v members .rounds) (savings-saved s depot v members)
