@@ -25,7 +25,7 @@ priced s = not (eqb (depotsOf s) 1 && leb (rowsOf s) 1)
 unfoldable pub planFor : List ℕ → List ℕ
 planFor s = planOf s (outcomeOf s) (priced s)
 
--- "Every sheet ends in a plan or in one of the refusals": "The number is the whole answer."
+-- a sheet, of any bytes and length, is refused or planned: "The number is the whole answer."
 pub data Answer : Type 0 where
   refused : ℕ → Answer
   planned : List ℕ → Answer
