@@ -121,8 +121,10 @@ enum {
     PLANNER_PLAN_ROW_BYTES = 80 /* a round's record and a stop's */
 };
 
-/* Offered today are PLANNER_NEAREST_NEIGHBOR and PLANNER_NN_TW; each of the others
-   is refused as PLANNER_BAD_METHOD until it is proved. */
+/* How rounds are made. Savings, insertion and sweep use a depot's first vehicle for
+   all its rounds, as often as it takes; the nearest neighbours give each vehicle of
+   the depot one round at most. PLANNER_NEAREST_NEIGHBOR asks neither windows nor
+   waiting where no rest is due; every other method keeps them. */
 enum planner_method {
     PLANNER_SAVINGS = 0,
     PLANNER_INSERTION = 1,
@@ -170,7 +172,7 @@ enum planner_refusal {
     PLANNER_BAD_HEADER = 1,
     /* Rows above 101 or vehicles above 16. */
     PLANNER_TOO_MANY = 2,
-    /* Method above 4, or not offered yet. */
+    /* Method above 4. */
     PLANNER_BAD_METHOD = 3,
     /* Sheet or plan not of its exact length. */
     PLANNER_BAD_LENGTH = 4,

@@ -298,9 +298,11 @@ static void lend_planned(uint8_t *sheet)
     for (int turn = 0; turn < 6000; turn++) {
         unsigned rows = 1 + below(&state, turn % 100 == 0 ? PLANNER_MOST_ROWS : 14);
         unsigned depots = 1 + below(&state, rows < 4 ? rows : 4);
-        unsigned vehicles = below(&state, 6), time_table = below(&state, 2);
+        unsigned method = below(&state, 5), time_table = below(&state, 2);
+        int nearest = method == PLANNER_NEAREST_NEIGHBOR || method == PLANNER_NN_TW;
+        unsigned vehicles = nearest ? below(&state, 6) : 1 + below(&state, 5);
         size_t len = plain_sheet(sheet, rows, vehicles, time_table);
-        sheet[AT_METHOD] = (uint8_t)(PLANNER_NEAREST_NEIGHBOR + below(&state, 2));
+        sheet[AT_METHOD] = (uint8_t)method;
         for (unsigned r = 0; r < rows; r++)
             random_row(sheet + PLANNER_HEADER_BYTES + PLANNER_ROW_BYTES * r, &state, r < depots);
         uint8_t *fleet = sheet + PLANNER_HEADER_BYTES + PLANNER_ROW_BYTES * rows;

@@ -95,7 +95,7 @@ static struct sheet sheet_a(void)
     s.len = PLANNER_SHEET_BYTES(ROWS, VEHICLES, 0);
     put_u16(s.bytes + AT_ROWS, ROWS);
     put_u16(s.bytes + AT_VEHICLES, VEHICLES);
-    s.bytes[AT_METHOD] = PLANNER_NEAREST_NEIGHBOR;
+    s.bytes[AT_METHOD] = PLANNER_SAVINGS;
     put_i32(row(&s, 0) + AT_MARKS, PLANNER_DEPOT);
     put_i32(row(&s, 1) + AT_VERTICAL, 10);
     put_i32(row(&s, 1) + AT_DEMAND, 1);
@@ -127,7 +127,7 @@ static const char *words(uint32_t answer)
     case PLANNER_ACCEPTED: return "accepted";
     case PLANNER_BAD_HEADER: return "refused 1, no header";
     case PLANNER_TOO_MANY: return "refused 2, too many rows or vehicles";
-    case PLANNER_BAD_METHOD: return "refused 3, no such method, or not offered yet";
+    case PLANNER_BAD_METHOD: return "refused 3, no such method";
     case PLANNER_BAD_LENGTH: return "refused 4, not of its exact length";
     case PLANNER_BAD_ROW: return "refused 5, a row out of range";
     case PLANNER_BAD_MATRIX: return "refused 6, a distance or time out of range";
@@ -203,12 +203,19 @@ static void plan_it(const char *what, const struct sheet *s)
 
 int main(void)
 {
+    static const char *const methods[] = {"sheet A, savings", "sheet A, insertion", "sheet A, nearest neighbour",
+                                          "sheet A, nn_tw", "sheet A, sweep"};
     struct sheet s = sheet_a();
-    plan_it("sheet A: 3 rows, 1 vehicle, nearest neighbour", &s);
+    for (unsigned method = PLANNER_SAVINGS; method <= PLANNER_SWEEP; method++) {
+        s.bytes[AT_METHOD] = (uint8_t)method;
+        plan_it(methods[method], &s);
+    }
 
     s = sheet_a();
-    put_i32(vehicle(&s, 0) + AT_CAPACITY, 1);
-    plan_it("sheet A, capacity 1", &s);
+    put_i32(vehicle(&s, 0) + AT_CAPACITY, 0);
+    plan_it("sheet A, savings, capacity 0", &s);
+    s.bytes[AT_METHOD] = PLANNER_INSERTION;
+    plan_it("sheet A, insertion, capacity 0", &s);
 
     s = sheet_a();
     s.bytes[AT_METHOD] = PLANNER_NN_TW;
@@ -217,10 +224,6 @@ int main(void)
     put_f64(vehicle(&s, 0) + AT_LATEST, 12.0);
     put_f64(vehicle(&s, 0) + AT_REST, 5.0);
     plan_it("sheet A, nn_tw, a rest of 5 at 12", &s);
-
-    s = sheet_a();
-    s.bytes[AT_METHOD] = PLANNER_SAVINGS;
-    plan_it("sheet A, savings", &s);
 
     s = sheet_a();
     s.len = 0;

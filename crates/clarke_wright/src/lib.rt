@@ -1,1 +1,174 @@
 // The savings: each stop starts on a round of its own, and rounds are joined end to end, greatest saving first.
+use plan::tables::Filled;
+use savings::terms;
+use savings::terms::Terms;
+use slots::laying;
+use slots::starting;
+ghost use mathlib.Core.Path.{_≡_};
+ghost use Prim.Native.Nat.{ℕ, _≤_, _<_};
+ghost use lib.ListN.{length, take};
+ghost use Rattle.sheet.specs.Fields.{vehiclesOf};
+ghost use Rattle.evaluation.specs.Routed.{Routed};
+ghost use Rattle.plan.specs.Laid.{Laid, Room, filledBy};
+ghost use Rattle.plan.specs.Members.{part, Members};
+ghost use Rattle.plan.specs.Read.{count};
+ghost use Rattle.savings.specs.Savings.{routesOf, asideOf, clarkeWright};
+ghost use Rattle.savings.specs.Listed.{Space};
+ghost use Rattle.slots.specs.Slots.{slotsIn, Roomy, Slotted};
+
+// The members' rounds in the slots, once no saving is left; answers how many stops are set aside.
+fn merge_members(
+    sheet: &[u8],
+    terms: Terms,
+    members: &[u16],
+    from: &mut [u16],
+    to: &mut [u16],
+    values: &mut [f64],
+    entries: &mut [u16],
+    cells: &mut [u16],
+    lens: &mut [u16],
+    loads: &mut [u32],
+    slots: &mut [u16],
+    trial: &mut [u16],
+    aside: &mut [u16],
+) -> usize
+    requires { ⌜ Routed (now sheet) (terms .depot) (now members) ⌝ }
+    requires { ⌜ ((x : ℕ) → count x (now members) ≤ 1) ⌝ }
+    requires { ⌜ Space (now from) (now to) (now values) (now entries) 10201 ⌝ }
+    requires { ⌜ Roomy (length (now members)) (now cells) (now lens) (now loads) (now slots) ⌝ }
+    requires { ⌜ (101 ≤ length (now trial)) × (101 ≤ length (now aside)) ⌝ }
+    ensures { λ r. ⌜ r ≡ length (asideOf (now (sheet .entry)) terms (now (members .entry))) ⌝ }
+    ensures { λ r. ⌜ take r (now (aside .exit)) ≡ asideOf (now (sheet .entry)) terms (now (members .entry)) ⌝ }
+    ensures { λ _. ⌜ Slotted (now (sheet .entry)) (length (now (members .entry))) (now (cells .exit)) (now (lens .exit)) (now (loads .exit)) (now (slots .exit)) ⌝ }
+    ensures { λ _. ⌜ slotsIn (length (now (members .entry))) (now (cells .exit)) (now (lens .exit)) ≡ routesOf (now (sheet .entry)) terms (now (members .entry)) ⌝ }
+{
+    let n = savings::rank(sheet, terms, members, from, to, values, entries, cells);
+    let left = starting::start(sheet, terms, members, cells, lens, loads, slots, aside);
+    merging::merge_all(
+        sheet,
+        terms,
+        members.len(),
+        from,
+        to,
+        &entries[..n],
+        cells,
+        lens,
+        loads,
+        slots,
+        trial,
+    );
+    left
+}
+
+// The rounds by way of tables that are lent.
+fn plan_by(
+    sheet: &[u8],
+    depot: usize,
+    vehicle: u16,
+    stops: &mut [u16],
+    ends: &mut [u16],
+    vehicles: &mut [u16],
+    filled: Filled,
+    total: usize,
+    from: &mut [u16],
+    to: &mut [u16],
+    values: &mut [f64],
+    entries: &mut [u16],
+    cells: &mut [u16],
+    lens: &mut [u16],
+    loads: &mut [u32],
+    slots: &mut [u16],
+    trial: &mut [u16],
+    aside: &mut [u16],
+) -> Filled
+    requires { ⌜ Members (now sheet) depot (now stops) (filled .routed) total ⌝ }
+    requires { ⌜ Room (now ends) (now vehicles) filled total ⌝ }
+    requires { ⌜ vehicle < vehiclesOf (now sheet) ⌝ }
+    requires { ⌜ ((x : ℕ) → count x (part (now stops) (filled .routed) total) ≤ 1) ⌝ }
+    requires { ⌜ Space (now from) (now to) (now values) (now entries) 10201 ⌝ }
+    requires { ⌜ Roomy 101 (now cells) (now lens) (now loads) (now slots) ⌝ }
+    requires { ⌜ (101 ≤ length (now trial)) × (101 ≤ length (now aside)) ⌝ }
+    ensures { λ r. ⌜ r ≡ filledBy filled (clarkeWright (now (sheet .entry)) depot vehicle (part (now (stops .entry)) (filled .routed) total) .rounds) ⌝ }
+    ensures { λ _. ⌜ Laid (now (stops .entry)) (now (ends .entry)) (now (vehicles .entry)) filled (clarkeWright (now (sheet .entry)) depot vehicle (part (now (stops .entry)) (filled .routed) total)) (now (stops .exit)) (now (ends .exit)) (now (vehicles .exit)) ⌝ }
+{
+    let start = filled.routed;
+    let count = total - start;
+    let terms = terms::terms_of(sheet, depot, vehicle as usize, &stops[start..total]);
+    let left = merge_members(
+        sheet,
+        terms,
+        &stops[start..total],
+        from,
+        to,
+        values,
+        entries,
+        cells,
+        lens,
+        loads,
+        slots,
+        trial,
+        aside,
+    );
+    laying::lay(
+        count,
+        cells,
+        lens,
+        &aside[..left],
+        vehicle,
+        stops,
+        ends,
+        vehicles,
+        filled,
+    )
+}
+
+// The members stand in `stops` from where the tables are filled up to `total`; every round is the vehicle's, by its index.
+// Answers how far the tables are filled with the rounds; the stops set aside stand after them, up to `total`.
+pub fn clarke_wright_savings(
+    sheet: &[u8],
+    depot: usize,
+    vehicle: u16,
+    stops: &mut [u16],
+    ends: &mut [u16],
+    vehicles: &mut [u16],
+    filled: Filled,
+    total: usize,
+) -> Filled
+    requires { ⌜ Members (now sheet) depot (now stops) (filled .routed) total ⌝ }
+    requires { ⌜ Room (now ends) (now vehicles) filled total ⌝ }
+    requires { ⌜ vehicle < vehiclesOf (now sheet) ⌝ }
+    requires { ⌜ ((x : ℕ) → count x (part (now stops) (filled .routed) total) ≤ 1) ⌝ }
+    ensures { λ r. ⌜ r ≡ filledBy filled (clarkeWright (now (sheet .entry)) depot vehicle (part (now (stops .entry)) (filled .routed) total) .rounds) ⌝ }
+    ensures { λ _. ⌜ Laid (now (stops .entry)) (now (ends .entry)) (now (vehicles .entry)) filled (clarkeWright (now (sheet .entry)) depot vehicle (part (now (stops .entry)) (filled .routed) total)) (now (stops .exit)) (now (ends .exit)) (now (vehicles .exit)) ⌝ }
+{
+    let mut from = [0u16; 10201];
+    let mut to = [0u16; 10201];
+    let mut values = [0.0; 10201];
+    let mut entries = [0u16; 10201];
+    let mut cells = [0u16; 10302];
+    let mut lens = [0u16; 101];
+    let mut loads = [0u32; 101];
+    let mut slots = [0u16; 101];
+    let mut trial = [0u16; 101];
+    let mut aside = [0u16; 101];
+    plan_by(
+        sheet,
+        depot,
+        vehicle,
+        stops,
+        ends,
+        vehicles,
+        filled,
+        total,
+        &mut from,
+        &mut to,
+        &mut values,
+        &mut entries,
+        &mut cells,
+        &mut lens,
+        &mut loads,
+        &mut slots,
+        &mut trial,
+        &mut aside,
+    )
+}

@@ -3,6 +3,7 @@ use crate::label;
 use crate::label::Label;
 use crate::label::RestAnswer;
 use crate::label::Served;
+use crate::limits::RouteLimits;
 use sheet::customer;
 use sheet::customer::Stop;
 use sheet::matrix;
@@ -11,7 +12,8 @@ ghost use mathlib.Core.Path.{_≡_};
 ghost use Prim.Native.Nat.{_+_, _<_};
 ghost use Rattle.sheet.specs.Fields.{rowsOf};
 ghost use Rattle.evaluation.specs.Routed.{Clocked};
-ghost use Rattle.evaluation.specs.Clock.{homeOf, endOf, started, movedOf, aliveOf, pushedOf, finishOf};
+ghost use Rattle.evaluation.specs.Clock.{stepOf, stepRested, earlierOf, homeOf, endOf, started, movedOf, aliveOf, nextOf, pushedOf, finishOf};
+ghost use Rattle.evaluation.specs.Feasible.{keptBy};
 
 // What a round comes to, depot to depot.
 pub struct Schedule {
@@ -128,6 +130,86 @@ impl BreakClock {
         Pushed {
             clock,
             alive: clock.alive(),
+        }
+    }
+
+    // The clock of `pushed` alone. It is written out and does not ask `moved`: each of the two then has one caller, is inlined
+    // there, and its clock goes on in registers.
+    pub fn next(self, sheet: &[u8], row: usize) -> Self
+        requires { ⌜ Clocked (now sheet) self ⌝ }
+        requires { ⌜ row < rowsOf (now sheet) ⌝ }
+        ensures { λ r. ⌜ r ≡ nextOf (now (sheet .entry)) self row ⌝ }
+    {
+        let travel = matrix::travel_time(sheet, self.prev, row);
+        let stop = customer::stop_at(sheet, row);
+        let rest = self.rest;
+        let before = self.before;
+        let after = self.after;
+        let place = self.place;
+        let unrested = label::step(before, travel, stop);
+        let here = label::step_rested(before, travel, stop, place, rest);
+        let carried = label::step(after, travel, stop);
+        let taken = label::earlier(carried, here);
+        let next = place + 1;
+        BreakClock {
+            rest,
+            before: unrested,
+            after: taken,
+            prev: row,
+            place: next,
+        }
+    }
+
+    // Whether the limits are kept with the rest taken at the next stop or before, and the way home after it.
+    fn keeps_rested(
+        self,
+        travel: f64,
+        stop: Stop,
+        back: f64,
+        distance: f64,
+        limits: RouteLimits,
+    ) -> bool
+        ensures { λ r. ⌜ r ≡ keptBy limits (endOf (earlierOf (stepOf (self .after) travel stop) (stepRested (self .before) travel stop (self .place) (self .rest))) distance back) ⌝ }
+    {
+        let rest = self.rest;
+        let before = self.before;
+        let after = self.after;
+        let here = label::step_rested(before, travel, stop, self.place, rest);
+        let carried = label::step(after, travel, stop);
+        let taken = label::earlier(carried, here);
+        match taken {
+            Served::Done(l) => limits.allow(distance, l.time + back),
+            Served::Refused => false,
+        }
+    }
+
+    // Whether the limits are kept with `row` as the last stop and `distance` driven in all: the clock pushed on to it and
+    // brought home, of which only the time is asked.
+    pub fn keeps_with(
+        self,
+        sheet: &[u8],
+        row: usize,
+        depot: usize,
+        distance: f64,
+        limits: RouteLimits,
+    ) -> bool
+        requires { ⌜ Clocked (now sheet) self ⌝ }
+        requires { ⌜ (row < rowsOf (now sheet)) × (depot < rowsOf (now sheet)) ⌝ }
+        ensures { λ r. ⌜ r ≡ keptBy limits (finishOf (now (sheet .entry)) (nextOf (now (sheet .entry)) self row) distance depot) ⌝ }
+    {
+        let travel = matrix::travel_time(sheet, self.prev, row);
+        let back = matrix::travel_time(sheet, row, depot);
+        let stop = customer::stop_at(sheet, row);
+        let before = self.before;
+        let skipped = label::step(before, travel, stop);
+        match skipped {
+            Served::Done(l) => {
+                if l.time + back <= self.rest.earliest {
+                    return limits.allow(distance, l.time + back);
+                }
+                self.keeps_rested(travel, stop, back, distance, limits)
+            }
+            Served::Refused => self.keeps_rested(travel, stop, back, distance, limits),
         }
     }
 

@@ -20,8 +20,7 @@ pub enum RouteEval {
     NotAllowed,
 }
 
-// Whether a walk that is told has a schedule, and keeps the limits.
-pub fn kept_by(limits: RouteLimits, scheduled: Scheduled) -> bool
+fn kept_by(limits: RouteLimits, scheduled: Scheduled) -> bool
     ensures { λ r. ⌜ r ≡ keptBy limits scheduled ⌝ }
 {
     match scheduled {

@@ -7,3 +7,4 @@ pub mod Moving
 pub mod Sharing
 pub mod Planning
 pub mod Settling
+pub mod First

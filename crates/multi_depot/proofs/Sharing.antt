@@ -2,6 +2,7 @@
 use mathlib.Core.Path.{_≡_, refl, sym, ap, _∙_, subst}
 use Prim.Native.Nat.{ℕ, _+_, _-_, _≤_, _<_}
 use native.Mathlib.Omega.{arith}
+use mathlib.Core.Bool.{Bool, true, false, _&&_}
 use mathlib.Core.List.{List, [], _∷_, _++_, append-nil}
 use lib.Dec.{eqb}
 use lib.ListN.{length, getD, take, drop}
@@ -14,7 +15,7 @@ use Rattle.sheet.specs.Depots.{depotsOf, depots-few}
 use Rattle.sheet.specs.Values.{vehicleOf}
 use Rattle.plan.specs.declared.tables.Filled.{Filled}
 use Rattle.plan.specs.Outcome.{Round, Outcome}
-use Rattle.plan.specs.Read.{chains, stopsOf}
+use Rattle.plan.specs.Read.{chains, stopsOf, isStop, one, count}
 use Rattle.plan.specs.Same.{same-length}
 use Rattle.plan.specs.Members.{part, Members, Fleet}
 use Rattle.plan.specs.Laid.{routedIn, filledBy, Laid, Room}
@@ -22,7 +23,7 @@ use Rattle.plan.specs.LaidLaws.{chains-aside, length-chains, length-routed}
 use Rattle.plan.specs.Holds.{Holds, holds-behind, holds-more}
 use Rattle.multi_depot.specs.Those.{those-at, those-few}
 use Rattle.multi_depot.specs.ByDepot.{fleetOf, membersOf, constructOf, plannedOf}
-use Rattle.multi_depot.specs.Each.{planned-keeps}
+use Rattle.multi_depot.specs.Each.{stops-count, planned-keeps}
 use Rattle.multi_depot.specs.Rounds.{planned-routed}
 use Rattle.multi_depot.specs.Asked.{Lent, Next, Shared}
 
@@ -53,6 +54,10 @@ fleet-few s depot = those-few (λ v. eqb (vehicleOf s v .depot) depot) (vehicles
 member-row : (s at : List ℕ) (depot k : ℕ) → k < length (membersOf s at depot) → getD (membersOf s at depot) k 0 < rowsOf s
 unfolding membersOf
 member-row s at depot k h = let q = those-at (λ c. eqb (getD at c 0) depot) (rowsOf s - depotsOf s) (depotsOf s) k h in omega arith
+
+one-most : (b : Bool) → one b ≤ 1
+one-most true = omega arith
+one-most false = omega arith
 
 -- the part of the fleet's table that is lent
 pub fleet-there : (s fleet fleet′ : List ℕ) (depot n : ℕ) → length (fleetOf s depot) ≤ length fleet → n ≡ length (fleetOf s depot) → fleet′ ≡ write fleet 0 (fleetOf s depot) → take (n - 0) fleet′ ≡ fleetOf s depot
@@ -109,6 +114,10 @@ module _ {s at fleet stops ends vehicles : List ℕ} {depot : ℕ} {f : Filled} 
       most = omega (arith, next .room, lent .sheet .sized .rows);
       within = omega (arith, long, within);
     }
+
+    pub once-there : (x : ℕ) → count x (part stops₁ (f .routed) total) ≤ 1
+    unfolding membersOf
+    once-there x = rw there (omega (arith, stops-count s (λ c. eqb (getD at c 0) depot) x, one-most (isStop s x && eqb (getD at x 0) depot)))
 
     pub room-there : Room ends vehicles f total
     room-there = record { rounds = next .rounds; ended = omega (arith, next .room, lent .ended); driven = omega (arith, next .room, lent .driven) }

@@ -11,6 +11,9 @@ use Rattle.sheet.specs.Values.{vehicleOf, distanceOf}
 use Rattle.plan.specs.Outcome.{Outcome}
 use Rattle.plan.specs.Read.{count}
 use Rattle.nearest_neighbor.specs.Nearest.{nearestNeighbor, nearestNeighborTw}
+use Rattle.savings.specs.Savings.{clarkeWright}
+use Rattle.solomon_i1.specs.Insertion.{solomonI1}
+use Rattle.sweep.specs.Sweep.{sweep}
 use Rattle.multi_depot.specs.Those.{those}
 
 -- ---- depots
@@ -62,9 +65,22 @@ allStops s = stopsWith s (λ c. true)
 unfoldable pub membersOf : List ℕ → List ℕ → ℕ → List ℕ
 membersOf s at d = stopsWith s (λ c. eqb (getD at c 0) d)
 
+-- savings, insertion or sweep, with one vehicle for all rounds: v is its index
+unfoldable pub withVehicle : List ℕ → ℕ → List ℕ → ℕ → Outcome
+withVehicle s d members v =
+    cond (eqb (methodOf s) 0) (clarkeWright s d v members)
+    (cond (eqb (methodOf s) 1) (solomonI1 s d v members) (sweep s d v members))
+
+-- "Savings, insertion and sweep use the depot's first vehicle for all rounds"; without one there is no round
+abbrev pub withFirst : List ℕ → ℕ → List ℕ → List ℕ → Outcome
+withFirst s d members [] = record { rounds = []; aside = members }
+withFirst s d members (v ∷ fleet) = withVehicle s d members v
+
 -- the constructor by the method's number
 unfoldable pub constructOf : List ℕ → ℕ → List ℕ → List ℕ → Outcome
-constructOf s d members fleet = cond (eqb (methodOf s) 3) (nearestNeighborTw s d members fleet) (nearestNeighbor s d members fleet)
+constructOf s d members fleet =
+    cond (eqb (methodOf s) 2) (nearestNeighbor s d members fleet)
+    (cond (eqb (methodOf s) 3) (nearestNeighborTw s d members fleet) (withFirst s d members fleet))
 
 abbrev pub nothing : Outcome
 nothing = record { rounds = []; aside = [] }

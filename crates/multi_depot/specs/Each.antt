@@ -17,17 +17,38 @@ use Rattle.plan.specs.Once.{count-append}
 use Rattle.plan.specs.LaidLaws.{chains-aside, chains-append}
 use Rattle.nearest_neighbor.specs.Nearest.{nearestNeighbor, nearestNeighborTw}
 use Rattle.nearest_neighbor.specs.Permutation.{nearest-keeps, window-keeps}
+use Rattle.savings.specs.Savings.{clarkeWright}
+use Rattle.savings.specs.Permutation.{savings-keep}
+use Rattle.solomon_i1.specs.Insertion.{solomonI1}
+use Rattle.solomon_i1.specs.Permutation.{insertion-keeps}
+use Rattle.sweep.specs.Sweep.{sweep}
+use Rattle.sweep.specs.Permutation.{sweep-keeps}
 use Rattle.multi_depot.specs.Those.{those-count}
-use Rattle.multi_depot.specs.ByDepot.{fleetOf, isNobody, stopsWith, allStops, membersOf, constructOf, joined, plannedOf, plannedUpto, planned, leftOut, gathered, byDepot, settledAt, outcomeOf}
+use Rattle.multi_depot.specs.ByDepot.{fleetOf, isNobody, stopsWith, allStops, membersOf, withVehicle, withFirst, constructOf, joined, plannedOf, plannedUpto, planned, leftOut, gathered, byDepot, settledAt, outcomeOf}
 
 -- ---- a constructor, whichever
+vehicle-keeps : (s : List ℕ) (d : ℕ) (members : List ℕ) (v x : ℕ) → count x (stopsOf (withVehicle s d members v)) ≡ count x members
+unfolding withVehicle
+vehicle-keeps s d members v x = go (eqb (methodOf s) 0) (eqb (methodOf s) 1)
+  where
+    go : (a b : Bool) → count x (stopsOf (cond a (clarkeWright s d v members) (cond b (solomonI1 s d v members) (sweep s d v members)))) ≡ count x members
+    go true b = savings-keep s d v members x
+    go false true = insertion-keeps s d v members x
+    go false false = sweep-keeps s d v members x
+
+first-keeps : (s : List ℕ) (d : ℕ) (members fleet : List ℕ) (x : ℕ) → count x (stopsOf (withFirst s d members fleet)) ≡ count x members
+unfolding chains
+first-keeps s d members [] x = refl
+first-keeps s d members (v ∷ fleet) x = vehicle-keeps s d members v x
+
 pub constructs-keep : (s : List ℕ) (d : ℕ) (members fleet : List ℕ) (x : ℕ) → count x (stopsOf (constructOf s d members fleet)) ≡ count x members
 unfolding constructOf
-constructs-keep s d members fleet x = go (eqb (methodOf s) 3)
+constructs-keep s d members fleet x = go (eqb (methodOf s) 2) (eqb (methodOf s) 3)
   where
-    go : (b : Bool) → count x (stopsOf (cond b (nearestNeighborTw s d members fleet) (nearestNeighbor s d members fleet))) ≡ count x members
-    go true = window-keeps s d members fleet x
-    go false = nearest-keeps s d members fleet x
+    go : (a b : Bool) → count x (stopsOf (cond a (nearestNeighbor s d members fleet) (cond b (nearestNeighborTw s d members fleet) (withFirst s d members fleet)))) ≡ count x members
+    go true b = nearest-keeps s d members fleet x
+    go false true = window-keeps s d members fleet x
+    go false false = first-keeps s d members fleet x
 
 pub planned-keeps : (s : List ℕ) (d : ℕ) (members : List ℕ) (x : ℕ) → count x (stopsOf (plannedOf s d members)) ≡ count x members
 unfolding plannedOf chains

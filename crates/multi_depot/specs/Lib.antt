@@ -1,4 +1,5 @@
 pub mod Those
+pub mod Ascending
 pub mod ByDepot
 pub mod Sooner
 pub mod Settled

@@ -14,14 +14,20 @@ use Rattle.sheet.specs.Values.{vehicleOf}
 use Rattle.plan.specs.Outcome.{Round, Outcome}
 use Rattle.plan.specs.Read.{stopsOf, isStop, idsKnown, linksRight, count, eachOnce, outcomeRight}
 use Rattle.plan.specs.Once.{distinct-few, stops-right, distinct-right}
-use Rattle.plan.specs.Every.{Every, every-append, every-both, every-map, OfFleet}
+use Rattle.plan.specs.Every.{Every, every-append, every-both, every-map, OfFleet, Feasible}
 use Rattle.plan.specs.Laid.{routedIn}
 use Rattle.plan.specs.LaidLaws.{length-chains}
 use Rattle.nearest_neighbor.specs.Greedy.{Rule, roundOf, withStops, greedy}
 use Rattle.nearest_neighbor.specs.Nearest.{nearestNeighbor, nearestNeighborTw}
 use Rattle.nearest_neighbor.specs.Feasible.{nearest-fleet, window-fleet}
+use Rattle.savings.specs.Savings.{clarkeWright}
+use Rattle.savings.specs.Feasible.{Saved, savings-saved, savings-fleet}
+use Rattle.solomon_i1.specs.Insertion.{solomonI1}
+use Rattle.solomon_i1.specs.Feasible.{insertion-feasible, insertion-fleet}
+use Rattle.sweep.specs.Sweep.{sweep}
+use Rattle.sweep.specs.Feasible.{sweep-feasible, sweep-fleet}
 use Rattle.multi_depot.specs.Those.{those-few, those-count}
-use Rattle.multi_depot.specs.ByDepot.{fleetOf, stopsWith, allStops, membersOf, constructOf, plannedOf, plannedUpto, gathered, byDepot, settledAt, outcomeOf}
+use Rattle.multi_depot.specs.ByDepot.{fleetOf, stopsWith, allStops, membersOf, withVehicle, withFirst, constructOf, plannedOf, plannedUpto, gathered, byDepot, settledAt, outcomeOf}
 use Rattle.multi_depot.specs.Each.{stop-counted, links-of, stops-count, links-right, each-once}
 
 -- ---- from the depots to the outcome
@@ -84,13 +90,40 @@ module _ (s : List ℕ) (d : ℕ) (members : List ℕ) where
   made : (o : Outcome) → Every (OfFleet (fleetOf s d)) (o .rounds) → Every Some (o .rounds) → Every (RoundFrom s d) (o .rounds)
   made o = every-both (OfFleet (fleetOf s d)) Some (RoundFrom s d) (λ r f e. let q = in-fleet s d (r .vehicle) f in record { vehicle = q .0; home = q .1; some = e }) (o .rounds)
 
+  -- what holds of each of the three with one vehicle
+  vehicle-every : (P : Round → Type 0) (v : ℕ) → Every P (clarkeWright s d v members .rounds) → Every P (solomonI1 s d v members .rounds) → Every P (sweep s d v members .rounds)
+      → Every P (withVehicle s d members v .rounds)
+  unfolding withVehicle
+  vehicle-every P v e f g = go (eqb (methodOf s) 0) (eqb (methodOf s) 1)
+    where
+      go : (a b : Bool) → Every P (cond a (clarkeWright s d v members) (cond b (solomonI1 s d v members) (sweep s d v members)) .rounds)
+      go true b = e
+      go false true = f
+      go false false = g
+
+  first-fleet : (fleet : List ℕ) → Every (OfFleet fleet) (withFirst s d members fleet .rounds)
+  first-fleet [] = tt
+  first-fleet (v ∷ fleet) = vehicle-every (OfFleet (v ∷ fleet)) v (savings-fleet s d v fleet members) (insertion-fleet s d v members fleet) (sweep-fleet s d v members fleet)
+
+  feasible-some : (rs : List Round) → Every (Feasible s d) rs → Every Some rs
+  feasible-some = every-map (Feasible s d) Some (λ r k. k .carried .some)
+
+  first-some : (fleet : List ℕ) → Every Some (withFirst s d members fleet .rounds)
+  first-some [] = tt
+  first-some (v ∷ fleet) =
+      vehicle-every Some v
+      (every-map (Saved s d v) Some (λ r k. k .some) (clarkeWright s d v members .rounds) (savings-saved s d v members))
+      (feasible-some (solomonI1 s d v members .rounds) (insertion-feasible s d v members))
+      (feasible-some (sweep s d v members .rounds) (sweep-feasible s d v members))
+
   pub constructs-from : Every (RoundFrom s d) (constructOf s d members (fleetOf s d) .rounds)
   unfolding constructOf nearestNeighbor nearestNeighborTw
-  constructs-from = go (eqb (methodOf s) 3)
+  constructs-from = go (eqb (methodOf s) 2) (eqb (methodOf s) 3)
     where
-      go : (b : Bool) → Every (RoundFrom s d) (cond b (nearestNeighborTw s d members (fleetOf s d)) (nearestNeighbor s d members (fleetOf s d)) .rounds)
-      go true = made (nearestNeighborTw s d members (fleetOf s d)) (window-fleet s d members (fleetOf s d)) (greedy-some _ d (fleetOf s d) members)
-      go false = made (nearestNeighbor s d members (fleetOf s d)) (nearest-fleet s d members (fleetOf s d)) (greedy-some _ d (fleetOf s d) members)
+      go : (a b : Bool) → Every (RoundFrom s d) (cond a (nearestNeighbor s d members (fleetOf s d)) (cond b (nearestNeighborTw s d members (fleetOf s d)) (withFirst s d members (fleetOf s d))) .rounds)
+      go true b = made (nearestNeighbor s d members (fleetOf s d)) (nearest-fleet s d members (fleetOf s d)) (greedy-some _ d (fleetOf s d) members)
+      go false true = made (nearestNeighborTw s d members (fleetOf s d)) (window-fleet s d members (fleetOf s d)) (greedy-some _ d (fleetOf s d) members)
+      go false false = made (withFirst s d members (fleetOf s d)) (first-fleet (fleetOf s d)) (first-some (fleetOf s d))
 
 -- of the outcome: its vehicle is known, and it has stops
 pub record RoundOfSheet (s : List ℕ) (r : Round) : Type 0 where

@@ -2,14 +2,15 @@
 use plan::tables::Filled;
 use sheet::customer;
 ghost use mathlib.Core.Path.{_≡_};
-ghost use Prim.Native.Nat.{_+_, _-_, _≤_, _<_};
+ghost use Prim.Native.Nat.{ℕ, _+_, _-_, _≤_, _<_};
 ghost use lib.ListN.{length};
 ghost use Rattle.sheet.specs.Depots.{depotsOf};
-ghost use Rattle.sheet.specs.Fields.{rowsOf};
+ghost use Rattle.sheet.specs.Fields.{rowsOf, vehiclesOf};
 ghost use Rattle.plan.specs.Laid.{Laid, Room, filledBy};
 ghost use Rattle.plan.specs.Members.{part, Members, Fleet};
 ghost use Rattle.plan.specs.Holds.{Held};
-ghost use Rattle.multi_depot.specs.ByDepot.{membersOf, constructOf, plannedOf, plannedUpto, planned, byDepot, outcomeOf, allStops};
+ghost use Rattle.plan.specs.Read.{count};
+ghost use Rattle.multi_depot.specs.ByDepot.{membersOf, withVehicle, withFirst, constructOf, plannedOf, plannedUpto, planned, byDepot, outcomeOf, allStops};
 ghost use Rattle.multi_depot.specs.Asked.{Lent, Desk, Next, Shared, Planned, Told};
 
 mod depots;
@@ -20,6 +21,67 @@ mod offers;
 pub struct Share {
     pub filled: Filled,
     pub total: usize,
+}
+
+// Savings, insertion or sweep, with one vehicle for all rounds.
+fn with_vehicle(
+    sheet: &[u8],
+    depot: usize,
+    vehicle: u16,
+    stops: &mut [u16],
+    ends: &mut [u16],
+    vehicles: &mut [u16],
+    filled: Filled,
+    total: usize,
+) -> Filled
+    requires { ⌜ Members (now sheet) depot (now stops) (filled .routed) total ⌝ }
+    requires { ⌜ Room (now ends) (now vehicles) filled total ⌝ }
+    requires { ⌜ vehicle < vehiclesOf (now sheet) ⌝ }
+    requires { ⌜ ((x : ℕ) → count x (part (now stops) (filled .routed) total) ≤ 1) ⌝ }
+    ensures { λ r. ⌜ r ≡ filledBy filled (withVehicle (now (sheet .entry)) depot (part (now (stops .entry)) (filled .routed) total) vehicle .rounds) ⌝ }
+    ensures { λ _. ⌜ Laid (now (stops .entry)) (now (ends .entry)) (now (vehicles .entry)) filled (withVehicle (now (sheet .entry)) depot (part (now (stops .entry)) (filled .routed) total) vehicle) (now (stops .exit)) (now (ends .exit)) (now (vehicles .exit)) ⌝ }
+{
+    let method = sheet::method(sheet);
+    if method == 0 {
+        return clarke_wright::clarke_wright_savings(
+            sheet,
+            depot,
+            vehicle,
+            stops,
+            ends,
+            vehicles,
+            filled,
+            total,
+        );
+    }
+    if method == 1 {
+        return solomon_i1::solomon_i1(sheet, depot, vehicle, stops, ends, vehicles, filled, total);
+    }
+    sweep::sweep(sheet, depot, vehicle, stops, ends, vehicles, filled, total)
+}
+
+// The same with the depot's first vehicle; without one every stop is set aside, as it stands.
+fn with_first(
+    sheet: &[u8],
+    depot: usize,
+    fleet: &[u16],
+    stops: &mut [u16],
+    ends: &mut [u16],
+    vehicles: &mut [u16],
+    filled: Filled,
+    total: usize,
+) -> Filled
+    requires { ⌜ Members (now sheet) depot (now stops) (filled .routed) total ⌝ }
+    requires { ⌜ Room (now ends) (now vehicles) filled total ⌝ }
+    requires { ⌜ Fleet (now sheet) (now fleet) ⌝ }
+    requires { ⌜ ((x : ℕ) → count x (part (now stops) (filled .routed) total) ≤ 1) ⌝ }
+    ensures { λ r. ⌜ r ≡ filledBy filled (withFirst (now (sheet .entry)) depot (part (now (stops .entry)) (filled .routed) total) (now (fleet .entry)) .rounds) ⌝ }
+    ensures { λ _. ⌜ Laid (now (stops .entry)) (now (ends .entry)) (now (vehicles .entry)) filled (withFirst (now (sheet .entry)) depot (part (now (stops .entry)) (filled .routed) total) (now (fleet .entry))) (now (stops .exit)) (now (ends .exit)) (now (vehicles .exit)) ⌝ }
+{
+    if fleet.len() == 0 {
+        return filled;
+    }
+    with_vehicle(sheet, depot, fleet[0], stops, ends, vehicles, filled, total)
 }
 
 // The constructor by the method's number.
@@ -36,10 +98,24 @@ fn construct(
     requires { ⌜ Members (now sheet) depot (now stops) (filled .routed) total ⌝ }
     requires { ⌜ Room (now ends) (now vehicles) filled total ⌝ }
     requires { ⌜ Fleet (now sheet) (now fleet) ⌝ }
+    requires { ⌜ ((x : ℕ) → count x (part (now stops) (filled .routed) total) ≤ 1) ⌝ }
     ensures { λ r. ⌜ r ≡ filledBy filled (constructOf (now (sheet .entry)) depot (part (now (stops .entry)) (filled .routed) total) (now (fleet .entry)) .rounds) ⌝ }
     ensures { λ _. ⌜ Laid (now (stops .entry)) (now (ends .entry)) (now (vehicles .entry)) filled (constructOf (now (sheet .entry)) depot (part (now (stops .entry)) (filled .routed) total) (now (fleet .entry))) (now (stops .exit)) (now (ends .exit)) (now (vehicles .exit)) ⌝ }
 {
-    if sheet::method(sheet) == 3 {
+    let method = sheet::method(sheet);
+    if method == 2 {
+        return nearest_neighbor::nearest_neighbor(
+            sheet,
+            depot,
+            fleet,
+            stops,
+            ends,
+            vehicles,
+            filled,
+            total,
+        );
+    }
+    if method == 3 {
         return nearest_neighbor::nearest_neighbor_tw(
             sheet,
             depot,
@@ -51,7 +127,7 @@ fn construct(
             total,
         );
     }
-    nearest_neighbor::nearest_neighbor(sheet, depot, fleet, stops, ends, vehicles, filled, total)
+    with_first(sheet, depot, fleet, stops, ends, vehicles, filled, total)
 }
 
 // A depot with its members, which no other has; without any it is not planned.

@@ -15,14 +15,15 @@ use Rattle.sheet.specs.declared.vehicle.Vehicle.{Vehicle}
 use Rattle.evaluation.specs.Routed.{Routed}
 use Rattle.plan.specs.Members.{part, Members}
 use Rattle.plan.specs.Every.{Every, every-of, every-at, every-append, every-take, every-drop}
+use Rattle.plan.specs.Moved.{without, without-length}
 use Rattle.nearest_neighbor.specs.declared.choice.Choice.{Choice}
 use Rattle.nearest_neighbor.specs.declared.choice.Choice.the-variants.{Nobody, Best}
 use Rattle.nearest_neighbor.specs.declared.ride.Ride.{Ride}
 use Rattle.nearest_neighbor.specs.declared.greedy.Heuristic.{Heuristic}
-use Rattle.nearest_neighbor.specs.Greedy.{choose, without, Trip, started, Rule, growing, grown, grownBy, grow, growOn, ended, roundOf}
+use Rattle.nearest_neighbor.specs.Greedy.{choose, Trip, started, Rule, growing, grown, grownBy, grow, growOn, ended, roundOf}
 use Rattle.nearest_neighbor.specs.Chosen.{Chosen, choose-chosen}
 use Rattle.nearest_neighbor.specs.Ride.{setOut, ruleOf, offerBy, onwardBy, Riding}
-use Rattle.nearest_neighbor.proofs.Leaving.{joins, long-without}
+use Rattle.nearest_neighbor.proofs.Leaving.{joins}
 use Rattle.nearest_neighbor.proofs.Keeping.{rideOf, Driven, offers, drives-on, stays-driven, riding, sets-out, off, choose-alike}
 
 -- a round that is grown stays so
@@ -149,7 +150,7 @@ module _ (s : List ℕ) (depot : ℕ) (h : Heuristic) (index : ℕ) (stops₀ : 
 
       grown-on : ended (growOn rule (length (g .left)) (growing (g .trip) (g .left))) ≡ ended (growOn rule (length (without j (g .left))) (growing (rule .onward (g .trip) stop) (without j (g .left))))
       grown-on =
-          let n : length (g .left) ≡ suc (length (without j (g .left))) = omega (arith, long-without (g .left) j inside) in
+          let n : length (g .left) ≡ suc (length (without j (g .left))) = omega (arith, without-length (g .left) j inside) in
           ap (λ (m : ℕ). ended (growOn rule m (growing (g .trip) (g .left)))) n ∙ ap ended (grows rule (length (without j (g .left))) (g .trip) (g .left) (Best j k) (chosen ∙ f))
 
       pub goes-on : (stops′ : List ℕ) (ride′ : Ride) → stops′ ≡ write stops end (getD stops (end + j) 0 ∷ take (end + j - end) (drop end stops)) → ride′ ≡ onwardBy s h ride (getD stops (end + j) 0)
@@ -163,7 +164,7 @@ module _ (s : List ℕ) (depot : ℕ) (h : Heuristic) (index : ℕ) (stops₀ : 
             left = without j (g .left);
             laid = p ∙ brought ∙ ap (λ (l : List ℕ). write stops₀ start (l ++ without j (g .left))) (sym more);
             at = omega (arith, long, g .at);
-            all = omega (arith, g .all, long-without (g .left) j inside);
+            all = omega (arith, g .all, without-length (g .left) j inside);
             kept = q ∙ rw (stop-at, g .kept) (drives-on s depot (vehicleOf s index .rest) (g .trip) h index stop);
             driven = stays-driven s depot (g .trip) h index stop (g .members .routed .sheet) (g .driven) (every-at (λ (i : ℕ). i < rowsOf s) 0 (g .left) j inside (g .rows));
             rows = every-append (λ (i : ℕ). i < rowsOf s) (take j (g .left)) (drop (j + 1) (g .left)) (every-take (λ (i : ℕ). i < rowsOf s) j (g .left) (g .rows)) (every-drop (λ (i : ℕ). i < rowsOf s) (j + 1) (g .left) (g .rows));

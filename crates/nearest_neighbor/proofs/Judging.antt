@@ -11,16 +11,13 @@ use lib.Ieee.{Float}
 use Rattle.sheet.specs.Fields.{rowsOf}
 use Rattle.sheet.specs.Values.{demandOf}
 use Rattle.sheet.specs.Finite.{demand-bounded}
-use Rattle.evaluation.specs.Routed.{Routed, Clocked}
-use Rattle.evaluation.specs.Clock.{movedOf, nextOf}
-use Rattle.evaluation.specs.declared.clock.BreakClock.{BreakClock}
+use Rattle.evaluation.specs.Routed.{Routed}
 use Rattle.nearest_neighbor.specs.declared.choice.Choice.{Choice}
 use Rattle.nearest_neighbor.specs.declared.choice.Choice.the-variants.{Nobody, Best}
 use Rattle.nearest_neighbor.specs.declared.ride.Ride.{Ride}
-use Rattle.nearest_neighbor.specs.declared.ride.RideClock.the-variants.{Kept}
 use Rattle.nearest_neighbor.specs.Greedy.{Offer, winsOf, better, choose}
 use Rattle.nearest_neighbor.specs.Nearest.{offered}
-use Rattle.nearest_neighbor.specs.Ride.{Ticking, Riding}
+use Rattle.nearest_neighbor.specs.Ride.{Riding}
 
 module _ (c : Choice) (j : ℕ) (t : Bool) (k : Float) where
   pub loses : (key : Float) → key ≡ k → winsOf key c ≡ false → c ≡ better c j (offered t k)
@@ -63,10 +60,6 @@ pub single : (l : List ℕ) → length l ≡ 1 → l ≡ getD l 0 0 ∷ []
 single [] h = absurd (omega arith)
 single (x ∷ []) h = refl
 single (x ∷ y ∷ l) h = absurd (omega arith)
-
-pub ticked : (s : List ℕ) (c : BreakClock) (row : ℕ) → Ticking s (Kept c) → row < rowsOf s → Clocked s (nextOf s c row)
-unfolding movedOf
-ticked s c row t h = record { sheet = t .0 .sheet; from = h; room = omega (arith, t .1) }
 
 -- a load with a stop more
 pub loaded : (s : List ℕ) (ride : Ride) (row demand : ℕ) → Riding s ride → row < rowsOf s → demand ≡ demandOf s row → ride .load + demand ≤ 1000000 * (ride .served + 1)

@@ -122,7 +122,7 @@ ticks s depot NoRest trip fine ok few = tt
 ticks s depot (Required b) trip fine ok few =
     let at = clock-on-prev s (started b depot) (trip .stops) in
     let place = clock-on-place s (started b depot) (trip .stops) in
-    (record { sheet = fine; from = rw (at, ← ok .last) (ok .from); room = omega (arith, place) }, omega (arith, place))
+    record { sheet = fine; from = rw (at, ← ok .last) (ok .from); room = omega (arith, place) }
 
 pub riding : (s : List ℕ) (depot : ℕ) (rest : Rest) (trip : Trip) → Accepted s → Driven s depot trip → length (trip .stops) ≤ 100 → Riding s (rideOf s depot rest trip)
 riding s depot rest trip fine ok few = record { sheet = fine; from = ok .from; few = few; load = ok .load; ticking = ticks s depot rest trip fine ok few }

@@ -1,15 +1,16 @@
 -- What a round leaves: with its stops it is as many as there were, and all of them were there. Assumes nothing.
 use mathlib.Core.Path.{_≡_, refl, _∙_}
-use Prim.Native.Nat.{ℕ, zero, suc, _+_, _<_}
+use Prim.Native.Nat.{ℕ, zero, suc, _+_}
 use native.Mathlib.Omega.{arith}
 use mathlib.Core.List.{List, [], _∷_}
-use lib.ListN.{length, getD, take, drop, length-append, length-take, length-drop}
-use Rattle.plan.specs.Every.{Every, every-append, every-take, every-drop}
+use lib.ListN.{length, getD, length-append}
+use Rattle.plan.specs.Every.{Every}
+use Rattle.plan.specs.Moved.{without-length, without-every}
 use Rattle.nearest_neighbor.specs.declared.choice.Choice.{Choice}
 use Rattle.nearest_neighbor.specs.declared.choice.Choice.the-variants.{Nobody, Best}
 use Rattle.nearest_neighbor.specs.declared.greedy.Heuristic.{Heuristic}
 use Rattle.nearest_neighbor.specs.declared.greedy.Heuristic.the-variants.{Nearest, NearestTw}
-use Rattle.nearest_neighbor.specs.Greedy.{choose, without, Trip, started, Rule, Growth, growing, grown, grownBy, grow, growOn, ended, roundOf}
+use Rattle.nearest_neighbor.specs.Greedy.{choose, Trip, started, Rule, Growth, growing, grown, grownBy, grow, growOn, ended, roundOf}
 use Rattle.nearest_neighbor.specs.Nearest.{nearestOnward, windowOnward}
 use Rattle.nearest_neighbor.specs.Chosen.{Chosen, choose-chosen}
 use Rattle.nearest_neighbor.specs.Permutation.{Extends}
@@ -21,9 +22,6 @@ unfolding ruleOf nearestOnward windowOnward
 joins s depot Nearest index trip i = refl
 joins s depot (NearestTw soft) index trip i = refl
 
-pub long-without : (left : List ℕ) (j : ℕ) → j < length left → length (without j left) + 1 ≡ length left
-long-without left j h = simp (length-append, length-take, length-drop) (omega arith)
-
 stopsAt : Growth → ℕ
 stopsAt g = length (ended g .stops) + length (ended g .left)
 
@@ -32,7 +30,7 @@ module _ (rule : Rule) (extends : Extends rule) where
   unfolding stopsAt
   grown-long trip left Nobody u = refl
   grown-long trip left (Best j k) u =
-      let a = long-without left j (u .0) in
+      let a = without-length left j (u .0) in
       let b = length-append (trip .stops) (getD left j 0 ∷ []) in
       rw (extends trip (getD left j 0)) (omega arith)
 
@@ -53,7 +51,7 @@ module _ (rule : Rule) (extends : Extends rule) where
 module _ (P : ℕ → Type 0) (rule : Rule) where
   grown-every : (trip : Trip) (left : List ℕ) (c : Choice) → Every P left → Every P (ended (grownBy rule trip left c) .left)
   grown-every trip left Nobody e = e
-  grown-every trip left (Best j k) e = every-append P (take j left) (drop (j + 1) left) (every-take P j left e) (every-drop P (j + 1) left e)
+  grown-every trip left (Best j k) e = without-every P left j e
 
   grow-every : (g : Growth) → Every P (ended g .left) → Every P (ended (grow rule g) .left)
   unfolding grow

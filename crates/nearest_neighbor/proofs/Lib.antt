@@ -1,5 +1,4 @@
 pub mod Judging
-pub mod Bringing
 pub mod Keeping
 pub mod Leaving
 pub mod Growing

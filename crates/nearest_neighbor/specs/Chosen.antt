@@ -11,9 +11,10 @@ use lib.ListN.{length, getD}
 use Rattle.plan.specs.Outcome.{Round}
 use Rattle.plan.specs.Read.{one, count}
 use Rattle.plan.specs.Every.{Every, every-map, OfFleet}
+use Rattle.plan.specs.Moved.{without}
 use Rattle.nearest_neighbor.specs.declared.choice.Choice.{Choice}
 use Rattle.nearest_neighbor.specs.declared.choice.Choice.the-variants.{Nobody, Best}
-use Rattle.nearest_neighbor.specs.Greedy.{Offer, out, key, winsOf, better, choose, without, Trip, started, Rule, Growth, growing, grown, grownBy, grow, growOn, ended, roundOf, withStops, greedy}
+use Rattle.nearest_neighbor.specs.Greedy.{Offer, out, key, winsOf, better, choose, Trip, started, Rule, Growth, growing, grown, grownBy, grow, growOn, ended, roundOf, withStops, greedy}
 
 -- ---- one choice
 -- an offer that can be taken

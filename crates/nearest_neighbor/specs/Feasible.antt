@@ -7,8 +7,7 @@ use mathlib.Core.List.{List, [], _∷_, _++_}
 use lib.Dec.{T, leb→le}
 use lib.Ieee.{Float, binary64, lt, fits}
 use lib.Ieee.Fits.{and-l, and-r, add-fits}
-use lib.ListN.{length, getD, take, drop, length-append, length-drop}
-use lib.Seq.{length-take-le}
+use lib.ListN.{length, getD, length-append}
 use Rattle.numbers.specs.Upto.{add-units}
 use Rattle.sheet.specs.Fields.{rowsOf}
 use Rattle.sheet.specs.Accepted.{Accepted}
@@ -33,8 +32,9 @@ use Rattle.evaluation.specs.Checks.{hasSoftWindows}
 use Rattle.evaluation.specs.Bounds.{Times, LabelBounded, ServedBounded, one-time, label-widen, late-positive}
 use Rattle.evaluation.specs.Finite.{step-bounded, start-bounded}
 use Rattle.evaluation.specs.Longer.{lastOf, distanceOn, servedOn, last-more, distance-on-more, served-on-more, walk-feasible}
-use Rattle.plan.specs.Every.{Every, every-of, every-at, every-append, every-take, every-drop, loadOf, load-append, Carried, Feasible, OfFleet}
-use Rattle.nearest_neighbor.specs.Greedy.{without, Trip, started}
+use Rattle.plan.specs.Every.{Every, every-of, every-at, loadOf, load-append, Carried, Feasible, OfFleet}
+use Rattle.plan.specs.Moved.{without-length, without-every}
+use Rattle.nearest_neighbor.specs.Greedy.{Trip, started}
 use Rattle.nearest_neighbor.specs.Nearest.{carries, allows, offered, thereAndHome, nearestOffer, nearestOnward, nearestRule, nearestNeighbor, arrivalAt, lateAt, startAt, penaltyOf, missed, tooDear, windowOffer, windowOnward, windowRule, nearestNeighborTw}
 use Rattle.nearest_neighbor.specs.Chosen.{Taken, Growing, greedy-every, greedy-fleet}
 
@@ -231,16 +231,6 @@ record Kept (s : List ℕ) (depot v : ℕ) (trip : Trip) (left : List ℕ) : Typ
 record Left (s left : List ℕ) : Type 0 where
   rows : Every (λ (i : ℕ). i < rowsOf s) left
   few : length left ≤ 101
-
-without-length : (left : List ℕ) (j : ℕ) → j < length left → length (without j left) + 1 ≡ length left
-without-length left j h =
-    let a = length-append (take j left) (drop (j + 1) left) in
-    let b = length-take-le j left (omega arith) in
-    let c = length-drop (j + 1) left in
-    omega arith
-
-without-every : (P : ℕ → Type 0) (left : List ℕ) (j : ℕ) → Every P left → Every P (without j left)
-without-every P left j e = every-append P (take j left) (drop (j + 1) left) (every-take P j left e) (every-drop P (j + 1) left e)
 
 window-growing : (s : List ℕ) (depot : ℕ) (soft : Bool) → Accepted s → depot < rowsOf s → Growing (windowRule s depot soft) depot (Left s) (Kept s depot) (Feasible s depot)
 unfolding windowOnward

@@ -1,11 +1,12 @@
 -- What both nearest neighbours share: vehicles in order, each grows one round by the best stop left, the first of equals; what is left is set aside.
 use Prim.Native.Nat.{ℕ, zero, suc, _+_}
 use mathlib.Core.Bool.{Bool, true, cond}
-use mathlib.Core.List.{List, [], _∷_, _++_}
-use lib.ListN.{length, getD, take, drop}
+use mathlib.Core.List.{List, [], _∷_}
+use lib.ListN.{length, getD}
 use lib.Ieee.{Float, lt}
 use Rattle.sheet.specs.Values.{nought}
 use Rattle.plan.specs.Outcome.{Round, Outcome}
+use Rattle.plan.specs.Moved.{without}
 use Rattle.nearest_neighbor.specs.declared.choice.Choice.{Choice}
 use Rattle.nearest_neighbor.specs.declared.choice.Choice.the-variants.{Nobody, Best}
 
@@ -28,10 +29,6 @@ better c j (key k) = cond (winsOf k c) (Best j k) c
 unfoldable pub choose : (ℕ → Offer) → Choice → ℕ → List ℕ → Choice
 choose offer c j [] = c
 choose offer c j (row ∷ rows) = choose offer (better c j (offer row)) (j + 1) rows
-
--- the stops left without the one at place j
-abbrev pub without : ℕ → List ℕ → List ℕ
-without j left = take j left ++ drop (j + 1) left
 
 -- ---- one round
 -- the round so far: its stops, the last of them or the depot, what it carries, and the two figures that the rule sums

@@ -1,30 +1,19 @@
 -- Every member stands in the outcome as often as among the members: on one round or set aside. Assumes nothing.
-use mathlib.Core.Path.{_≡_, refl, sym, ap, _∙_}
-use Prim.Native.Nat.{ℕ, zero, suc, _+_, _<_}
-use native.Mathlib.Numerals.{add-one}
+use mathlib.Core.Path.{_≡_, refl, ap, _∙_}
+use Prim.Native.Nat.{ℕ, zero, suc, _+_}
 use native.Mathlib.Omega.{arith}
 use mathlib.Core.List.{List, [], _∷_, _++_}
-use lib.Dec.{eqb}
-use lib.ListN.{length, getD, take, drop}
-use lib.Seq.{split-at}
+use lib.ListN.{length, getD}
 use Rattle.evaluation.specs.Checks.{hasSoftWindows}
 use Rattle.plan.specs.Outcome.{Round}
-use Rattle.plan.specs.Read.{one, count, chains, stopsOf}
+use Rattle.plan.specs.Read.{count, chains, stopsOf}
 use Rattle.plan.specs.Once.{count-append}
+use Rattle.plan.specs.Moved.{without-count}
 use Rattle.nearest_neighbor.specs.declared.choice.Choice.{Choice}
 use Rattle.nearest_neighbor.specs.declared.choice.Choice.the-variants.{Nobody, Best}
-use Rattle.nearest_neighbor.specs.Greedy.{choose, without, Trip, started, Grown, Rule, Growth, growing, grown, grownBy, grow, growOn, ended, roundOf, withStops, greedy}
+use Rattle.nearest_neighbor.specs.Greedy.{choose, Trip, started, Grown, Rule, Growth, growing, grown, grownBy, grow, growOn, ended, roundOf, withStops, greedy}
 use Rattle.nearest_neighbor.specs.Chosen.{Chosen, choose-chosen}
 use Rattle.nearest_neighbor.specs.Nearest.{nearestOnward, nearestRule, nearestNeighbor, windowOnward, windowRule, nearestNeighborTw}
-
--- ---- the stop chosen leaves the others
-taken : (x : ℕ) (left : List ℕ) (j : ℕ) → j < length left → count x left ≡ one (eqb x (getD left j 0)) + count x (without j left)
-unfolding count
-taken x left j h =
-    let a = count-append x (take j left) (getD left j 0 ∷ drop (suc j) left) in
-    let b = count-append x (take j left) (drop (j + 1) left) in
-    let d : count x (drop (suc j) left) ≡ count x (drop (j + 1) left) = ap (λ (n : ℕ). count x (drop n left)) (sym (add-one j)) in
-    ap (count x) (split-at left j 0 h) ∙ omega arith
 
 -- a rule that puts the stop at the end of the round
 abbrev pub Extends : Rule → Type 0
@@ -38,7 +27,7 @@ module _ (rule : Rule) (extends : Extends rule) (x : ℕ) where
   unfolding counted count
   grown-by trip left Nobody u = refl
   grown-by trip left (Best j k) u =
-      let a = taken x left j (u .0) in
+      let a = without-count left j (u .0) x in
       let b = count-append x (trip .stops) (getD left j 0 ∷ []) in
       rw (extends trip (getD left j 0)) (omega arith)
 

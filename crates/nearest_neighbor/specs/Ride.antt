@@ -127,7 +127,7 @@ onwardBy s (NearestTw soft) ride i = ridden s ride i (windowClock s ride i)
 -- ---- what its steps ask
 abbrev pub Ticking : List ℕ → RideClock → Type 0
 Ticking s NoClock = Unit
-Ticking s (Kept c) = Clocked s c × (c .place ≤ 101)
+Ticking s (Kept c) = Clocked s c
 
 -- on an accepted sheet, at a row, with at most a million a stop loaded, and room for one stop more
 pub record Riding (s : List ℕ) (ride : Ride) : Type 0 where

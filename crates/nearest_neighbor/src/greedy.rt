@@ -4,6 +4,7 @@ use crate::nearest;
 use crate::nn_tw;
 use crate::ride;
 use crate::ride::Ride;
+use plan::tables;
 use plan::tables::Filled;
 use sheet::customer;
 use sheet::matrix;
@@ -76,19 +77,6 @@ fn drive_on(sheet: &[u8], heuristic: Heuristic, ride: Ride, row: usize) -> Ride
     }
 }
 
-// Brings the stop at `from` to `to`, before it; those between move up.
-fn bring(stops: &mut [u16], to: usize, from: usize)
-    requires { ⌜ (to ≤ from) × (from < length (now stops)) ⌝ }
-    ensures { λ _. ⌜ now (stops .exit) ≡ write (now (stops .entry)) to (getD (now (stops .entry)) from 0 ∷ take (from - to) (drop to (now (stops .entry)))) ⌝ }
-{
-    let mut carried = stops[from];
-    for i in to..from + 1 {
-        let here = stops[i];
-        stops[i] = carried;
-        carried = here;
-    }
-}
-
 // A vehicle's round of the stops from `start` to `total`: they then stand first, in order, and those that are left after
 // them. Answers where the round ends.
 fn grow_round(
@@ -122,32 +110,10 @@ fn grow_round(
         };
         let from = end + j;
         ride = drive_on(sheet, heuristic, ride, stops[from] as usize);
-        bring(stops, end, from);
+        tables::bring(stops, end, from);
         end = end + 1;
     }
     end
-}
-
-// A round more in the tables, where it has a stop.
-fn close_round(
-    ends: &mut [u16],
-    vehicles: &mut [u16],
-    filled: Filled,
-    index: u16,
-    end: usize,
-) -> Filled
-    requires { ⌜ (filled .rounds < length (now ends)) × (filled .rounds < length (now vehicles)) ⌝ }
-    requires { ⌜ end ≤ 101 ⌝ }
-    ensures { λ r. ⌜ r ≡ record { rounds = filled .rounds + 1; routed = end } ⌝ }
-    ensures { λ _. ⌜ (now (ends .exit) ≡ write (now (ends .entry)) (filled .rounds) (end ∷ [])) × (now (vehicles .exit) ≡ write (now (vehicles .entry)) (filled .rounds) (index ∷ [])) ⌝ }
-{
-    let rounds = filled.rounds;
-    ends[rounds] = end as u16;
-    vehicles[rounds] = index;
-    Filled {
-        rounds: rounds + 1,
-        routed: end,
-    }
 }
 
 // Lays down the rounds of the fleet over the members, which stand in `stops` from where the tables are filled up to `total`.
@@ -176,7 +142,7 @@ pub fn lay_rounds(
         if end == start {
             continue;
         }
-        done = close_round(ends, vehicles, done, index, end);
+        done = tables::close_round(ends, vehicles, done, index, end);
     }
     done
 }

@@ -56,11 +56,7 @@ pub fn pushed_by(sheet: &[u8], kept: RideClock, row: usize) -> RideClock
 {
     match kept {
         RideClock::NoClock => RideClock::NoClock,
-        RideClock::Kept(clock) => {
-            let pushed = clock.pushed(sheet, row);
-            let next = pushed.clock;
-            RideClock::Kept(next)
-        }
+        RideClock::Kept(clock) => RideClock::Kept(clock.next(sheet, row)),
     }
 }
 
@@ -73,8 +69,8 @@ pub fn carries(sheet: &[u8], vehicle: Vehicle, ride: Ride, row: usize) -> bool
     ride.load + customer::demand(sheet, row) <= vehicle.capacity
 }
 
-// Whether the limits are kept with the row as the last stop: by the clock, pushed once, where there is one to keep;
-// else by the distance and the duration that are given.
+// Whether the limits are kept with the row as the last stop: by the clock, where there is one to keep; else by the distance
+// and the duration that are given.
 pub fn allows(
     sheet: &[u8],
     depot: usize,
@@ -90,10 +86,6 @@ pub fn allows(
 {
     match kept {
         RideClock::NoClock => limits.allow(distance, duration),
-        RideClock::Kept(clock) => {
-            let pushed = clock.pushed(sheet, row);
-            let next = pushed.clock;
-            evaluation::kept_by(limits, next.finish(sheet, distance, depot))
-        }
+        RideClock::Kept(clock) => clock.keeps_with(sheet, row, depot, distance, limits),
     }
 }

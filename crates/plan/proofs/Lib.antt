@@ -4,3 +4,5 @@ pub mod Rounding
 pub mod Chaining
 pub mod Counting
 pub mod Planning
+pub mod Bringing
+pub mod Sending

@@ -1,16 +1,17 @@
 -- What holds of every element of a list, and of every round that a constructor makes. Assumes nothing.
-use mathlib.Core.Path.{_≡_}
+use mathlib.Core.Path.{_≡_, ap}
 use Prim.Native.Nat.{ℕ, zero, suc, _+_, _≤_, _<_, suc-le-suc}
 use native.Mathlib.Nat.{le-of-suc-le-suc, not-suc-le-zero, zero-lt-suc}
 use native.Mathlib.Omega.{arith}
 use mathlib.Core.List.{List, [], _∷_, _++_}
-use lib.Dec.{T}
+use lib.Dec.{T, eqb}
 use lib.ListN.{length, getD, take, drop}
+use borrow.Author.Tests.{eq-eqb}
 use Rattle.sheet.specs.Values.{demandOf, vehicleOf}
 use Rattle.evaluation.specs.Limits.{limitsOf}
 use Rattle.evaluation.specs.Feasible.{routeFeasible}
 use Rattle.plan.specs.Outcome.{Round}
-use Rattle.plan.specs.Read.{count}
+use Rattle.plan.specs.Read.{one, count}
 
 -- ---- every element
 module _ {A : Type 0} (P : A → Type 0) where
@@ -66,6 +67,11 @@ load-append s (i ∷ is) ys = let e = load-append s is ys in omega arith
 -- its vehicle is one of the fleet
 abbrev pub OfFleet : List ℕ → Round → Type 0
 OfFleet fleet r = 0 < count (r .vehicle) fleet
+
+-- as its first is
+pub of-first : (v : ℕ) (fleet : List ℕ) (r : Round) → r .vehicle ≡ v → OfFleet (v ∷ fleet) r
+unfolding count
+of-first v fleet r e = let here : one (eqb (r .vehicle) v) ≡ 1 = ap one (eq-eqb (r .vehicle) v e) in omega arith
 
 -- a round with stops: "It keeps capacity if its demands sum to no more than its vehicle's."
 pub record Carried (s : List ℕ) (r : Round) : Type 0 where

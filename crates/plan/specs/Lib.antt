@@ -9,11 +9,17 @@ pub mod Cases
 pub mod Laws
 pub mod Once
 pub mod Every
+pub mod Unchecked
+pub mod Checked
 pub mod Spread
 pub mod Back
 pub mod TablesBack
 pub mod Members
 pub mod Laid
 pub mod LaidLaws
+pub mod Closing
 pub mod Same
+pub mod Moved
 pub mod Holds
+pub mod Terms
+pub mod Entered

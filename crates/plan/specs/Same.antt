@@ -1,5 +1,5 @@
 -- Lists with every row as often are equally long. Assumes nothing.
-use mathlib.Core.Path.{_≡_, refl, ap, _∙_}
+use mathlib.Core.Path.{_≡_, refl, sym, ap, _∙_, subst}
 use Prim.Native.Nat.{ℕ, zero, suc, _+_, _<_}
 use native.Mathlib.Omega.{arith}
 use mathlib.Core.Bool.{Bool, true, false}
@@ -8,6 +8,7 @@ use lib.Dec.{eqb}
 use lib.ListN.{length, getD}
 use borrow.Author.Tests.{eqb-true, eq-eqb}
 use Rattle.plan.specs.Read.{one, count}
+use Rattle.plan.specs.Every.{Every}
 
 abbrev orElse : Bool → ℕ → List ℕ → List ℕ → List ℕ
 orElse true y ys zs = ys
@@ -51,3 +52,13 @@ unfolding count
 count-at [] i h = absurd (omega arith)
 count-at (x ∷ xs) zero h = let e : one (eqb x x) ≡ 1 = rw (eq-eqb x x refl) in omega arith
 count-at (x ∷ xs) (suc i) h = let k = count-at xs i (omega arith) in omega arith
+
+-- and what is counted in it has what every element has
+pub every-counted : (P : ℕ → Type 0) (x : ℕ) (xs : List ℕ) → Every P xs → 0 < count x xs → P x
+unfolding count
+every-counted P x [] e h = absurd (omega (arith, h))
+every-counted P x (y ∷ ys) e h = go (eqb x y) refl h (every-counted P x ys (e .1))
+  where
+    go : (b : Bool) → eqb x y ≡ b → 0 < one b + count x ys → (0 < count x ys → P x) → P x
+    go true q h f = subst P (sym (eqb-true x y q)) (e .0)
+    go false q h f = f (omega (arith, h))

@@ -21,6 +21,7 @@ ghost use Rattle.plan.specs.Tables.{Tables, RoundTables, Chained};
 
 mod records;
 pub mod tables;
+pub mod terms;
 
 // What a chain links to at place i: the stop there, or 0 at its end.
 fn link(chain: &[u16], i: usize) -> u16

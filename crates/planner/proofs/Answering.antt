@@ -9,8 +9,9 @@ use lib.ListN.{length, getD}
 use Rattle.sheet.specs.Fields.{planLength}
 use Rattle.sheet.specs.Refusal.{refusalOf}
 use Rattle.sheet.specs.Accepted.{Accepted, accepted}
-use Rattle.planner.specs.Answer.{planFor, answerOf, Answered, Once, Lawful}
+use Rattle.planner.specs.Answer.{planFor, answerOf, Answered, Once, Lawful, Alone, Closed}
 use Rattle.planner.specs.Promised.{stands, lawful-rounds}
+use Rattle.planner.specs.Insertion.{alone-kept, closed-kept}
 
 module _ (s lent : List ℕ) (n : ℕ) (told : n ≡ refusalOf s (length lent)) where
   -- a refused sheet: nothing is promised of it
@@ -23,30 +24,33 @@ module _ (s lent : List ℕ) (n : ℕ) (told : n ≡ refusalOf s (length lent)) 
         go zero e = absurd (refused (told ∙ e))
         go (suc m) e = record { number = rw e (told ∙ e); bytes = rw e }
 
-    pub refused-once : Once s n lent
-    refused-once e = absurd (refused e)
-
-    pub refused-lawful : Lawful s n lent
-    refused-lawful e = absurd (refused e)
+    pub refused-parts : Once s n lent × (Lawful s n lent × (Alone s n lent × Closed s n lent))
+    refused-parts = (λ e. absurd (refused e), (λ e. absurd (refused e), (λ e. absurd (refused e), λ e. absurd (refused e))))
 
   -- an accepted one
   module _ (none : n ≡ 0) where
-    fine : Accepted s
-    fine = accepted s (length lent) (sym told ∙ none) .0
-
     pub asks : Accepted s × (length lent ≡ planLength s)
     asks = accepted s (length lent) (sym told ∙ none)
+
+    fine : Accepted s
+    fine = asks .0
 
     module _ (plan : List ℕ) (filled : plan ≡ planFor s) where
       pub planned-answer : Answered s lent 0 plan
       unfolding answerOf
       planned-answer = let e : refusalOf s (length lent) ≡ 0 = sym told ∙ none in record { number = rw e; bytes = rw e filled }
 
-      pub planned-once : ((i : ℕ) → getD s i 0 < 256) → Once s 0 plan
-      planned-once small e = rw filled (stands s fine small)
-
-      pub planned-lawful : ((i : ℕ) → getD s i 0 < 256) → Lawful s 0 plan
-      planned-lawful small e whole other = rw filled (lawful-rounds s fine small whole other)
+      pub planned-parts : ((i : ℕ) → getD s i 0 < 256) → Once s 0 plan × (Lawful s 0 plan × (Alone s 0 plan × Closed s 0 plan))
+      planned-parts small = (
+        λ e. rw filled (stands s fine small),
+        (
+          λ e whole other. rw filled (lawful-rounds s fine small whole other),
+          (
+            λ e whole method one. rw filled (alone-kept s fine small whole method one),
+            λ e whole method one. rw filled (closed-kept s fine small whole method one),
+          ),
+        ),
+      )
 
 -- more than one row
 pub above-one : (n : ℕ) → ltb 1 n ≡ not (leb n 1)

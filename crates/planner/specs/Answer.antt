@@ -1,20 +1,21 @@
 -- What the planner answers a sheet with, and what holds of every plan: demands 1 to 3, read from the bytes of sheet and plan alone.
 use mathlib.Core.Path.{_≡_}
 use Prim.Native.Nat.{ℕ, zero, suc, _≤_, _<_}
-use mathlib.Core.Bool.{Bool, not, _&&_, _||_}
+use mathlib.Core.Bool.{Bool, false, not, _&&_, _||_}
 use mathlib.Core.List.{List}
 use lib.Dec.{T, leb, eqb}
-use lib.ListN.{length}
+use lib.ListN.{length, getD}
 use Rattle.sheet.specs.Fields.{rowsOf, methodOf}
 use Rattle.sheet.specs.Depots.{depotsOf}
 use Rattle.sheet.specs.Refusal.{refusalOf}
-use Rattle.plan.specs.Outcome.{Round}
+use Rattle.plan.specs.Outcome.{Round, Outcome}
 use Rattle.plan.specs.Plan.{planOf}
 use Rattle.plan.specs.Read.{readPlan, stopsOf, count, planRight}
 use Rattle.plan.specs.Every.{Every}
 use Rattle.lawful.specs.Whole.{Whole}
-use Rattle.lawful.specs.Lawful.{lawful, keepsCapacity}
-use Rattle.multi_depot.specs.ByDepot.{outcomeOf}
+use Rattle.lawful.specs.Lawful.{lawful, keepsCapacity, alone, fits, someSeedFirst}
+use Rattle.solomon_i1.specs.Later.{roundAt}
+use Rattle.multi_depot.specs.ByDepot.{fleetOf, outcomeOf}
 
 -- ---- the answer
 -- with one depot and no stop the Rust returns before it prices
@@ -74,3 +75,29 @@ pub record LawfulRound (s : List ℕ) (r : Round) : Type 0 where
 -- **lawful**, demand 3: "every round of the plan, whichever constructor but plain nearest neighbour made it, has a lawful schedule [..] and keeps capacity"
 abbrev pub Lawful : List ℕ → ℕ → List ℕ → Type 0
 Lawful s r plan = r ≡ 0 → Whole s → (methodOf s ≡ 2 → ⊥) → Every (LawfulRound s) (readPlan s plan .rounds)
+
+-- ---- insertion with one depot
+-- "the depot's first vehicle"
+abbrev pub firstVehicle : List ℕ → ℕ
+firstVehicle s = getD (fleetOf s 0) 0 0
+
+-- **alone**, demand 3: "With one depot, insertion then sets aside no pond that could make a round alone"
+abbrev pub Alone : List ℕ → ℕ → List ℕ → Type 0
+Alone s r plan = r ≡ 0 → Whole s → methodOf s ≡ 1 → depotsOf s ≡ 1 → Every (λ (i : ℕ). alone s (firstVehicle s) i ≡ false) (readPlan s plan .aside)
+
+-- stop i is later than round n, counted from 0, "if it stands on one counted higher, or is set aside and the seed's rule would take some stop of that round before it"
+pub data Later (s : List ℕ) (o : Outcome) (n i : ℕ) : Type 0 where
+  higher : (m : ℕ) → n < m → m < length (o .rounds) → 0 < count i (roundAt (o .rounds) m .stops) → Later s o n i
+  set-aside : 0 < count i (o .aside) → T (someSeedFirst s 0 (roundAt (o .rounds) n .stops) i) → Later s o n i
+
+-- it fits at no place of a round, "from before its first stop to after its last"
+abbrev pub FitsNowhere : List ℕ → ℕ → Round → Type 0
+FitsNowhere s i r = (k : ℕ) → k ≤ length (r .stops) → fits s (r .vehicle) k i (r .stops) ≡ false
+
+-- each round of an outcome, to every stop later than it
+abbrev pub ClosedRounds : List ℕ → Outcome → Type 0
+ClosedRounds s o = (n i : ℕ) → n < length (o .rounds) → Later s o n i → FitsNowhere s i (roundAt (o .rounds) n)
+
+-- **closed**, demand 3: "and for every round it closes, no pond placed or set aside later fits at any place in it"
+abbrev pub Closed : List ℕ → ℕ → List ℕ → Type 0
+Closed s r plan = r ≡ 0 → Whole s → methodOf s ≡ 1 → depotsOf s ≡ 1 → ClosedRounds s (readPlan s plan)

@@ -10,7 +10,7 @@ use Rattle.sheet.specs.Fields.{rowsOf, vehiclesOf, methodOf, timesOf, spareOf, 
 use Rattle.sheet.specs.Depots.{leading, depotsOf}
 use Rattle.sheet.specs.Ranges.{coordinate, demand, capacity, marks, amount, zeroBits, optional, interval, costPerDistance, servingInRange, rowInRange, maximaInRange, restInRange, vehicleInRange, sameId, newId, rowsInRange, entriesInRange, vehiclesInRange}
 use Rattle.plan.specs.SheetA.{three, four, ten, f64s, header, row, none, rows, vehicle, table, sheetA}
-use Rattle.sheet.specs.Refusal.{headerRight, countsRight, offered, methodRight, lengthsRight, needsVehicle, fleetRight, contents, refusalOf}
+use Rattle.sheet.specs.Refusal.{headerRight, countsRight, methodRight, lengthsRight, needsVehicle, fleetRight, contents, refusalOf}
 
 pub record Case : Type 0 where
   pub sheet : List ℕ
@@ -39,10 +39,11 @@ cases =
     ∷ record { sheet = header 3 1 2 ++ (rows ++ (vehicle 0 ++ f64s (0 ∷ ten ∷ ten ∷ ten ∷ 0 ∷ 0x7ff8_0000_0000_0000 ∷ ten ∷ four ∷ 0 ∷ []))); room = 256; answer = 6 }
     -- "depot 1 of 1"
     ∷ record { sheet = header 3 1 2 ++ (rows ++ (vehicle 1 ++ table)); room = 256; answer = 7 }
-    -- methods 0, 1 and 4 are not offered yet, so "method 1, 0 vehicles" is turned back before its vehicles are counted; method 2 needs none
-    ∷ record { sheet = sheetA 0; room = 256; answer = 3 }
-    ∷ record { sheet = header 3 0 1 ++ (rows ++ table); room = 256; answer = 3 }
-    ∷ record { sheet = sheetA 4; room = 256; answer = 3 }
+    -- "method 1, 0 vehicles"; methods 2 and 3 need none
+    ∷ record { sheet = header 3 0 1 ++ (rows ++ table); room = 256; answer = 8 }
+    ∷ record { sheet = header 3 0 0 ++ (rows ++ table); room = 256; answer = 8 }
+    ∷ record { sheet = header 3 0 4 ++ (rows ++ table); room = 256; answer = 8 }
+    ∷ record { sheet = sheetA 4; room = 256; answer = 0 }
     ∷ record { sheet = header 3 0 2 ++ (rows ++ table); room = 256; answer = 0 }
     -- no row is one depot
     ∷ record { sheet = header 0 1 2 ++ vehicle 0; room = 16; answer = 0 }
@@ -50,5 +51,5 @@ cases =
     ∷ []
 
 pub right : Right cases
-unfolding refusalOf headerRight countsRight offered methodRight lengthsRight needsVehicle fleetRight contents rowsOf vehiclesOf methodOf timesOf spareOf rowMarks idField depotField vehicleMarks marked leading depotsOf coordinate demand capacity marks amount zeroBits optional interval costPerDistance servingInRange rowInRange maximaInRange restInRange vehicleInRange sameId newId rowsInRange entriesInRange vehiclesInRange inRange all number bytes signed f64At ofBits le round
-right = (refl, (refl, (refl, (refl, (refl, (refl, (refl, (refl, (refl, (refl, (refl, (refl, (refl, (refl, (refl, tt)))))))))))))))
+unfolding refusalOf headerRight countsRight methodRight lengthsRight needsVehicle fleetRight contents rowsOf vehiclesOf methodOf timesOf spareOf rowMarks idField depotField vehicleMarks marked leading depotsOf coordinate demand capacity marks amount zeroBits optional interval costPerDistance servingInRange rowInRange maximaInRange restInRange vehicleInRange sameId newId rowsInRange entriesInRange vehiclesInRange inRange all number bytes signed f64At ofBits le round
+right = (refl, (refl, (refl, (refl, (refl, (refl, (refl, (refl, (refl, (refl, (refl, (refl, (refl, (refl, (refl, (refl, tt))))))))))))))))

@@ -1,26 +1,25 @@
 -- The plan of an accepted sheet keeps what is promised: every stop once, and lawful rounds. Assumes nothing.
 use mathlib.Core.Path.{_≡_, refl, sym, ap, _∙_, subst}
-use Prim.Native.Nat.{ℕ, zero, suc, _+_, _≤_, _<_}
+use Prim.Native.Nat.{ℕ, zero, suc, _+_, _-_, _≤_, _<_}
 use native.Mathlib.Nat.{zero-lt-suc}
 use native.Mathlib.Omega.{arith}
-use mathlib.Core.Bool.{Bool, true, false, _&&_, _||_, cond}
-use mathlib.Core.List.{List, [], _∷_, _++_}
-use lib.Dec.{T, leb, ltb, eqb, le→leb, lt→ltb}
-use lib.Ieee.Fits.{and-i}
+use mathlib.Core.Bool.{Bool, true, false, _||_, cond}
+use mathlib.Core.List.{List, [], _∷_}
+use lib.Dec.{T, ltb, eqb, le→leb}
 use lib.ListN.{length, getD, length-append}
-use borrow.Author.Tests.{eqb-true, eq-eqb, le-leb, lt-ltb}
+use borrow.Author.Tests.{eqb-true, ltb-true, ltb-false, le-leb, lt-ltb}
 use Rattle.sheet.specs.Fields.{rowsOf, vehiclesOf, methodOf}
 use Rattle.sheet.specs.Depots.{depotsOf}
-use Rattle.sheet.specs.Refusal.{offered, refusalOf}
+use Rattle.sheet.specs.Refusal.{refusalOf}
 use Rattle.sheet.specs.Accepted.{Accepted}
 use Rattle.sheet.specs.Values.{demandOf, vehicleOf}
 use Rattle.evaluation.specs.Limits.{limitsOf}
 use Rattle.evaluation.specs.Feasible.{routeFeasible}
 use Rattle.evaluation.specs.Routed.{Routed}
-use Rattle.plan.specs.Outcome.{Round, Outcome}
+use Rattle.plan.specs.Outcome.{Round}
 use Rattle.plan.specs.Plan.{planOf}
-use Rattle.plan.specs.Read.{readPlan, chains, stopsOf, isStop, linksRight, one, count, planRight}
-use Rattle.plan.specs.Once.{distinct-few, stops-right, distinct-right}
+use Rattle.plan.specs.Read.{readPlan, chains, stopsOf, isStop, linksRight, one, planRight}
+use Rattle.plan.specs.Same.{same-length}
 use Rattle.plan.specs.Back.{read-written, written-right}
 use Rattle.plan.specs.Every.{Every, every-both, every-map, loadOf, Feasible}
 use Rattle.reader.specs.Links.{links-front, links-back, links-at}
@@ -28,11 +27,18 @@ use Rattle.lawful.specs.Whole.{Whole}
 use Rattle.lawful.specs.Lawful.{homeOf, lawful, loadN, keepsCapacity}
 use Rattle.lawful.specs.Meaning.{feasible-lawful}
 use Rattle.nearest_neighbor.specs.Greedy.{growOn, greedy}
-use Rattle.nearest_neighbor.specs.Nearest.{windowRule, nearestNeighborTw}
+use Rattle.nearest_neighbor.specs.Nearest.{windowRule, nearestNeighbor, nearestNeighborTw}
 use Rattle.evaluation.specs.Checks.{hasSoftWindows}
 use Rattle.nearest_neighbor.specs.Feasible.{window-feasible}
-use Rattle.multi_depot.specs.ByDepot.{fleetOf, constructOf, outcomeOf}
-use Rattle.multi_depot.specs.Each.{once, links-right, each-once}
+use Rattle.savings.specs.Savings.{clarkeWright}
+use Rattle.savings.specs.Feasible.{Saved, savings-saved}
+use Rattle.solomon_i1.specs.Insertion.{solomonI1}
+use Rattle.solomon_i1.specs.Feasible.{insertion-feasible}
+use Rattle.sweep.specs.Sweep.{sweep}
+use Rattle.sweep.specs.Feasible.{sweep-feasible}
+use Rattle.multi_depot.specs.Those.{those-all}
+use Rattle.multi_depot.specs.ByDepot.{fleetOf, allStops, withVehicle, withFirst, constructOf, outcomeOf}
+use Rattle.multi_depot.specs.Each.{all-once, once, links-right}
 use Rattle.multi_depot.specs.Rounds.{RoundFrom, constructs-from, rounds-every, outcome-right, rounds-few}
 use Rattle.planner.specs.Answer.{planFor, toldBy, answerOf, numberOf, Answered, capacityKept, Standing, LawfulRound}
 
@@ -56,6 +62,10 @@ or-l : (a b : Bool) → T a → T (a || b)
 or-l true b t = tt
 or-l false b t = absurd t
 
+or-r : (a b : Bool) → T b → T (a || b)
+or-r true b t = tt
+or-r false b t = t
+
 module _ (s : List ℕ) (fine : Accepted s) where
   -- ---- reading the plan gives the outcome back
   pub plan-back : ((i : ℕ) → getD s i 0 < 256) → readPlan s (planFor s) ≡ outcomeOf s
@@ -74,81 +84,124 @@ module _ (s : List ℕ) (fine : Accepted s) where
   stands small = record { each = λ i l h. rw (plan-back small) (once s i ∙ stop-once i l h); right = plan-right small }
 
   -- ---- lawful
-  -- a round's stops are stops, and no more than there are rows
-  record Right (r : Round) : Type 0 where
-    links : T (linksRight s (r .stops))
-    few : length (r .stops) ≤ rowsOf s
+  -- a round's stops are stops, and no more than there are
+  pub record Right (r : Round) : Type 0 where
+    pub links : T (linksRight s (r .stops))
+    pub few : length (r .stops) ≤ rowsOf s - depotsOf s
 
-  rounds-right : (rs : List Round) (aside : List ℕ) → T (linksRight s (chains rs aside)) → length (chains rs aside) ≤ rowsOf s → Every Right rs
+  rounds-right : (rs : List Round) (aside : List ℕ) → T (linksRight s (chains rs aside)) → length (chains rs aside) ≤ rowsOf s - depotsOf s → Every Right rs
   unfolding chains
   rounds-right [] aside t l = tt
   rounds-right (r ∷ rs) aside t l =
       let e = length-append (r .stops) (chains rs aside) in
       (record { links = links-front s (r .stops) (chains rs aside) t; few = omega arith }, rounds-right rs aside (links-back s (r .stops) (chains rs aside) t) (omega arith))
 
-  all-right : Every Right (outcomeOf s .rounds)
-  all-right =
-      let o = outcomeOf s in
-      rounds-right (o .rounds) (o .aside) (links-right s) (distinct-few (rowsOf s) (stopsOf o) (stops-right s (stopsOf o) (links-right s)) (distinct-right s (stopsOf o) (links-right s) (each-once s)))
+  all-few : length (stopsOf (outcomeOf s)) ≡ rowsOf s - depotsOf s
+  all-few = same-length (stopsOf (outcomeOf s)) (allStops s) (λ x. once s x ∙ sym (all-once s x)) ∙ those-all (rowsOf s - depotsOf s) (depotsOf s)
+
+  pub all-right : Every Right (outcomeOf s .rounds)
+  all-right = rounds-right (outcomeOf s .rounds) (outcomeOf s .aside) (links-right s) (omega (arith, all-few))
+
+  pub load-same : (is : List ℕ) → loadN s is ≡ loadOf s is
+  unfolding loadN loadOf
+  load-same [] = refl
+  load-same (i ∷ is) = ap (λ (n : ℕ). demandOf s i + n) (load-same is)
 
   -- a round that a depot made, feasible for its vehicle
   record Driven (r : Round) : Type 0 where
     known : r .vehicle < vehiclesOf s
     some : 0 < length (r .stops)
     feasible : T (routeFeasible s (vehicleOf s (r .vehicle) .depot) (limitsOf (vehicleOf s (r .vehicle))) (r .stops))
-    capacity : loadOf s (r .stops) ≤ vehicleOf s (r .vehicle) .capacity
+    capacity : T (capacityKept s r)
 
-  driven-from : (d : ℕ) (r : Round) → RoundFrom s d r → Feasible s d r → Driven r
+  -- from a depot
+  record Sound (d : ℕ) (r : Round) : Type 0 where
+    feasible : T (routeFeasible s d (limitsOf (vehicleOf s (r .vehicle))) (r .stops))
+    capacity : T (capacityKept s r)
+
+  driven-from : (d : ℕ) (r : Round) → RoundFrom s d r → Sound d r → Driven r
   driven-from d r f u = record {
     known = f .vehicle;
     some = f .some;
     feasible = subst (λ (n : ℕ). T (routeFeasible s n (limitsOf (vehicleOf s (r .vehicle))) (r .stops))) (sym (f .home)) (u .feasible);
-    capacity = u .carried .capacity;
+    capacity = u .capacity;
   }
 
-  only-tw : (methodOf s ≡ 2 → ⊥) → methodOf s ≡ 3
-  unfolding offered
-  only-tw n = go (eqb (methodOf s) 2) refl (eqb (methodOf s) 3) refl (fine .method)
+  -- what is carried is kept; of the savings a lone stop is
+  carried-kept : (r : Round) → loadOf s (r .stops) ≤ vehicleOf s (r .vehicle) .capacity → T (capacityKept s r)
+  unfolding keepsCapacity vehicleOf
+  carried-kept r h = or-l (keepsCapacity s (r .vehicle) (r .stops)) _ (le→leb (loadN s (r .stops)) _ (rw (load-same (r .stops)) h))
+
+  lone-kept : methodOf s ≡ 0 → (r : Round) → length (r .stops) ≡ 1 → T (capacityKept s r)
+  lone-kept e r h = or-r (keepsCapacity s (r .vehicle) (r .stops)) _ (rw (e, h) tt)
+
+  feasible-sound : (d : ℕ) (r : Round) → Feasible s d r → Sound d r
+  feasible-sound d r u = record { feasible = u .feasible; capacity = carried-kept r (u .carried .capacity) }
+
+  all-sound : (d : ℕ) (rs : List Round) → Every (Feasible s d) rs → Every (Sound d) rs
+  all-sound d = every-map (Feasible s d) (Sound d) (feasible-sound d)
+
+  saved-sound : (d v : ℕ) → methodOf s ≡ 0 → (r : Round) → Saved s d v r → Sound d r
+  saved-sound d v e r u = record {
+    feasible = subst (λ (w : ℕ). T (routeFeasible s d (limitsOf (vehicleOf s w)) (r .stops))) (sym (u .vehicle)) (u .feasible);
+    capacity = go (ltb 1 (length (r .stops))) refl;
+  }
     where
-      go : (a : Bool) → eqb (methodOf s) 2 ≡ a → (b : Bool) → eqb (methodOf s) 3 ≡ b → T (a || b) → methodOf s ≡ 3
-      go true e b f t = absurd (n (eqb-true (methodOf s) 2 e))
-      go false e true f t = eqb-true (methodOf s) 3 f
-      go false e false f t = absurd t
+      go : (b : Bool) → ltb 1 (length (r .stops)) ≡ b → T (capacityKept s r)
+      go true h = carried-kept r (subst (λ (w : ℕ). loadOf s (r .stops) ≤ vehicleOf s w .capacity) (sym (u .vehicle)) (u .capacity (ltb-true 1 (length (r .stops)) h)))
+      go false h = lone-kept e r (omega (arith, ltb-false 1 (length (r .stops)) h, u .some))
 
   -- a depot is a row, where there is a stop at all
   home-row : (d : ℕ) (rows : List ℕ) → d < depotsOf s → 0 < length rows → T (linksRight s rows) → d < rowsOf s
   home-row d rows h l t = omega (arith, links-at s rows 0 l t .0, links-at s rows 0 l t .1)
 
   -- without members there is no round
-  none-driven : (d : ℕ) (fleet : List ℕ) → Every Driven (nearestNeighborTw s d [] fleet .rounds)
+  none-sound : (d : ℕ) (fleet : List ℕ) → Every (Sound d) (nearestNeighborTw s d [] fleet .rounds)
   unfolding nearestNeighborTw greedy growOn
-  none-driven d fleet = go fleet
+  none-sound d fleet = go fleet
     where
-      go : (fleet : List ℕ) → Every Driven (greedy (windowRule s d (hasSoftWindows s d [])) d fleet [] .rounds)
+      go : (fleet : List ℕ) → Every (Sound d) (greedy (windowRule s d (hasSoftWindows s d [])) d fleet [] .rounds)
       go [] = tt
       go (v ∷ vs) = go vs
 
-  window-driven : (d : ℕ) → d < depotsOf s → (members : List ℕ) → T (linksRight s members) → length members ≤ rowsOf s → methodOf s ≡ 3 → Every Driven (constructOf s d members (fleetOf s d) .rounds)
-  unfolding constructOf
-  window-driven d h [] t l e = rw (eq-eqb (methodOf s) 3 e) (none-driven d (fleetOf s d))
-  window-driven d h (i ∷ is) t l e =
+  window-sound : (d : ℕ) → d < depotsOf s → (members : List ℕ) → T (linksRight s members) → length members ≤ rowsOf s → Every (Sound d) (nearestNeighborTw s d members (fleetOf s d) .rounds)
+  window-sound d h [] t l = none-sound d (fleetOf s d)
+  window-sound d h (i ∷ is) t l =
       let members = i ∷ is in
       let ok : Routed s d members = record { sheet = fine; home = home-row d members h (zero-lt-suc (length is)) t; few = omega (arith, fine .sized .rows); row = λ k u. links-at s members k u t .1 } in
-      every-both (RoundFrom s d) (Feasible s d) Driven (driven-from d) (constructOf s d members (fleetOf s d) .rounds) (constructs-from s d members) (rw (eq-eqb (methodOf s) 3 e) (window-feasible s d members (fleetOf s d) ok))
+      all-sound d (nearestNeighborTw s d members (fleetOf s d) .rounds) (window-feasible s d members (fleetOf s d) ok)
+
+  savings-sound : (d v : ℕ) (members : List ℕ) → methodOf s ≡ 0 → Every (Sound d) (clarkeWright s d v members .rounds)
+  savings-sound d v members e = every-map (Saved s d v) (Sound d) (saved-sound d v e) (clarkeWright s d v members .rounds) (savings-saved s d v members)
+
+  first-sound : (d : ℕ) (members fleet : List ℕ) → Every (Sound d) (withFirst s d members fleet .rounds)
+  unfolding withVehicle
+  first-sound d members [] = tt
+  first-sound d members (v ∷ fleet) = go (eqb (methodOf s) 0) refl (eqb (methodOf s) 1)
+    where
+      go : (a : Bool) → eqb (methodOf s) 0 ≡ a → (b : Bool) → Every (Sound d) (cond a (clarkeWright s d v members) (cond b (solomonI1 s d v members) (sweep s d v members)) .rounds)
+      go true e b = savings-sound d v members (eqb-true (methodOf s) 0 e)
+      go false e true = all-sound d (solomonI1 s d v members .rounds) (insertion-feasible s d v members)
+      go false e false = all-sound d (sweep s d v members .rounds) (sweep-feasible s d v members)
+
+  constructs-sound : (methodOf s ≡ 2 → ⊥) → (d : ℕ) → d < depotsOf s → (members : List ℕ) → T (linksRight s members) → length members ≤ rowsOf s → Every (Sound d) (constructOf s d members (fleetOf s d) .rounds)
+  unfolding constructOf
+  constructs-sound n d h members t l = go (eqb (methodOf s) 2) refl (eqb (methodOf s) 3)
+    where
+      go : (a : Bool) → eqb (methodOf s) 2 ≡ a → (b : Bool)
+          → Every (Sound d) (cond a (nearestNeighbor s d members (fleetOf s d)) (cond b (nearestNeighborTw s d members (fleetOf s d)) (withFirst s d members (fleetOf s d))) .rounds)
+      go true e b = absurd (n (eqb-true (methodOf s) 2 e))
+      go false e true = window-sound d h members t l
+      go false e false = first-sound d members (fleetOf s d)
 
   all-driven : (methodOf s ≡ 2 → ⊥) → Every Driven (outcomeOf s .rounds)
-  all-driven n = rounds-every s Driven (λ d h members t l. window-driven d h members t l (only-tw n))
-
-  load-same : (is : List ℕ) → loadN s is ≡ loadOf s is
-  unfolding loadN loadOf
-  load-same [] = refl
-  load-same (i ∷ is) = ap (λ (n : ℕ). demandOf s i + n) (load-same is)
+  all-driven n = rounds-every s Driven (λ d h members t l. every-both (RoundFrom s d) (Sound d) Driven (driven-from d) (constructOf s d members (fleetOf s d) .rounds) (constructs-from s d members) (constructs-sound n d h members t l))
 
   lawful-round : Whole s → (r : Round) → Right r → Driven r → LawfulRound s r
   unfolding keepsCapacity vehicleOf
   lawful-round whole r u f = record {
     schedule = subst T (feasible-lawful s (r .vehicle) (r .stops) whole (f .known) (record { sheet = fine; home = home-row (homeOf s (r .vehicle)) (r .stops) (fine .vehicle (r .vehicle) (f .known) .depot) (f .some) (u .links); few = omega (arith, u .few, fine .sized .rows); row = λ k h. links-at s (r .stops) k h (u .links) .1 })) (f .feasible);
-    capacity = or-l (keepsCapacity s (r .vehicle) (r .stops)) _ (le→leb (loadN s (r .stops)) _ (rw (load-same (r .stops)) (f .capacity)));
+    capacity = f .capacity;
   }
 
   pub lawful-rounds : ((i : ℕ) → getD s i 0 < 256) → Whole s → (methodOf s ≡ 2 → ⊥) → Every (LawfulRound s) (readPlan s (planFor s) .rounds)

@@ -6,7 +6,7 @@ ghost use Rattle.sheet.specs.Fields.{rowsOf, planLength};
 ghost use Rattle.sheet.specs.Depots.{depotsOf};
 ghost use Rattle.sheet.specs.Accepted.{Sized, Accepted};
 ghost use Rattle.sheet.specs.Refusal.{refusalOf};
-ghost use Rattle.planner.specs.Answer.{priced, planFor, Answered, Once, Lawful};
+ghost use Rattle.planner.specs.Answer.{priced, planFor, Answered, Once, Lawful, Alone, Closed};
 ghost use Rattle.planner.specs.Tabled.{Tabled};
 
 // Whether a sheet would be planned into a buffer of `plan_len` bytes: 0, or the number of the refusal.
@@ -97,6 +97,8 @@ pub extern "C" fn plan_rounds(sheet: &[u8], plan: &mut [u8]) -> u32
     ensures { λ r. ⌜ Answered (now (sheet .entry)) (now (plan .entry)) r (now (plan .exit)) ⌝ }
     ensures { λ r. ⌜ Once (now (sheet .entry)) r (now (plan .exit)) ⌝ }
     ensures { λ r. ⌜ Lawful (now (sheet .entry)) r (now (plan .exit)) ⌝ }
+    ensures { λ r. ⌜ Alone (now (sheet .entry)) r (now (plan .exit)) ⌝ }
+    ensures { λ r. ⌜ Closed (now (sheet .entry)) r (now (plan .exit)) ⌝ }
 {
     let number = refusal::refusal(sheet, plan.len());
     if number != 0 {

@@ -35,16 +35,12 @@ fn counts_right(sheet: &[u8]) -> bool
     sheet::vehicles(sheet) <= 16
 }
 
-// Whether the method's constructor is here.
+// Whether the method is one of the five.
 fn method_right(sheet: &[u8]) -> bool
     requires { ⌜ 16 ≤ length (now sheet) ⌝ }
     ensures { λ r. ⌜ r ≡ methodRight (now (sheet .entry)) ⌝ }
 {
-    let method = sheet::method(sheet);
-    if method == 2 {
-        return true;
-    }
-    method == 3
+    sheet::method(sheet) <= 4
 }
 
 // How many distances and times a sheet of these counts has.

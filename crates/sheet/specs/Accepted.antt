@@ -13,7 +13,7 @@ use Rattle.numbers.specs.All.{all-at, all-of}
 use Rattle.sheet.specs.Fields.{rowsOf, vehiclesOf, methodOf, timesOf, spareOf, rowAt, xField, yField, demandField, rowMarks, serviceAt, readyAt, penaltyAt, vehicleAt, idField, depotField, capacityField, vehicleMarks, costAt, fixedAt, maxDistanceAt, maxDurationAt, earliestAt, restAt, entriesOf, entryAt, sheetLength, planLength, marked}
 use Rattle.sheet.specs.Depots.{depotsOf}
 use Rattle.sheet.specs.Ranges.{coordinate, demand, capacity, marks, amount, optional, interval, costPerDistance, servingInRange, rowInRange, maximaInRange, restInRange, vehicleInRange, sameId, newId, rowsInRange, entriesInRange, vehiclesInRange}
-use Rattle.sheet.specs.Refusal.{headerRight, countsRight, offered, methodRight, lengthsRight, needsVehicle, fleetRight, unless, contents, refusalOf}
+use Rattle.sheet.specs.Refusal.{headerRight, countsRight, methodRight, lengthsRight, needsVehicle, fleetRight, unless, contents, refusalOf}
 
 -- the row whose record starts at `at`
 pub record RowRanges (s : List ℕ) (at : ℕ) : Type 0 where
@@ -47,7 +47,7 @@ pub record Sized (s : List ℕ) : Type 0 where
 pub record Accepted (s : List ℕ) : Type 0 where
   pub sized : Sized s
   pub spare : spareOf s ≡ 0
-  pub method : T (offered (methodOf s))
+  pub method : methodOf s ≤ 4
   pub row : (i : ℕ) → i < rowsOf s → RowRanges s (rowAt i)
   pub entry : (k : ℕ) → k < entriesOf s → T (amount s (entryAt s k))
   pub vehicle : (v : ℕ) → v < vehiclesOf s → VehicleRanges s (vehicleAt s v)
@@ -177,9 +177,9 @@ module _ (s : List ℕ) where
   unfolding countsRight
   counts-of t = (leb→le (rowsOf s) 101 (and-l (leb (rowsOf s) 101) _ t), leb→le (vehiclesOf s) 16 (and-r (leb (rowsOf s) 101) _ t))
 
-  method-of : T (methodRight s) → T (offered (methodOf s))
+  method-of : T (methodRight s) → methodOf s ≤ 4
   unfolding methodRight
-  method-of t = t
+  method-of t = leb→le (methodOf s) 4 t
 
   lengths-of : (m : ℕ) → T (lengthsRight s m) → (length s ≡ sheetLength s) × (m ≡ planLength s)
   unfolding lengthsRight
@@ -230,7 +230,7 @@ module _ (s : List ℕ) (a : Accepted s) where
 
   method-right : T (methodRight s)
   unfolding methodRight
-  method-right = a .method
+  method-right = le→leb (methodOf s) 4 (a .method)
 
   lengths-right : T (lengthsRight s (planLength s))
   unfolding lengthsRight

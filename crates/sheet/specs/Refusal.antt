@@ -15,13 +15,9 @@ headerRight s = leb 16 (length s) && (leb (timesOf s) 1 && eqb (spareOf s) 0)
 unfoldable pub countsRight : List ℕ → Bool
 countsRight s = leb (rowsOf s) 101 && leb (vehiclesOf s) 16
 
--- the methods whose constructor is here: 2 nearest neighbour, 3 `nn_tw`
-unfoldable pub offered : ℕ → Bool
-offered m = eqb m 2 || eqb m 3
-
--- 3: "method above 4", and one that is not offered yet
+-- 3: "method above 4"
 unfoldable pub methodRight : List ℕ → Bool
-methodRight s = offered (methodOf s)
+methodRight s = leb (methodOf s) 4
 
 -- 4: "sheet or a plan buffer not of its exact length"
 unfoldable pub lengthsRight : List ℕ → ℕ → Bool

@@ -4,7 +4,7 @@ ghost use Prim.Native.Nat.{_+_, _*_, _<_, _≤_};
 ghost use lib.ListN.{length};
 ghost use Rattle.sheet.specs.Accepted.{Sized, Accepted};
 ghost use Rattle.sheet.specs.Depots.{depotsOf, leading, isDepot};
-ghost use Rattle.sheet.specs.Fields.{rowsOf, rowAt, rowMarks};
+ghost use Rattle.sheet.specs.Fields.{rowsOf, rowAt, xField, yField, rowMarks};
 ghost use Rattle.sheet.specs.Finite.{RowNumbers};
 ghost use Rattle.sheet.specs.Values.{gateAt, demandOf, stopOf};
 
@@ -75,6 +75,24 @@ fn gate_at(sheet: &[u8], at: usize) -> Gate
     Gate::Soft(Window { ready, due }, wire::f64_at(sheet, at + 40))
 }
 
+// The horizontal coordinate of a row.
+pub fn x(sheet: &[u8], row: usize) -> i32
+    requires { ⌜ Accepted (now sheet) ⌝ }
+    requires { ⌜ row < rowsOf (now sheet) ⌝ }
+    ensures { λ r. ⌜ r ≡ xField (now (sheet .entry)) (rowAt row) ⌝ }
+{
+    wire::i32_at(sheet, 16 + 48 * row)
+}
+
+// The vertical coordinate of a row.
+pub fn y(sheet: &[u8], row: usize) -> i32
+    requires { ⌜ Accepted (now sheet) ⌝ }
+    requires { ⌜ row < rowsOf (now sheet) ⌝ }
+    ensures { λ r. ⌜ r ≡ yField (now (sheet .entry)) (rowAt row) ⌝ }
+{
+    wire::i32_at(sheet, 16 + 48 * row + 4)
+}
+
 // What a row loads.
 pub fn demand(sheet: &[u8], row: usize) -> u32
     requires { ⌜ Accepted (now sheet) ⌝ }
@@ -92,8 +110,8 @@ pub fn stop_at(sheet: &[u8], row: usize) -> Stop
     let at = 16 + 48 * row;
     let gate = gate_at(sheet, at);
     Stop {
-        x: wire::i32_at(sheet, at),
-        y: wire::i32_at(sheet, at + 4),
+        x: x(sheet, row),
+        y: y(sheet, row),
         demand: demand(sheet, row),
         service: wire::f64_at(sheet, at + 16),
         gate,

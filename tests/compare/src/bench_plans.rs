@@ -13,14 +13,18 @@ use crate::bench::{median, nanoseconds};
 use crate::generate::straight;
 use crate::plan::plan_len;
 use crate::planner;
+use crate::plans::exact;
 use crate::random::Random;
 use crate::reference::{plan, Problem};
-use crate::refusal::OFFERED;
-use crate::sheet::{Row, Sheet, Vehicle, DEPOT, PENALTY, REST, WINDOW};
+use crate::refusal::{needs_vehicle, OFFERED};
+use crate::sheet::{Row, Sheet, Vehicle, DEPOT, PENALTY, REST, SAVINGS, WINDOW};
 
-/// Timed runs of a case, each side in turn, and how long one takes at least, in nanoseconds.
+/// Timed runs of a case, each side in turn, and how long one takes at least, in nanoseconds; of a
+/// side that takes longer than a hundredth of a second there are fewer.
 const RUNS: usize = 101;
+const FEW_RUNS: usize = 11;
 const LONG: f64 = 100_000.0;
+const TOO_LONG: f64 = 10_000_000.0;
 /// Runs of which the instructions are counted.
 const COUNTED: usize = 4;
 
@@ -28,6 +32,7 @@ const ROWS: [usize; 3] = [10, 50, 101];
 const DEPOTS: [usize; 2] = [1, 3];
 const CAPACITIES: [&str; 2] = ["tight", "unlimited"];
 const FEATURES: [&str; 4] = ["plain", "windows", "rest", "soft"];
+const LEGS: [&str; 2] = ["symmetric", "directed"];
 
 #[derive(Clone, Copy)]
 struct Case {
@@ -35,6 +40,7 @@ struct Case {
     rows: usize,
     depots: usize,
     capacity: &'static str,
+    legs: &'static str,
     feature: &'static str,
 }
 
@@ -56,23 +62,28 @@ struct Drive {
 }
 
 fn cases() -> impl Iterator<Item = Case> {
-    let sizes = ROWS.into_iter().flat_map(|rows| DEPOTS.map(|depots| (rows, depots)));
-    let sizes: Vec<(usize, usize)> = sizes.collect();
-    let kinds = CAPACITIES.into_iter().flat_map(|one| FEATURES.map(|two| (one, two)));
-    let kinds: Vec<(&str, &str)> = kinds.collect();
-    OFFERED.iter().flat_map(move |&method| {
-        let of = |&(rows, depots): &(usize, usize)| {
-            let case = |&(capacity, feature): &(&'static str, &'static str)| Case {
-                method,
-                rows,
-                depots,
-                capacity,
-                feature,
-            };
-            kinds.iter().map(case).collect::<Vec<Case>>()
-        };
-        sizes.iter().flat_map(of).collect::<Vec<Case>>()
-    })
+    OFFERED.iter().flat_map(|&method| cases_of(method))
+}
+
+/// A method of many vehicles is tried with one depot and three, one of one vehicle with legs that
+/// are alike both ways and with others; savings, which are quick of few rows, not with 10.
+fn cases_of(method: u8) -> Vec<Case> {
+    let one_vehicle = needs_vehicle(method);
+    let rows = &ROWS[usize::from(method == SAVINGS)..];
+    let depots = &DEPOTS[..if one_vehicle { 1 } else { DEPOTS.len() }];
+    let legs = &LEGS[..if one_vehicle { LEGS.len() } else { 1 }];
+    let mut cases = Vec::new();
+    for &rows in rows {
+        for &depots in depots {
+            for capacity in CAPACITIES {
+                for &legs in legs {
+                    let case = |feature| Case { method, rows, depots, capacity, legs, feature };
+                    cases.extend(FEATURES.map(case));
+                }
+            }
+        }
+    }
+    cases
 }
 
 /// `compare bench plans WORDS`; `None` for words that mean nothing.
@@ -96,17 +107,17 @@ fn alone(side: &str, case: &str, runs: &str) -> Option<ExitCode> {
 
 fn head(unit: &str) {
     println!(
-        "| method | rows | depots | capacity | | port, {unit} | Rust | port / Rust | \
+        "| method | rows | depots | capacity | legs | | port, {unit} | Rust | port / Rust | \
          construction | port / construction |"
     );
-    println!("|---|---|---|---|---|---|---|---|---|---|");
+    println!("|---|---|---|---|---|---|---|---|---|---|---|");
 }
 
 fn line(case: Case, [port, rust, construction]: [f64; 3]) {
-    let Case { method, rows, depots, capacity, feature } = case;
+    let Case { method, rows, depots, capacity, legs, feature } = case;
     println!(
-        "| {method} | {rows} | {depots} | {capacity} | {feature} | {port:.1} | {rust:.1} | {:.2} | \
-         {construction:.1} | {:.2} |",
+        "| {method} | {rows} | {depots} | {capacity} | {legs} | {feature} | {port:.1} | \
+         {rust:.1} | {:.2} | {construction:.1} | {:.2} |",
         port / rust,
         port / construction
     );
@@ -119,7 +130,8 @@ fn timed() -> ExitCode {
         let mut drive = Drive::new(case);
         let once = SIDES.map(|(_, side)| nanoseconds(|| drive.drive(side)));
         let mut runs = [const { Vec::new() }; 3];
-        for _ in 0..RUNS {
+        let long = once.iter().any(|&time| time > TOO_LONG);
+        for _ in 0..if long { FEW_RUNS } else { RUNS } {
             for ((times, (_, side)), once) in runs.iter_mut().zip(SIDES).zip(once) {
                 let repeats = 1 + (LONG / once) as usize;
                 let all = nanoseconds(|| (0..repeats).map(|_| drive.drive(side)).sum());
@@ -198,7 +210,8 @@ impl Drive {
         let problem = Problem::taken(&sheet);
         let mut drive = Drive { sheet: bytes, problem, plan: vec![0; plan_len(case.rows)] };
         drive.drive(Side::Port);
-        assert!(drive.plan == right, "the planner's plan is the Rust's");
+        let exact = exact(&drive.problem).map(|exact| exact.plan);
+        assert!(drive.plan == exact.unwrap_or(right), "the planner's plan is the Rust's");
         drive
     }
 
@@ -226,9 +239,15 @@ fn sheet(case: Case) -> Sheet {
     let load: i32 = rows[case.depots..].iter().map(|row| row.demand).sum();
     let capacity = if case.capacity == "tight" { load / vehicles + 5 } else { 1_000_000_000 };
     let legs = (0..case.rows * case.rows).map(|k| (&rows[k / case.rows], &rows[k % case.rows]));
-    let distances = legs.map(|(from, to)| straight(from, to)).collect();
+    let distances = legs.map(|(from, to)| leg(case, from, to)).collect();
     let vehicles = (0..vehicles as u32).map(|k| vehicle(case, k, capacity, horizon)).collect();
     Sheet { method: case.method, rows, vehicles, distances, times: None }
+}
+
+/// Uphill is farther where legs are directed.
+fn leg(case: Case, from: &Row, to: &Row) -> f64 {
+    let uphill = case.legs == "directed" && from.y < to.y;
+    straight(from, to) * if uphill { 1.1 } else { 1.0 }
 }
 
 fn row(random: &mut Random, case: Case, depot: bool, horizon: f64) -> Row {

@@ -7,10 +7,9 @@ use crate::generate::straight;
 use crate::random::Random;
 use crate::reference::plan;
 use crate::refusal::METHODS;
-use crate::sheet::{Row, Sheet, Vehicle, DEPOT, MAX_DURATION, REST, WINDOW};
+use crate::sheet::{Row, Sheet, Vehicle, DEPOT, MAX_DURATION, NN_TW, REST, WINDOW};
 
 const PONDS: usize = 25;
-const NN_TW: u8 = 3;
 /// The ponds lie in a square of this side, and this far apart at least.
 const SIDE: usize = 100;
 const APART: f64 = 13.0;

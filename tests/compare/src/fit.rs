@@ -6,9 +6,11 @@ use u_routing::evaluation::RouteLimits;
 use crate::generate::beside;
 use crate::greedy::{Candidate, Front};
 use crate::random::Random;
-use crate::reference::{Problem, Table};
-use crate::refusal::{MOST_FIGURE, MOST_MAXIMUM};
+use crate::reference::Problem;
+use crate::refusal::{needs_vehicle, MOST_DEMAND, MOST_FIGURE, MOST_MAXIMUM};
 use crate::sheet::{Sheet, Vehicle, MAX_DISTANCE, MAX_DURATION, PENALTY, REST, WINDOW};
+use crate::trial::{priced, Trial};
+use crate::tried::tried;
 
 /// Windows tried until a wait rounds.
 const WAITS: usize = 12;
@@ -84,6 +86,8 @@ pub struct Step {
     /// The stops before it was cut.
     whole: Vec<usize>,
     stop: usize,
+    /// What the round with the stop is put together from, where a method tries that.
+    parts: Option<[Vec<usize>; 2]>,
 }
 
 impl Step {
@@ -94,6 +98,12 @@ impl Step {
             return None;
         }
         let problem = Problem::taken(sheet);
+        if depots == 1 && needs_vehicle(sheet.method) {
+            let trials = tried(&problem.table());
+            if !trials.is_empty() {
+                return Some(Step::of(problem, &trials[random.below(trials.len())]));
+            }
+        }
         let mut round = Round { vehicle: random.below(sheet.vehicles.len()), stops: vec![] };
         let solution = problem.solution();
         if solution.num_routes() > 0 && !random.one_in(6) {
@@ -107,7 +117,15 @@ impl Step {
         let others: Vec<usize> = (depots..rows).filter(|k| !round.stops.contains(k)).collect();
         let next = whole.get(round.stops.len()).copied();
         let stop = next.filter(|_| random.one_in(2)).unwrap_or_else(|| random.pick(&others));
-        Some(Step { problem, round, whole, stop })
+        Some(Step { problem, round, whole, stop, parts: None })
+    }
+
+    /// A round that a method of one vehicle tries, which is the first of a single depot.
+    fn of(problem: Problem, trial: &Trial) -> Step {
+        let (&stop, before) = trial.stops.split_last().expect("a round of two parts");
+        let round = Round { vehicle: 0, stops: before.to_vec() };
+        let parts = Some(trial.parts.clone());
+        Step { problem, round, whole: trial.stops.clone(), stop, parts }
     }
 
     /// The round with the stop.
@@ -117,9 +135,8 @@ impl Step {
     }
 
     fn candidate(&self, stop: usize) -> Candidate {
-        let &Problem { method, ref customers, ref distances, ref vehicles } = &self.problem;
-        let table = Table { method, customers, distances, vehicles };
-        Front::at(&table, &vehicles[self.round.vehicle], &self.round.stops).candidate(stop)
+        let table = self.problem.table();
+        Front::at(&table, &table.vehicles[self.round.vehicle], &self.round.stops).candidate(stop)
     }
 
     pub fn fit(&self, sheet: &mut Sheet, fit: Fit, random: &mut Random) {
@@ -136,6 +153,10 @@ impl Step {
             Fit::Key => self.fit_key(sheet, random),
             Fit::Dear => self.fit_dear(sheet, random),
             Fit::Depot => fit_depot(sheet, self.stop, random),
+            Fit::Saving => self.fit_saving(sheet, random),
+            Fit::Far => self.fit_far(sheet, random),
+            Fit::Cost => self.fit_cost(sheet, random),
+            Fit::Whole => self.fit_whole(sheet, random),
         }
     }
 
@@ -200,13 +221,14 @@ impl Step {
         let left = sheet.depots()..sheet.rows.len();
         let left: Vec<usize> = left.filter(|k| !round.stops.contains(k)).collect();
         let stop = *left.get(random.below(left.len().max(1)))?;
-        Some(Step { problem: Problem::taken(sheet), whole: round.stops.clone(), round, stop })
+        let (problem, whole) = (Problem::taken(sheet), round.stops.clone());
+        Some(Step { problem, whole, round, stop, parts: None })
     }
 
     /// The same step of a sheet that has changed.
     fn anew(&self, sheet: &Sheet) -> Step {
-        let (round, whole) = (self.round.clone(), self.whole.clone());
-        Step { problem: Problem::taken(sheet), round, whole, stop: self.stop }
+        let (round, whole, parts) = (self.round.clone(), self.whole.clone(), self.parts.clone());
+        Step { problem: Problem::taken(sheet), round, whole, stop: self.stop, parts }
     }
 
     /// A window that closes, or a rest that has to start, just as the rest before the stop allows.
@@ -256,12 +278,112 @@ impl Step {
         }
         let vehicle = &mut sheet.vehicles[self.round.vehicle];
         (vehicle.cost_per_distance, vehicle.fixed_cost) = (1.0, 0.0);
-        let candidate = self.anew(sheet).candidate(self.stop);
-        let Candidate { added, other_added, alone, .. } = candidate;
+        let [added, other_added, alone] = self.anew(sheet).added();
         let vehicle = &mut sheet.vehicles[self.round.vehicle];
         if added > alone && added - alone < MOST_FIGURE {
             vehicle.fixed_cost = beside(random, added.max(other_added) - alone, MOST_FIGURE);
         }
+    }
+
+    /// What the soft rule compares: a cost, the same summed otherwise, and the other cost.
+    fn added(&self) -> [f64; 3] {
+        let Some([one, other]) = &self.parts else {
+            let Candidate { added, other_added, alone, .. } = self.candidate(self.stop);
+            return [added, other_added, alone];
+        };
+        let table = self.problem.table();
+        let [one, other] = [one, other].map(|part| priced(&table, part));
+        let whole = priced(&table, &self.extended().stops);
+        [whole - one, whole - (one + other) + other, other]
+    }
+
+    /// A leg between two stops that makes their saving another's, or 0, or the least there is, or
+    /// a step beside.
+    fn fit_saving(&self, sheet: &mut Sheet, random: &mut Random) {
+        let (depots, rows) = (sheet.depots(), sheet.rows.len());
+        let depot = sheet.vehicles[self.round.vehicle].depot as usize;
+        let fixed = self.problem.vehicles[self.round.vehicle].fixed_cost_in_distance();
+        let all: Vec<usize> = (depots..rows).collect();
+        let near = if self.whole.len() > 1 && random.one_in(2) { &self.whole } else { &all };
+        let [i, j, k, l] = [near, near, &all, &all].map(|of| random.pick(of));
+        let leg = |from: usize, to: usize| sheet.distances[from * rows + to];
+        let ways = leg(i, depot) + leg(depot, j) + fixed;
+        let saving = leg(k, depot) + leg(depot, l) - leg(k, l) + fixed;
+        let least = ways.next_up() - ways;
+        let between = ways - random.pick(&[saving, saving, 0.0, least, least]);
+        let alike = self.problem.distances.is_symmetric(0.0);
+        let between = beside(random, between, MOST_FIGURE);
+        sheet.distances[i * rows + j] = between;
+        if alike {
+            sheet.distances[j * rows + i] = between;
+        }
+    }
+
+    /// A stop as far from the depot as this one, or a step beside.
+    fn fit_far(&self, sheet: &mut Sheet, random: &mut Random) {
+        let (depots, rows) = (sheet.depots(), sheet.rows.len());
+        let depot = sheet.vehicles[self.round.vehicle].depot as usize;
+        let far = sheet.distances[depot * rows + self.stop];
+        let other = depots + random.below(rows - depots);
+        sheet.distances[depot * rows + other] = beside(random, far, MOST_FIGURE);
+    }
+
+    /// A leg that makes another place of the same round, or another stop there, as dear.
+    fn fit_cost(&self, sheet: &mut Sheet, random: &mut Random) {
+        let Some([round, stop]) = &self.parts else { return };
+        let (depots, rows) = (sheet.depots(), sheet.rows.len());
+        let ends = |at: usize| {
+            let before = at.checked_sub(1).map_or(0, |before| round[before]);
+            (before, round.get(at).copied().unwrap_or(0))
+        };
+        let leg = |from: usize, to: usize| sheet.distances[from * rows + to];
+        let at = self.whole.iter().position(|other| other == &stop[0]).unwrap_or(0);
+        let whole = priced(&self.problem.table(), &self.whole);
+        let cost = whole - priced(&self.problem.table(), round);
+        let others: Vec<usize> = (depots..rows).filter(|other| !round.contains(other)).collect();
+        let other = if random.one_in(2) { stop[0] } else { random.pick(&others) };
+        let place = random.below(round.len() + 1);
+        let (before, after) = ends(place);
+        let there = cost - leg(other, after) + leg(before, after);
+        if there.is_finite() && (other != stop[0] || place != at) {
+            // A step of the leg's, or one of the whole round's.
+            let step = whole.next_up() - whole;
+            let there = random.pick(&[there, there + step, there - step]);
+            sheet.distances[before * rows + other] = beside(random, there, MOST_FIGURE);
+        }
+    }
+
+    /// Two stops, the second as dear before the first as after it but for a step of the round's
+    /// whole cost, which the difference from the round without it need not show. The others are
+    /// over capacity.
+    fn fit_whole(&self, sheet: &mut Sheet, random: &mut Random) {
+        let Some([round, other]) = &self.parts else { return };
+        let rows = sheet.rows.len();
+        let (first, second) = (round[0], other[0]);
+        // A round of 17 to 24 has a bit more than one of 57 to 62, so that their difference, which
+        // is above 32, is rounded.
+        let [out, home] = [3.5, 3.5].map(|most| 8.5 + most * random.unit());
+        let whole = 57.0 + 5.0 * random.unit();
+        let [there, on] = [8.0, 16.0].map(|most| most * random.unit());
+        let on = on + 1.0;
+        let less = random.pick(&[whole, whole.next_down(), whole.next_up()]);
+        let mut set = |from: usize, to: usize, leg: f64| sheet.distances[from * rows + to] = leg;
+        set(0, first, out);
+        set(first, 0, home);
+        set(0, second, there);
+        set(second, first, whole - home - there);
+        set(first, second, on);
+        set(second, 0, less - (out + on));
+        unlimit(&mut sheet.vehicles[0]);
+        let vehicle = &mut sheet.vehicles[0];
+        (vehicle.cost_per_distance, vehicle.fixed_cost) = (1.0, 20.0);
+        vehicle.capacity = MOST_DEMAND - 1;
+        for (k, row) in sheet.rows.iter_mut().enumerate() {
+            row.demand = if [first, second].contains(&k) { 1 } else { MOST_DEMAND };
+        }
+        let row = &mut sheet.rows[second];
+        row.marks |= WINDOW | PENALTY;
+        (row.ready, row.due) = (0.0, MOST_FIGURE);
     }
 
     /// A stop that waits, soft and as dear next as alone, where a round of it alone just keeps a
@@ -333,4 +455,8 @@ pub enum Fit {
     Key,
     Dear,
     Depot,
+    Saving,
+    Far,
+    Cost,
+    Whole,
 }

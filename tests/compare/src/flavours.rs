@@ -7,10 +7,12 @@ use crate::damage::{noise, noise_after_header, Base, Values};
 use crate::fit::{Fit, Step};
 use crate::generate::{random_sheet, straight};
 use crate::plan::plan_len;
+use crate::points::lay_points;
 use crate::random::Random;
-use crate::refusal::{needs_vehicle, MOST_ROWS, MOST_VEHICLES};
+use crate::refusal::{needs_vehicle, MOST_FIGURE, MOST_ROWS, MOST_VEHICLES};
 use crate::sheet::{Row, Sheet, Vehicle};
 use crate::sheet::{DEPOT, MAX_DISTANCE, MAX_DURATION, PENALTY, REST, WINDOW};
+use crate::sheet::{INSERTION, SAVINGS, SWEEP};
 
 /// The most stops of a usual sheet, and the fewest of a large one.
 const SMALL: usize = 7;
@@ -50,16 +52,32 @@ struct Recipe {
     fits: &'static [Fit],
 }
 
-pub const FLAVOURS: [&str; 11] = [
-    "ties", "tenths", "waits", "limits", "rests", "soft", "depots", "whole", "large", "any",
+pub const FLAVOURS: [&str; 16] = [
+    "ties",
+    "tenths",
+    "waits",
+    "limits",
+    "rests",
+    "soft",
+    "depots",
+    "whole",
+    "large",
+    "any",
     "refused",
+    "savings",
+    "savings, soft",
+    "insertion",
+    "insertion, soft",
+    "sweep",
 ];
 const WHOLE: usize = 7;
 const LARGE_FLAVOUR: usize = 8;
 const ANY: usize = 9;
 const REFUSED: usize = 10;
-/// How likely each is.
-const SHARES: [usize; 11] = [12, 9, 14, 15, 15, 18, 18, 12, 2, 6, 8];
+/// From here on a flavour is one method's own.
+const OWN: usize = 11;
+/// How likely each is, where its method is among those drawn.
+const SHARES: [usize; 16] = [12, 9, 14, 15, 15, 18, 18, 12, 2, 6, 8, 30, 20, 30, 20, 50];
 
 const MAXIMA: u32 = MAX_DISTANCE | MAX_DURATION;
 
@@ -141,14 +159,112 @@ const RECIPES: [Recipe; 8] = [
     },
 ];
 
+const OWN_RECIPES: [(u8, Recipe); 5] = [
+    (
+        SAVINGS,
+        Recipe {
+            numbers: &[Few, Whole, Tenths, Tenths, Thirds, Fine],
+            windows: 1,
+            penalties: 1,
+            marks: MAXIMA | REST,
+            depots: &[1, 1, 1, 2, 2, 3],
+            fits: &[
+                Fit::Saving,
+                Fit::Saving,
+                Fit::Saving,
+                Fit::Capacity,
+                Fit::Capacity,
+                Fit::Maximum,
+                Fit::Test,
+                Fit::Due,
+                Fit::Rest,
+            ],
+        },
+    ),
+    (
+        SAVINGS,
+        Recipe {
+            numbers: &[Few, Whole, Whole, Tenths, Thirds, Fine],
+            windows: 6,
+            penalties: 8,
+            marks: MAXIMA | REST,
+            depots: &[1, 1, 1, 1, 1, 2],
+            fits: &[Fit::Dear, Fit::Dear, Fit::Dear, Fit::Saving, Fit::Due, Fit::Test, Fit::Rest],
+        },
+    ),
+    (
+        INSERTION,
+        Recipe {
+            numbers: &[Few, Whole, Tenths, Tenths, Thirds, Fine],
+            windows: 2,
+            penalties: 1,
+            marks: MAXIMA | REST,
+            depots: &[1, 1, 1, 1, 2, 3],
+            fits: &[
+                Fit::Cost,
+                Fit::Cost,
+                Fit::Far,
+                Fit::Capacity,
+                Fit::Maximum,
+                Fit::Test,
+                Fit::Due,
+                Fit::Rest,
+            ],
+        },
+    ),
+    (
+        INSERTION,
+        Recipe {
+            numbers: &[Few, Whole, Whole, Tenths, Thirds, Fine],
+            windows: 6,
+            penalties: 8,
+            marks: MAXIMA | REST,
+            depots: &[1, 1, 1, 1, 1, 2],
+            fits: &[
+                Fit::Dear,
+                Fit::Dear,
+                Fit::Dear,
+                Fit::Cost,
+                Fit::Cost,
+                Fit::Whole,
+                Fit::Far,
+                Fit::Due,
+                Fit::Test,
+                Fit::Rest,
+            ],
+        },
+    ),
+    (
+        SWEEP,
+        Recipe {
+            numbers: &[Few, Whole, Tenths, Thirds, Fine],
+            windows: 3,
+            penalties: 2,
+            marks: MAXIMA | REST,
+            depots: &[1, 1, 1, 1, 2, 3],
+            fits: &[Fit::Capacity, Fit::Capacity, Fit::Maximum, Fit::Test, Fit::Due, Fit::Rest],
+        },
+    ),
+];
+
+/// How likely a flavour is among sheets of these methods.
+pub fn share(methods: &[u8], flavour: usize) -> usize {
+    match flavour.checked_sub(OWN) {
+        Some(own) if !methods.contains(&OWN_RECIPES[own].0) => 0,
+        _ => SHARES[flavour],
+    }
+}
+
 /// The sheet of a number, of one of these methods if its header is not damaged.
 pub fn drawn(methods: &[u8], seed: u64, number: usize) -> Drawn {
     let mixed = Random::new(seed ^ (number as u64).wrapping_mul(0xd134_2543_de82_ef95)).bits();
     let random = &mut Random::new(mixed);
-    let mut share = random.below(SHARES.iter().sum());
+    let shares = (0..FLAVOURS.len()).map(|flavour| share(methods, flavour));
+    let shares: Vec<usize> = shares.collect();
+    let mut left = random.below(shares.iter().sum());
     let mut flavour = 0;
-    while share >= SHARES[flavour] {
-        share -= SHARES[flavour];
+    while left >= shares[flavour] {
+        left -= shares[flavour];
         flavour += 1;
     }
     if flavour == REFUSED {
@@ -188,23 +304,73 @@ fn sheet(methods: &[u8], flavour: usize, random: &mut Random) -> Sheet {
             }
         };
     }
+    if flavour >= OWN {
+        return own_sheet(flavour - OWN, random);
+    }
     let (recipe, stops) = match flavour {
         LARGE_FLAVOUR => (random.below(RECIPES.len()), LARGE + random.below(MOST_ROWS - LARGE)),
         _ => (flavour, 1 + random.below(SMALL)),
     };
     let mut sheet = RECIPES[recipe].sheet(method, stops, random);
-    for _ in 0..random.pick(&[0, 1, 1, 2, 3, 4]) {
-        let fit = random.pick(RECIPES[recipe].fits);
-        if let Some(step) = Step::new(&sheet, random) {
-            step.fit(&mut sheet, fit, random);
-        }
-    }
+    RECIPES[recipe].fit(&mut sheet, random);
     if recipe == WHOLE {
         make_whole(&mut sheet);
     }
     sheet
 }
 
+/// A sheet of a flavour that is one method's own.
+fn own_sheet(own: usize, random: &mut Random) -> Sheet {
+    let (method, recipe) = &OWN_RECIPES[own];
+    let mut sheet = recipe.sheet(*method, 2 + random.below(SMALL), random);
+    match *method {
+        SAVINGS => {
+            lay_legs(&mut sheet, random);
+            if random.one_in(if sheet.depots() > 1 { 2 } else { 3 }) {
+                soften(&mut sheet, random);
+            }
+        }
+        INSERTION if random.one_in(12) => {
+            let depots = sheet.depots();
+            let rows = sheet.rows.len();
+            sheet.distances[..depots * rows].fill(0.0);
+        }
+        SWEEP => lay_points(&mut sheet, random),
+        _ => (),
+    }
+    recipe.fit(&mut sheet, random);
+    sheet
+}
+
+/// Gives a row, often a depot's, a soft window that no one is late for.
+fn soften(sheet: &mut Sheet, random: &mut Random) {
+    let any = random.below(sheet.rows.len());
+    let row = &mut sheet.rows[random.pick(&[0, any])];
+    row.marks |= WINDOW | PENALTY;
+    (row.ready, row.due) = (0.0, MOST_FIGURE);
+}
+
+/// Makes legs alike both ways, of most sheets, and then of some all but one.
+fn lay_legs(sheet: &mut Sheet, random: &mut Random) {
+    let (depots, rows) = (sheet.depots(), sheet.rows.len());
+    let alike = random.below(8);
+    if alike < 2 {
+        return;
+    }
+    for k in 0..rows * rows {
+        sheet.distances[k] =
+            sheet.distances[(k / rows).min(k % rows) * rows + (k / rows).max(k % rows)];
+    }
+    if sheet.times.is_none() && random.one_in(6) {
+        sheet.times =
+            Some(sheet.distances.iter().map(|leg| leg + random.below(3) as f64).collect());
+    }
+    if alike > 5 {
+        let reach = if depots > 1 && random.one_in(2) { depots } else { rows };
+        let leg = &mut sheet.distances[random.below(reach) * rows + random.below(reach)];
+        *leg = random.pick(&[*leg + 1.0, leg.next_up(), 0.0, 5.0]);
+    }
+}
 /// Rounds all that a lawful round is read from; the maxima stay.
 fn make_whole(sheet: &mut Sheet) {
     let round = |figures: &mut [&mut f64]| figures.iter_mut().for_each(|x| **x = x.round());
@@ -228,6 +394,15 @@ fn number(random: &mut Random, numbers: Numbers) -> f64 {
 }
 
 impl Recipe {
+    fn fit(&self, sheet: &mut Sheet, random: &mut Random) {
+        for _ in 0..random.pick(&[0, 1, 1, 2, 3, 4]) {
+            let fit = random.pick(self.fits);
+            if let Some(step) = Step::new(sheet, random) {
+                step.fit(sheet, fit, random);
+            }
+        }
+    }
+
     fn sheet(&self, method: u8, stops: usize, random: &mut Random) -> Sheet {
         let numbers = random.pick(self.numbers);
         let depots = random.pick(self.depots);

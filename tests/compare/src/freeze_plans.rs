@@ -13,8 +13,8 @@ use std::path::Path;
 use std::{fs, io};
 
 use crate::flavours::{drawn, Drawn};
-use crate::kinds::KINDS;
-use crate::plans::expected;
+use crate::kinds::kinds;
+use crate::plans::{expected, Expected};
 use crate::refusal::{self, can_occur, OFFERED};
 
 const MOST_ROWS: usize = 12;
@@ -38,7 +38,7 @@ pub fn run(count: usize, seed: u64, folder: &Path) -> io::Result<()> {
     let (sheets, plans) = (stdin.len(), stdout.len());
     println!("freeze: seed {seed}, {records} records, {sheets} bytes, and {plans} of answers");
     println!("freeze: records per answer 0 to 8: {answers:?}");
-    let least = kinds.iter().min().expect("there are kinds");
+    let least = kinds.iter().map(|(_, met)| met).min().expect("there are kinds");
     println!("freeze: each of {} kinds in {least} records or more", kinds.len());
     Ok(())
 }
@@ -47,7 +47,8 @@ struct Sample {
     stdin: Vec<u8>,
     stdout: String,
     answers: [usize; 9],
-    kinds: Vec<usize>,
+    /// Each kind with the number of its records.
+    kinds: Vec<(usize, usize)>,
 }
 
 impl Default for Sample {
@@ -56,7 +57,7 @@ impl Default for Sample {
             stdin: vec![],
             stdout: String::new(),
             answers: [0; 9],
-            kinds: vec![0; KINDS.len()],
+            kinds: kinds(OFFERED).map(|(kind, _)| (kind, 0)).collect(),
         }
     }
 }
@@ -65,7 +66,7 @@ impl Sample {
     /// Whether all is met that has to be.
     fn whole(&self) -> bool {
         let answers = (0..9).all(|number| self.answers[number] >= MET || !can_occur(number));
-        answers && self.kinds.iter().all(|&met| met >= MET)
+        answers && self.kinds.iter().all(|&(_, met)| met >= MET)
     }
 
     /// Takes a sheet that shows something new, and any where nothing is lacking.
@@ -75,19 +76,20 @@ impl Sample {
         if long || drawn.plan_len > MOST_LENT {
             return;
         }
-        let (answer, seen, _) = expected(drawn);
-        let number = *answer.as_ref().err().unwrap_or(&0) as usize;
-        let lacks = |kind: usize| seen.has(kind) && self.kinds[kind] < MET;
-        let new = self.answers[number] < MET || (0..KINDS.len()).any(lacks);
-        if !new && !self.whole() {
+        let Expected { right, exact, seen, .. } = expected(drawn);
+        let number = *right.as_ref().err().unwrap_or(&0) as usize;
+        let lacks = |&(kind, met): &(usize, usize)| seen.has(kind) && met < MET;
+        let new = self.answers[number] < MET || self.kinds.iter().any(lacks);
+        // A plan that only rounded angles give is no one's to keep.
+        if (!new && !self.whole()) || exact.is_some() {
             return;
         }
         self.answers[number] += 1;
-        (0..KINDS.len()).for_each(|kind| self.kinds[kind] += usize::from(seen.has(kind)));
+        self.kinds.iter_mut().for_each(|(kind, met)| *met += usize::from(seen.has(*kind)));
         self.stdin.extend((drawn.sheet.len() as u32).to_le_bytes());
         self.stdin.extend((drawn.plan_len as u32).to_le_bytes());
         self.stdin.extend(&drawn.sheet);
-        self.stdout.push_str(&line(&answer));
+        self.stdout.push_str(&line(&right));
     }
 }
 

@@ -5,9 +5,7 @@ use u_routing::evaluation::{has_soft_windows, route_eval, route_feasible, RouteL
 use u_routing::models::{Customer, Solution, Vehicle};
 
 use crate::reference::Table;
-
-/// The method that ignores windows where no rest is to be placed.
-const NEAREST: u8 = 2;
+use crate::sheet::NEAREST;
 
 /// A round on its way.
 pub struct Front<'a> {
@@ -153,6 +151,7 @@ impl<'a> Front<'a> {
 
     fn out(&self, candidate: &Candidate) -> Option<Out> {
         let &Table { customers, method, .. } = self.table;
+        // Nearest neighbour ignores windows where no rest is to be placed.
         let windows = method != NEAREST;
         let hard = customers[candidate.stop].lateness_penalty().is_none();
         let soft = self.soft && !self.stops.is_empty();

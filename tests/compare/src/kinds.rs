@@ -8,76 +8,220 @@ use u_routing::evaluation::{has_soft_windows, route_eval, RouteEval, RouteLimits
 use u_routing::models::{num_depots, Customer, Solution, Vehicle, VehicleBreak};
 
 use crate::greedy::{follow, Candidate, Front, Out};
+use crate::inserts;
 use crate::reference::{Problem, Table};
+use crate::refusal::METHODS;
+use crate::sheet::{INSERTION, NEAREST, NN_TW, SAVINGS, SWEEP};
+
+const GREEDY: &[u8] = &[NEAREST, NN_TW];
 
 macro_rules! kinds {
-    ($($kind:ident $name:literal,)*) => {
+    ($($methods:expr => { $($kind:ident $name:literal,)* })*) => {
         #[derive(Clone, Copy)]
-        pub enum Kind { $($kind),* }
-        pub const KINDS: &[&str] = &[$($name),*];
+        pub enum Kind { $($($kind,)*)* }
+        /// Each with the methods that have to meet it.
+        const KINDS: &[(&str, &[u8])] = &[$($(($name, $methods),)*)*];
     };
 }
 
 kinds! {
-    Tie "two candidates tie in the key",
-    CapacityMet "capacity met exactly",
-    CapacityOver "capacity passed by one",
-    DistanceMet "distance = maximum",
-    DistanceOver "distance one step over",
-    DurationMet "duration = maximum",
-    DurationOver "duration one step over",
-    DistanceOrder "the order of the distance's sum decides",
-    DurationOrder "the order of the duration's sum decides",
-    ClockOrder "the rounding of the clock decides",
-    WaitOrder "the rounding of the wait decides",
-    DearOrder "the order of the cost's sum decides",
-    Due "arrival = due",
-    Overdue "arrival one step after due",
-    Unready "ready one step after arrival",
-    Waiting "waiting rounds",
-    Late "late at a soft window",
-    LateKey "lateness decides the key",
-    Dear "the soft rule decides",
-    DearTie "the soft rule at its tie",
-    DearAlone "the soft rule where none goes alone",
-    Restless "return = earliest",
-    RestNeeded "return one step after earliest",
-    RestLatest "rest starts at latest",
-    RestTooLate "rest one step after latest",
-    RestLater "rest after the first stop",
-    RestDue "rest ends at due",
-    RestMet "rested duration = maximum",
-    RestOver "rested duration one step over",
-    RecordOver "a record over its maximum",
-    RecordLate "a hard window missed",
-    Idle "a vehicle without a round",
-    RunOut "vehicles run out",
-    Unpriced "a plan that is not priced",
-    Unmade "a priced plan without rounds",
-    NoVehicle "no vehicle",
-    DepotWindow "a window on a depot row",
-    DepotSoft "a soft window on a depot row alone",
-    SecondDepot "a stop at its second depot",
-    ThirdDepot "a stop at its third depot",
-    Displaced "a stop displaced",
-    DepotTie "two depots equally near",
-    DepotBack "another depot nearer on the way back",
-    DepotBare "the nearest depot without a vehicle",
-    DepotHard "a depot without the sheet's soft windows",
-    AsideOfAll "a stop set aside by several depots",
+    GREEDY => {
+        Tie "two candidates tie in the key",
+        CapacityMet "capacity met exactly",
+        CapacityOver "capacity passed by one",
+        DistanceMet "distance = maximum",
+        DistanceOver "distance one step over",
+        DurationMet "duration = maximum",
+        DurationOver "duration one step over",
+        DistanceOrder "the order of the distance's sum decides",
+        DurationOrder "the order of the duration's sum decides",
+        ClockOrder "the rounding of the clock decides",
+    }
+    &[NN_TW] => {
+        WaitOrder "the rounding of the wait decides",
+        DearOrder "the order of the cost's sum decides",
+    }
+    GREEDY => {
+        Due "arrival = due",
+        Overdue "arrival one step after due",
+        Unready "ready one step after arrival",
+        Waiting "waiting rounds",
+    }
+    METHODS => {
+        Late "late at a soft window",
+    }
+    &[NN_TW] => {
+        LateKey "lateness decides the key",
+        Dear "the soft rule decides",
+        DearTie "the soft rule at its tie",
+        DearAlone "the soft rule where none goes alone",
+    }
+    GREEDY => {
+        Restless "return = earliest",
+        RestNeeded "return one step after earliest",
+        RestLatest "rest starts at latest",
+        RestTooLate "rest one step after latest",
+        RestLater "rest after the first stop",
+        RestDue "rest ends at due",
+        RestMet "rested duration = maximum",
+        RestOver "rested duration one step over",
+    }
+    &[NEAREST] => {
+        RecordOver "a record over its maximum",
+        RecordLate "a hard window missed",
+    }
+    GREEDY => {
+        Idle "a vehicle without a round",
+        RunOut "vehicles run out",
+    }
+    METHODS => {
+        Unpriced "a plan that is not priced",
+        Unmade "a priced plan without rounds",
+    }
+    GREEDY => {
+        NoVehicle "no vehicle",
+    }
+    METHODS => {
+        DepotWindow "a window on a depot row",
+        DepotSoft "a soft window on a depot row alone",
+        SecondDepot "a stop at its second depot",
+        ThirdDepot "a stop at its third depot",
+    }
+    GREEDY => {
+        Displaced "a stop displaced",
+    }
+    METHODS => {
+        DepotTie "two depots equally near",
+        DepotBack "another depot nearer on the way back",
+        DepotBare "the nearest depot without a vehicle",
+        DepotHard "a depot without the sheet's soft windows",
+        AsideOfAll "a stop set aside by several depots",
+    }
+    &[SAVINGS] => {
+        EqualSavings "a join among equal savings",
+        ZeroSaving "a saving of 0",
+        FixedSaves "a saving by the fixed cost alone",
+        SavingOrder "the order of the saving's sum decides",
+        BothWays "savings where legs are alike both ways",
+        OneWay "savings where legs are not",
+        OneLeg "one leg alone is not as its way back",
+        OneWayElsewhere "legs not alike beyond the depot's rows",
+        OneWayTimes "times not alike both ways, distances so",
+        EndToStart "a join, end to start",
+        StartToEnd "a join, start to end",
+        EndToEnd "a join, end to end",
+        StartToStart "a join, start to start",
+        Unturned "a join that asks for turning one-way legs",
+        Inside "a saving of a stop inside its round",
+        JoinCapacityMet "a join's load = capacity",
+        JoinCapacityOver "a join's load one over",
+        LoneOver "a lone stop over capacity",
+        NoRound "a saving of a stop without a round",
+        JoinLate "a join refused by a window",
+        JoinFar "a join refused by the maximum distance",
+        JoinLong "a join refused by the maximum duration",
+        JoinRest "a join refused by the rest",
+        JoinDistanceMet "a join's distance = maximum",
+        JoinDistanceOver "a join's distance one step over",
+        JoinDurationMet "a join's duration = maximum",
+        JoinDurationOver "a join's duration one step over",
+        JoinTie "a join as dear as apart",
+        JoinDear "a join dearer than apart",
+        JoinCheap "a join cheaper than apart, and late",
+        SavedNothing "a saving that rounding takes back",
+        JoinOrder "the order of the sum of apart decides",
+        JoinDepots "joins where there are several depots",
+    }
+    &[INSERTION] => {
+        SeedTie "two stops farthest",
+        SeedZero "the farthest of several at distance 0",
+        SeedCapacity "a seed set aside by capacity",
+        SeedWalk "a seed set aside by the walk",
+        SeedBetween "a seed set aside between rounds",
+        AsideTurned "stops set aside not ascending, inserting",
+        InsertTie "the least insertion of two stops",
+        PlaceTie "the least insertion at two places",
+        InsertOrder "the order of the insertion's sum decides",
+        InsertWhole "the rounding of the cost added decides",
+        InsertCapacityMet "an insertion's load = capacity",
+        InsertCapacityOver "an insertion's load one over",
+        PlaceLate "a place refused by a window",
+        PlaceFar "a place refused by the maximum distance",
+        PlaceLong "a place refused by the maximum duration",
+        PlaceRest "a place refused by the rest",
+        PlaceDistanceMet "a place's distance = maximum",
+        PlaceDistanceOver "a place's distance one step over",
+        PlaceDurationMet "a place's duration = maximum",
+        PlaceDurationOver "a place's duration one step over",
+        PlaceFirst "the place before the first stop wins",
+        PlaceInner "a place between stops wins",
+        PlaceLast "the place after the last stop wins",
+        InsertNegative "an insertion that costs less than nothing",
+        InsertTieAlone "an insertion as dear as alone",
+        InsertDear "an insertion dearer than alone",
+        InsertDearOrder "the order of the sum of alone decides",
+        InsertOnly "a stop that cannot go alone is inserted",
+        InsertOnlySoft "such a stop where windows are soft",
+        InsertDepots "insertions where there are several depots",
+    }
+    &[SWEEP] => {
+        Collinear "one direction, two lengths",
+        Colocated "two stops on one point",
+        OnDepot "a stop on the depot's point",
+        OnDepotTie "such a stop, and one at angle 0",
+        Opposite "two stops in opposite directions",
+        AngleZero "angle 0",
+        AnglePi "angle π",
+        AngleDown "angle -π/2",
+        AngleUp "angle π/2",
+        AroundPi "angle π, and one just above -π",
+        FarApart "a stop 2,000,000 from its depot",
+        Corner "a stop at two ends of the range",
+        NearDirections "directions as near as can be, far out",
+        EqualTurned "equal directions, the later row nearer",
+        SweepCapacityMet "a swept load = capacity",
+        SweepCapacityOver "a swept load one over",
+        SweepFull "a round closed by capacity",
+        SweepLate "a round closed by a window",
+        SweepFar "a round closed by the maximum distance",
+        SweepLong "a round closed by the maximum duration",
+        SweepRest "a round closed by the rest",
+        SweepDistanceMet "a swept distance = maximum",
+        SweepDistanceOver "a swept distance one step over",
+        SweepDurationMet "a swept duration = maximum",
+        SweepDurationOver "a swept duration one step over",
+        SweepAsideFull "a stop set aside by capacity, sweeping",
+        SweepAsideWalk "a stop set aside by the walk, sweeping",
+        SweepAside "a stop set aside within a round",
+        SweepAsideTurned "stops set aside not ascending, sweeping",
+        SweepDepots "sweeps where there are several depots",
+    }
+}
+
+/// The name of each kind that a planner of these methods has to meet, and its place among all.
+pub fn kinds(methods: &[u8]) -> impl Iterator<Item = (usize, &'static str)> + '_ {
+    let met = |of: &[u8]| of.iter().any(|method| methods.contains(method));
+    let all = KINDS.iter().enumerate();
+    all.filter_map(move |(kind, (name, of))| met(of).then_some((kind, *name)))
 }
 
 /// The kinds of one plan.
-#[derive(Clone, Copy, Default)]
-pub struct Seen(u64);
+#[derive(Clone, Copy)]
+pub struct Seen([bool; KINDS.len()]);
+
+impl Default for Seen {
+    fn default() -> Seen {
+        Seen([false; KINDS.len()])
+    }
+}
 
 impl Seen {
-    fn mark(&mut self, kind: Kind, met: bool) {
-        self.0 |= u64::from(met) << kind as u32;
+    pub fn mark(&mut self, kind: Kind, met: bool) {
+        self.0[kind as usize] |= met;
     }
 
     pub fn has(&self, kind: usize) -> bool {
-        self.0 >> kind & 1 != 0
+        self.0[kind]
     }
 }
 
@@ -86,17 +230,14 @@ pub fn solved(problem: &Problem) -> (Solution, Seen, Option<&'static str>) {
     let seen = RefCell::new(Seen::default());
     let turned_down = RefCell::new(Vec::new());
     let followed = RefCell::new(true);
-    let solution = problem.solution_seen(|table, solution| {
+    let solution = problem.solution_by(|table| {
+        let solution = table.solution();
         let mut seen = seen.borrow_mut();
-        if matches!(table.method, 2 | 3) {
-            *followed.borrow_mut() &= follow(table, solution, |front, candidates, taken| {
-                seen.step(table, front, candidates, taken);
-            });
-            seen.vehicles(table, solution);
-        }
-        seen.records(table, solution);
+        *followed.borrow_mut() &= seen.steps(problem, table, &solution);
+        seen.records(table, &solution);
         seen.rows(table, problem);
         turned_down.borrow_mut().push(solution.unassigned().to_vec());
+        solution
     });
     let mut seen = seen.into_inner();
     seen.whole(problem, &solution);
@@ -108,6 +249,23 @@ pub fn solved(problem: &Problem) -> (Solution, Seen, Option<&'static str>) {
 }
 
 impl Seen {
+    /// One table's construction; false where it is not the Rust's.
+    fn steps(&mut self, problem: &Problem, table: &Table, solution: &Solution) -> bool {
+        let rows = table.customers.len();
+        match table.method {
+            _ if rows <= 1 && !GREEDY.contains(&table.method) => true,
+            SAVINGS => self.savings(problem, table, solution),
+            INSERTION => rows > inserts::MOST_ROWS || self.insertion(problem, table, solution),
+            SWEEP => self.sweep(problem, table, solution),
+            _ => {
+                self.vehicles(table, solution);
+                follow(table, solution, |front, candidates, taken| {
+                    self.step(table, front, candidates, taken);
+                })
+            }
+        }
+    }
+
     /// One step of a nearest neighbour.
     fn step(&mut self, table: &Table, front: &Front, all: &[Candidate], taken: Option<usize>) {
         let best = all.iter().find(|candidate| Some(candidate.stop) == taken);
@@ -121,7 +279,7 @@ impl Seen {
                 self.rest(table, front, candidate);
                 self.windows(table, front, candidate);
             }
-            if table.method == 3 && candidate.out.is_none_or(|out| out == Out::Dear) {
+            if table.method == NN_TW && candidate.out.is_none_or(|out| out == Out::Dear) {
                 self.soft_rule(front, candidate, key);
             }
         }
@@ -190,7 +348,7 @@ impl Seen {
     fn windows(&mut self, table: &Table, front: &Front, candidate: &Candidate) {
         let customer = &table.customers[candidate.stop];
         let Some(window) = customer.time_window() else { return };
-        if table.method == 2 && front.driver.rest().is_none() {
+        if table.method == NEAREST && front.driver.rest().is_none() {
             return;
         }
         let (arrival, ready) = (candidate.arrival, window.ready());

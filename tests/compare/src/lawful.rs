@@ -2,11 +2,8 @@
 //! in whole numbers and by trying every place. Nothing of the planner's or the Rust's ways is used.
 
 use crate::plan::{round_at, stop_at};
-use crate::sheet::{field, Sheet, MAX_DISTANCE, MAX_DURATION, PENALTY, REST, WINDOW};
-
-const SAVINGS: u8 = 0;
-const INSERTION: u8 = 1;
-const NEAREST: u8 = 2;
+use crate::sheet::{field, Sheet, INSERTION, NEAREST, SAVINGS};
+use crate::sheet::{MAX_DISTANCE, MAX_DURATION, PENALTY, REST, WINDOW};
 
 /// How often each claim was checked.
 #[derive(Default)]
@@ -16,6 +13,8 @@ pub struct Claims {
     lawful: [usize; 5],
     rounds: usize,
     rested: usize,
+    /// Rounds of a lone pond over capacity, which savings may make.
+    lone: usize,
     /// Plans that the insertion clauses hold for, the ponds set aside there, and those that
     /// were later than a round.
     insertion: usize,
@@ -25,10 +24,11 @@ pub struct Claims {
 
 impl Claims {
     pub fn print(&self) {
-        let Claims { plans, lawful, rounds, rested, insertion, aside, later } = self;
+        let Claims { plans, lawful, rounds, rested, lone, insertion, aside, later } = self;
         println!("  demand 3: every pond once in {plans} plans");
         println!("  demand 3: lawful rounds in {lawful:?} plans of methods 0 to 4");
         println!("  demand 3: {rounds} rounds, {rested} of them with a rest");
+        println!("  demand 3: {lone} lone ponds over capacity in plans of savings");
         println!("  demand 3: insertion's clauses in {insertion} plans, {aside} ponds set aside");
         println!("  demand 3: {later} times a pond later than a round");
     }
@@ -47,6 +47,7 @@ impl Claims {
         self.lawful.iter_mut().zip(other.lawful).for_each(|(sum, plans)| *sum += plans);
         self.rounds += other.rounds;
         self.rested += other.rested;
+        self.lone += other.lone;
         self.insertion += other.insertion;
         self.aside += other.aside;
         self.later += other.later;
@@ -55,9 +56,10 @@ impl Claims {
     /// Whether a claim was never checked that plans of these methods make.
     pub fn missing(&self, methods: &[u8]) -> bool {
         let lacks = |&method: &u8| method != NEAREST && self.lawful[usize::from(method)] == 0;
-        let insertion = methods.contains(&INSERTION);
+        let (savings, insertion) = (methods.contains(&SAVINGS), methods.contains(&INSERTION));
         self.plans == 0
             || methods.iter().any(lacks)
+            || (savings && self.lone == 0)
             || (insertion && [self.insertion, self.aside, self.later].contains(&0))
     }
 }
@@ -84,9 +86,11 @@ pub fn judge(sheet: &[u8], plan: &[u8], claims: &mut Claims) -> Result<(), Strin
         if !ground.has_lawful_schedule(*vehicle, stops) {
             return Err(format!("round {stops:?} has no lawful schedule"));
         }
-        let lone = sheet.method == SAVINGS && stops.len() == 1;
-        if !lone && !ground.keeps_capacity(*vehicle, stops) {
-            return Err(format!("round {stops:?} is over capacity"));
+        if !ground.keeps_capacity(*vehicle, stops) {
+            if sheet.method != SAVINGS || stops.len() != 1 {
+                return Err(format!("round {stops:?} is over capacity"));
+            }
+            claims.lone += 1;
         }
     }
     if sheet.method == INSERTION && sheet.depots() == 1 {

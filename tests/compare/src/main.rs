@@ -20,6 +20,7 @@
 
 #![deny(warnings)]
 
+mod angles;
 mod bench;
 mod bench_plans;
 mod checked;
@@ -31,12 +32,15 @@ mod freeze;
 mod freeze_plans;
 mod generate;
 mod greedy;
+mod inserts;
+mod joins;
 mod kinds;
 mod lawful;
 mod listing;
 mod plan;
 mod planner;
 mod plans;
+mod points;
 mod random;
 mod reference;
 mod refusal;
@@ -45,6 +49,8 @@ mod rounds;
 mod selftest;
 mod sheet;
 mod stream;
+mod trial;
+mod tried;
 
 use std::io;
 use std::path::Path;

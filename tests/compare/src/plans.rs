@@ -1,17 +1,19 @@
 //! `compare plans`: the planner's plans against the Rust's, bytes to bytes, and each plan against
 //! document 01's "A lawful round".
 
+use std::cell::Cell;
 use std::process::ExitCode;
 
-use crate::flavours::{drawn, Drawn, FLAVOURS};
-use crate::kinds::{solved, Seen, KINDS};
+use crate::angles::{misorders, swept};
+use crate::flavours::{drawn, share, Drawn, FLAVOURS};
+use crate::kinds::{kinds, solved, Seen};
 use crate::lawful::{judge, Claims};
 use crate::listing::lines;
 use crate::plan::encode;
 use crate::planner;
 use crate::reference::Problem;
 use crate::refusal::{accepted, can_occur, OFFERED};
-use crate::sheet::Sheet;
+use crate::sheet::{Sheet, SWEEP};
 
 /// Differences shown whole.
 const SHOWN: usize = 3;
@@ -32,13 +34,16 @@ struct Tally {
     differences: [usize; FLAVOURS.len()],
     methods: [usize; 5],
     answers: [usize; 9],
-    kinds: Vec<usize>,
+    /// By kind, those that no method offered has to meet left out.
+    kinds: Vec<(usize, &'static str, usize)>,
+    explained: usize,
     claims: Claims,
 }
 
 pub fn run(count: usize, seed: u64) -> ExitCode {
     println!("plans: seed {seed}");
-    let mut tally = Tally { seed, kinds: vec![0; KINDS.len()], ..Tally::default() };
+    let kinds = kinds(OFFERED).map(|(kind, name)| (kind, name, 0)).collect();
+    let mut tally = Tally { seed, kinds, ..Tally::default() };
     (0..count).for_each(|number| tally.try_sheet(number));
     tally.print();
     let missing = count >= MANY && tally.missing();
@@ -53,21 +58,68 @@ pub fn run(count: usize, seed: u64) -> ExitCode {
 /// One sheet again, both answers shown.
 pub fn show(number: usize, seed: u64) -> ExitCode {
     let drawn = drawn(OFFERED, seed, number);
-    let (right, ..) = expected(&drawn);
+    let expected = expected(&drawn);
     let said = answer(&drawn);
     println!("{}", about(&drawn, seed, number));
-    println!("{}", decoded(&drawn, "Rust", &right));
+    println!("{}", decoded(&drawn, "Rust", &expected.right));
     println!("{}", decoded(&drawn, "planner", &said));
-    ExitCode::from(u8::from(said != right))
+    ExitCode::from(u8::from(expected.verdict(&said).is_err()))
 }
 
 /// The Rust's answer, what it has met, and what is wrong with that.
-pub fn expected(drawn: &Drawn) -> (Result<Vec<u8>, u32>, Seen, Option<&'static str>) {
+pub struct Expected {
+    pub right: Result<Vec<u8>, u32>,
+    /// A sweep's plan in the exact order of directions, where the Rust's is another.
+    pub exact: Option<Exact>,
+    pub seen: Seen,
+    pub lost: Option<&'static str>,
+}
+
+pub struct Exact {
+    pub plan: Vec<u8>,
+    /// Whether the Rust's rounded angles misorder two stops, by whole numbers.
+    pub misordered: bool,
+}
+
+pub fn expected(drawn: &Drawn) -> Expected {
     match accepted(OFFERED, &drawn.sheet, &[drawn.plan_len]) {
-        Err(number) => (Err(number), Seen::default(), None),
+        Err(number) => {
+            Expected { right: Err(number), exact: None, seen: Seen::default(), lost: None }
+        }
         Ok(sheet) => {
-            let (solution, seen, lost) = solved(&Problem::taken(&sheet));
-            (Ok(encode(sheet.rows.len(), &solution)), seen, lost)
+            let problem = Problem::taken(&sheet);
+            let (solution, seen, lost) = solved(&problem);
+            let right = encode(sheet.rows.len(), &solution);
+            let exact = exact(&problem).filter(|exact| exact.plan != right);
+            Expected { right: Ok(right), exact, seen, lost }
+        }
+    }
+}
+
+/// A sweep's plan in the exact order of directions, of a problem of that method.
+pub fn exact(problem: &Problem) -> Option<Exact> {
+    if problem.method != SWEEP {
+        return None;
+    }
+    let solution = problem.solution_by(swept);
+    let misordered = Cell::new(false);
+    problem.solution_by(|table| {
+        misordered.set(misordered.get() || misorders(table));
+        table.solution()
+    });
+    let plan = encode(problem.customers.len(), &solution);
+    Some(Exact { plan, misordered: misordered.get() })
+}
+
+impl Expected {
+    /// Whether an answer is the Rust's; true if it is not, and that is explained: two stops of a
+    /// sweep lie otherwise than the Rust's rounded angles say, and the answer is in their order.
+    pub fn verdict(&self, said: &Result<Vec<u8>, u32>) -> Result<bool, String> {
+        match (&self.exact, said) {
+            (None, _) => apart(said, &self.right).map_or(Ok(false), Err),
+            (Some(exact), _) if !exact.misordered => Err("another order of directions".into()),
+            (Some(exact), Ok(plan)) if *plan == exact.plan => Ok(true),
+            _ => Err("not in the exact order of directions".into()),
         }
     }
 }
@@ -87,22 +139,26 @@ fn answer(drawn: &Drawn) -> Result<Vec<u8>, u32> {
 impl Tally {
     fn try_sheet(&mut self, number: usize) {
         let drawn = drawn(OFFERED, self.seed, number);
-        let (right, seen, lost) = expected(&drawn);
+        let expected = expected(&drawn);
         let said = answer(&drawn);
+        let right = &expected.right;
         self.sheets[drawn.flavour] += 1;
         self.answers[right.as_ref().err().copied().unwrap_or(0) as usize] += 1;
         if right.is_ok() {
             self.methods[usize::from(drawn.sheet[4])] += 1;
         }
-        for (kind, count) in self.kinds.iter_mut().enumerate() {
-            *count += usize::from(seen.has(kind));
+        for (kind, _, count) in &mut self.kinds {
+            *count += usize::from(expected.seen.has(*kind));
         }
-        let broken = said.as_ref().ok().and_then(|plan| match &right {
+        let broken = said.as_ref().ok().and_then(|plan| match right {
             Ok(_) => judge(&drawn.sheet, plan, &mut self.claims).err(),
             Err(_) => None,
         });
-        if let Some(what) = apart(&said, &right).or(lost.map(String::from)).or(broken) {
-            self.differ(&drawn, number, &what, [&right, &said]);
+        let verdict = expected.verdict(&said);
+        self.explained += usize::from(verdict == Ok(true));
+        let lost = expected.lost.map(String::from);
+        if let Some(what) = verdict.err().or(lost).or(broken) {
+            self.differ(&drawn, number, &what, [right, &said]);
         }
     }
 
@@ -123,9 +179,11 @@ impl Tally {
 
     fn print(&self) {
         println!("  {:40} {:>9} {:>12}", "flavour", "sheets", "differences");
-        for ((name, sheets), differences) in FLAVOURS.iter().zip(self.sheets).zip(self.differences)
-        {
-            println!("  {name:40} {sheets:>9} {differences:>12}");
+        for (flavour, name) in FLAVOURS.iter().enumerate() {
+            if share(OFFERED, flavour) > 0 {
+                let (sheets, differences) = (self.sheets[flavour], self.differences[flavour]);
+                println!("  {name:40} {sheets:>9} {differences:>12}");
+            }
         }
         for (number, times) in self.answers.iter().enumerate() {
             println!("  {:40} {times:>9}", format!("answer {number}"));
@@ -134,8 +192,11 @@ impl Tally {
             let times = self.methods[usize::from(method)];
             println!("  {:40} {times:>9}", format!("plans of method {method}"));
         }
-        for (kind, times) in KINDS.iter().zip(&self.kinds) {
+        for (_, kind, times) in &self.kinds {
             println!("  {kind:40} {times:>9}");
+        }
+        if OFFERED.contains(&SWEEP) {
+            println!("  {:40} {:>9}", "differences that rounded angles explain", self.explained);
         }
         self.claims.print();
     }
@@ -143,8 +204,9 @@ impl Tally {
     fn missing(&self) -> bool {
         let answers = (0..9).any(|number| self.answers[number] == 0 && can_occur(number));
         let methods = |&method: &u8| self.methods[usize::from(method)] == 0;
-        self.sheets.contains(&0)
-            || self.kinds.contains(&0)
+        let flavour = |flavour| self.sheets[flavour] == 0 && share(OFFERED, flavour) > 0;
+        (0..FLAVOURS.len()).any(flavour)
+            || self.kinds.iter().any(|(.., times)| *times == 0)
             || answers
             || OFFERED.iter().any(methods)
             || self.claims.missing(OFFERED)

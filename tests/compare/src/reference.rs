@@ -75,18 +75,21 @@ impl Problem {
         Problem::of(sheet).expect("the Rust takes every accepted sheet")
     }
 
-    pub fn solution(&self) -> Solution {
-        self.solution_seen(|_, _| ())
+    /// The table of a problem of one depot.
+    pub fn table(&self) -> Table<'_> {
+        let &Problem { method, ref customers, ref distances, ref vehicles } = self;
+        Table { method, customers, distances, vehicles }
     }
 
-    /// The solution, each depot's shown on the way whenever it is planned.
-    pub fn solution_seen(&self, see: impl Fn(&Table, &Solution)) -> Solution {
+    pub fn solution(&self) -> Solution {
+        self.solution_by(|table| table.solution())
+    }
+
+    /// The solution where each depot's table is planned so, whenever it is.
+    pub fn solution_by(&self, plan: impl Fn(&Table) -> Solution) -> Solution {
         let &Problem { method, ref customers, ref distances, ref vehicles } = self;
         construct_by_depot(customers, distances, vehicles, |customers, distances, vehicles| {
-            let table = Table { method, customers, distances, vehicles };
-            let solution = table.solution();
-            see(&table, &solution);
-            solution
+            plan(&Table { method, customers, distances, vehicles })
         })
     }
 
@@ -127,14 +130,14 @@ impl Problem {
 }
 
 impl Table<'_> {
-    fn solution(&self) -> Solution {
+    pub fn solution(&self) -> Solution {
         let &Table { method, customers, distances, vehicles } = self;
         match method {
-            0 => clarke_wright_savings(customers, distances, &vehicles[0]),
-            1 => solomon_i1(customers, distances, &vehicles[0]),
-            2 => nearest_neighbor(customers, distances, vehicles),
-            3 => nearest_neighbor_tw(customers, distances, vehicles),
-            4 => sweep(customers, distances, &vehicles[0]),
+            sheet::SAVINGS => clarke_wright_savings(customers, distances, &vehicles[0]),
+            sheet::INSERTION => solomon_i1(customers, distances, &vehicles[0]),
+            sheet::NEAREST => nearest_neighbor(customers, distances, vehicles),
+            sheet::NN_TW => nearest_neighbor_tw(customers, distances, vehicles),
+            sheet::SWEEP => sweep(customers, distances, &vehicles[0]),
             _ => unreachable!("refused as 3"),
         }
     }

@@ -1,17 +1,17 @@
 //! What is turned back (document 01, "Turned back"): the first line of its table that holds.
 
 use crate::plan::{chains, plan_len, Chains};
-use crate::sheet::{Header, Row, Sheet, Vehicle};
+use crate::sheet::{Header, Row, Sheet, Vehicle, INSERTION, SAVINGS, SWEEP};
 use crate::sheet::{HEADER, MAX_DISTANCE, MAX_DURATION, PENALTY, REST, WINDOW};
 
 pub const MOST_ROWS: usize = 101;
 pub const MOST_VEHICLES: usize = 16;
 /// The methods of document 01, and those that the planner offers today: it refuses the others as 3.
 pub const METHODS: &[u8] = &[0, 1, 2, 3, 4];
-pub const OFFERED: &[u8] = &[2, 3];
+pub const OFFERED: &[u8] = &[0, 1, 2, 3, 4];
 const MOST_MARKS: u32 = 7;
-const MOST_COORDINATE: i32 = 1_000_000;
-const MOST_DEMAND: i32 = 1_000_000;
+pub const MOST_COORDINATE: i32 = 1_000_000;
+pub const MOST_DEMAND: i32 = 1_000_000;
 /// Distances, times, service, windows, rests and fixed cost.
 pub const MOST_FIGURE: f64 = 1e9;
 pub const MOST_PENALTY: f64 = 1e6;
@@ -63,7 +63,7 @@ pub fn accepted(methods: &[u8], bytes: &[u8], plan_lens: &[usize]) -> Result<She
 
 /// Whether a method asks for a vehicle: it makes all rounds with the depot's first.
 pub fn needs_vehicle(method: u8) -> bool {
-    matches!(method, 0 | 1 | 4)
+    matches!(method, SAVINGS | INSERTION | SWEEP)
 }
 
 /// Whether a call can be answered so: 8 is told of methods that ask for a vehicle alone.

@@ -3,18 +3,16 @@
 use std::fmt::Debug;
 use std::process::ExitCode;
 
+use crate::angles::{misordered, Direction};
+use crate::kinds::Seen;
+use crate::lawful::{judge, Claims};
 use crate::listing::listing;
-use crate::plan::{chains, plan_len, round_at, stop_at};
+use crate::plan::{chains, encode_chains, plan_len, round_at, stop_at, Chains};
+use crate::plans::{Exact, Expected};
 use crate::reference::{limit, plan};
 use crate::refusal::{accepted, limiter_accepted, refusal, METHODS, OFFERED};
 use crate::sheet::{field, Row, Sheet, Vehicle};
-use crate::sheet::{DEPOT, MAX_DISTANCE, REST, WINDOW};
-
-const SAVINGS: u8 = 0;
-const INSERTION: u8 = 1;
-const NEAREST: u8 = 2;
-const NEAREST_WINDOWS: u8 = 3;
-const SWEEP: u8 = 4;
+use crate::sheet::{DEPOT, INSERTION, MAX_DISTANCE, NEAREST, NN_TW, REST, SAVINGS, SWEEP, WINDOW};
 
 const LISTING: &str = "\
 rounds 1 aside 0
@@ -48,6 +46,9 @@ pub fn run() -> ExitCode {
     turned_back_by_limiter(&mut tally);
     limited(&mut tally);
     costs(&mut tally);
+    judged(&mut tally);
+    directions(&mut tally);
+    explained(&mut tally);
     println!("selftest: {} run, {} failed", tally.run, tally.failed);
     ExitCode::from(u8::from(tally.failed > 0))
 }
@@ -120,7 +121,7 @@ fn relatives(tally: &mut Tally) {
         ("1", sheet_a(SAVINGS), &[&[1, 2]], &[]),
         ("2", sheet_a(INSERTION), &[&[2, 1]], &[]),
         ("3", sheet_a(NEAREST), &[&[1, 2]], &[]),
-        ("4", sheet_a(NEAREST_WINDOWS), &[&[1, 2]], &[]),
+        ("4", sheet_a(NN_TW), &[&[1, 2]], &[]),
         ("5", sheet_a(SWEEP), &[&[2, 1]], &[]),
         ("6", with_max_distance(SAVINGS, 24.0), &[&[1, 2]], &[]),
         ("7", with_max_distance(SAVINGS, 23.0), &[&[1], &[2]], &[]),
@@ -264,4 +265,79 @@ fn costs(tally: &mut Tally) {
     tally.expect("a depot alone", cost(&unpriced), 0);
     let limited = limit(&alone.encode(), &unpriced, 0).expect("a lawful plan in");
     tally.expect("a depot alone, limited", cost(&limited), 1 << 63);
+}
+
+/// What demand 3 says of rounds of sheet A: capacity but for savings' lone ponds, and insertion's
+/// clauses where there is one depot.
+fn judged(tally: &mut Tally) {
+    let plan = |rounds: &[&[usize]], aside: &[usize]| {
+        let rounds = rounds.iter().map(|stops| (7, stops.to_vec())).collect();
+        encode_chains(3, &Chains { rounds, aside: aside.to_vec() })
+    };
+    let mut claims = Claims::default();
+    let mut keeps = |sheet: Sheet, plan: &[u8]| judge(&sheet.encode(), plan, &mut claims).is_ok();
+    let (whole, apart) = (plan(&[&[2, 1]], &[]), plan(&[&[1], &[2]], &[]));
+    let (aside, one_aside) = (plan(&[], &[1, 2]), plan(&[&[2]], &[1]));
+    tally.expect("savings, lone", keeps(with_capacity(SAVINGS, 0), &apart), true);
+    tally.expect("savings, joined", keeps(with_capacity(SAVINGS, 1), &whole), false);
+    tally.expect("sweep, lone", keeps(with_capacity(SWEEP, 0), &apart), false);
+    tally.expect("sweep, all aside", keeps(sheet_a(SWEEP), &aside), true);
+    tally.expect("insertion", keeps(sheet_a(INSERTION), &whole), true);
+    tally.expect("insertion, all aside", keeps(sheet_a(INSERTION), &aside), false);
+    tally.expect("insertion, each alone", keeps(sheet_a(INSERTION), &apart), false);
+    tally.expect("insertion, one aside", keeps(sheet_a(INSERTION), &one_aside), false);
+    tally.expect("insertion, due 9", keeps(with_due(9.0), &one_aside), true);
+    tally.expect("insertion, capacity 0", keeps(with_capacity(INSERTION, 0), &aside), true);
+    let (lone, depots) = (plan(&[&[2]], &[]), Sheet { method: INSERTION, ..with_depots() });
+    tally.expect("insertion, 2 depots", keeps(depots.clone(), &lone), true);
+    tally.expect("insertion, 2 depots, aside", keeps(depots, &plan(&[], &[2])), true);
+}
+
+/// The order of directions, and how rounded angles can break it.
+fn directions(tally: &mut Tally) {
+    let at = |x, y| Direction { x, y };
+    let far = 2_000_000;
+    let ascending = [
+        at(-far, -1),
+        at(-1, -1),
+        at(0, -far),
+        at(far, -1),
+        at(0, 0),
+        at(far, 1),
+        at(far - 1, far - 2),
+        at(far, far - 1),
+        at(0, 1),
+        at(-far, 1),
+        at(-1, 0),
+    ];
+    let ordered = ascending.windows(2).all(|two| two[0].order(two[1]).is_lt());
+    tally.expect("directions ascend", ordered, true);
+    tally.expect("as angles do", misordered(&ascending, Direction::angle), None);
+    let equal = [at(0, 0), at(3, 0), at(far, 0)];
+    tally.expect("equal ones", misordered(&equal, Direction::angle), None);
+    let apart = |at: Direction| at.angle() + at.x as f64;
+    tally.expect("told apart", misordered(&equal[1..], apart), Some((0, 1)));
+    let coarse = |at: Direction| f64::from(at.angle() as f32);
+    tally.expect("taken as equal", misordered(&ascending[6..8], coarse), Some((0, 1)));
+    let falling = |at: Direction| -at.angle();
+    tally.expect("reversed", misordered(&ascending[..2], falling), Some((0, 1)));
+}
+
+/// A plan that is not the Rust's is explained only by two stops that it misorders, and only if it
+/// is in their order.
+fn explained(tally: &mut Tally) {
+    let expected = |exact: Option<Exact>| Expected {
+        right: Ok(vec![1]),
+        exact,
+        seen: Seen::default(),
+        lost: None,
+    };
+    let exact = |misordered| expected(Some(Exact { plan: vec![2], misordered }));
+    let verdict = |expected: &Expected, plan: u8| expected.verdict(&Ok(vec![plan])).ok();
+    let got = [1, 2, 3].map(|plan| verdict(&expected(None), plan));
+    tally.expect("the Rust's plan", got, [Some(false), None, None]);
+    let got = [1, 2, 3].map(|plan| verdict(&exact(true), plan));
+    tally.expect("the exact plan", got, [None, Some(true), None]);
+    let got = [1, 2, 3].map(|plan| verdict(&exact(false), plan));
+    tally.expect("no reason for another", got, [None, None, None]);
 }

@@ -6,6 +6,13 @@ pub const ROW: usize = 48;
 pub const VEHICLE: usize = 72;
 pub const ENTRY: usize = 8;
 
+/// Methods.
+pub const SAVINGS: u8 = 0;
+pub const INSERTION: u8 = 1;
+pub const NEAREST: u8 = 2;
+pub const NN_TW: u8 = 3;
+pub const SWEEP: u8 = 4;
+
 /// Row marks.
 pub const DEPOT: u32 = 1;
 pub const WINDOW: u32 = 2;

@@ -5,7 +5,7 @@ use native.Mathlib.Omega.{arith}
 use lib.ListN.{take}
 use borrow.Author.Needs.{needs}
 use Rattle.multi_depot.specs.ByDepot.{fleetOf}
-use Rattle.multi_depot.proofs.Sharing.{fleet-few, fleet-there, none-shared, members-there, room-there, fleet-known, shares}
+use Rattle.multi_depot.proofs.Sharing.{fleet-few, fleet-there, none-shared, members-there, once-there, room-there, fleet-known, shares}
 use Rattle.multi_depot.proofs.lay_depot.Statement.{statement}
 use Rattle.multi_depot.proofs.lay_depot.Tie as tie
 
@@ -40,7 +40,7 @@ hers c =
 construct-requires : tie.Need-construct-requires
 construct-requires c κs = let p = c .before .before .before .before .before .before .before .before .before .before .before .before .before .before .before .before .before .before .before .before .pre in
     let m = c .before .before .before .before .before .before .before .before .before .before .before .before .members-of in
-    (members-there (p .0) (p .1) (m .ensures .0) (m .ensures .1) (c .before .before .before .before .before .before .before .before .before .if1 .left), (room-there (p .0) (p .1) (m .ensures .0) (m .ensures .1) (c .before .before .before .before .before .before .before .before .before .if1 .left), fleet-known (p .0) (p .1) (m .ensures .0) (m .ensures .1) (c .before .before .before .before .before .before .before .before .before .if1 .left) (hers (c .before .before .before .before .before .before .before))))
+    (members-there (p .0) (p .1) (m .ensures .0) (m .ensures .1) (c .before .before .before .before .before .before .before .before .before .if1 .left), (room-there (p .0) (p .1) (m .ensures .0) (m .ensures .1) (c .before .before .before .before .before .before .before .before .before .if1 .left), (fleet-known (p .0) (p .1) (m .ensures .0) (m .ensures .1) (c .before .before .before .before .before .before .before .before .before .if1 .left) (hers (c .before .before .before .before .before .before .before)), once-there (p .0) (p .1) (m .ensures .0) (m .ensures .1) (c .before .before .before .before .before .before .before .before .before .if1 .left))))
 
 same-length-2 : tie.Need-same-length-2
 same-length-2 c = search needs

@@ -1,7 +1,6 @@
 -- `nearest_neighbor::ride::pushed_by` meets its contract. Assumes nothing.
 use borrow.Author.Needs.{needs}
 use mathlib.Core.Path.{subst}
-use Rattle.evaluation.specs.Clock.{pushedOf}
 use Rattle.nearest_neighbor.specs.declared.ride.RideClock.{RideClock}
 use Rattle.nearest_neighbor.specs.Ride.{pushedBy, Ticking}
 use Rattle.nearest_neighbor.proofs.ride.pushed_by.Statement.{statement}
@@ -13,16 +12,16 @@ enum-told c = search needs
 enum-known-kept : tie.Need-enum-known-kept
 enum-known-kept c = search needs
 
-pushed-requires : tie.Need-pushed-requires
-pushed-requires c κs = (subst (λ (k : RideClock). Ticking (c .before .before .before .before .args .sheet .now) k) (c .before .kept .given .1) (c .before .before .before .before .pre .0) .0, c .before .before .before .before .pre .1)
+next-requires : tie.Need-next-requires
+next-requires c κs = (subst (λ (k : RideClock). Ticking (c .before .before .before .before .args .sheet .now) k) (c .before .kept .given .1) (c .before .before .before .before .pre .0), c .before .before .before .before .pre .1)
 
 returns : tie.Need-returns
 unfolding pushedBy
 returns c = rw (c .enum-told .given .1)
 
 returns-2 : tie.Need-returns-2
-unfolding pushedBy pushedOf
-returns-2 c = rw (c .before .before .before .kept .given .1, c .before .pushed .ensures)
+unfolding pushedBy
+returns-2 c = rw (c .before .before .kept .given .1, c .next .ensures)
 
 pub pushed-by-spec : {M : Type 1} → statement M
-pushed-by-spec = tie.close (tie.spec enum-told enum-known-kept pushed-requires returns returns-2)
+pushed-by-spec = tie.close (tie.spec enum-told enum-known-kept next-requires returns returns-2)

@@ -17,14 +17,11 @@ add-at c = search needs
 gate-at-requires : tie.Need-gate-at-requires
 gate-at-requires c κs = (omega arith, row-numbers _ (c .before .pre .0) (c .before .args .row) (c .before .pre .1))
 
-i32-at-requires : tie.Need-i32-at-requires
-i32-at-requires c κs = search needs
+x-requires : tie.Need-x-requires
+x-requires c κs = search needs
 
-add-i32-at : tie.Need-add-i32-at
-add-i32-at c = search needs
-
-i32-at-requires-2 : tie.Need-i32-at-requires-2
-i32-at-requires-2 c κs = search needs
+y-requires : tie.Need-y-requires
+y-requires c κs = search needs
 
 demand-requires : tie.Need-demand-requires
 demand-requires c κs = search needs
@@ -37,7 +34,7 @@ f64-at-requires c κs = (omega arith, row-numbers _ (c .before .before .before .
 
 returns : tie.Need-returns
 unfolding stopOf
-returns c = rw (toZ-ofZ w32 (c .before .before .before .i32-at .result) (record { sfits = c .before .before .before .i32-at .ok }), toZ-ofZ w32 (c .before .before .i32-at2 .result) (record { sfits = c .before .before .i32-at2 .ok }), c .f64-at .ensures, c .before .demand .ensures, c .before .before .i32-at2 .ensures, c .before .before .before .i32-at .ensures, c .before .before .before .before .gate-at .ensures)
+returns c = rw (toZ-ofZ w32 (c .before .before .before .x .result) (record { sfits = c .before .before .before .x .ok }), toZ-ofZ w32 (c .before .before .y .result) (record { sfits = c .before .before .y .ok }), c .f64-at .ensures, c .before .demand .ensures, c .before .before .y .ensures, c .before .before .before .x .ensures, c .before .before .before .before .gate-at .ensures)
 
 pub stop-at-spec : {M : Type 1} → statement M
 stop-at-spec =
@@ -46,9 +43,8 @@ stop-at-spec =
     mul-at
     add-at
     gate-at-requires
-    i32-at-requires
-    add-i32-at
-    i32-at-requires-2
+    x-requires
+    y-requires
     demand-requires
     add-f64-at
     f64-at-requires

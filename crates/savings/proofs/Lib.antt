@@ -1,0 +1,4 @@
+pub mod Symmetry
+pub mod Pushing
+pub mod Gathering
+pub mod Ranking

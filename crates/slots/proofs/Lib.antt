@@ -1,0 +1,6 @@
+pub mod Copying
+pub mod Relabelling
+pub mod Taking
+pub mod Slotting
+pub mod Seating
+pub mod Rounds

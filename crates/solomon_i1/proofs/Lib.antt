@@ -1,0 +1,8 @@
+pub mod Sliding
+pub mod Trying
+pub mod Judged
+pub mod Choosing
+pub mod Seeking
+pub mod Grows
+pub mod Laying
+pub mod Starting

@@ -1,0 +1,43 @@
+-- No stop that is set aside makes a round alone. Assumes nothing.
+use mathlib.Core.Path.{_≡_}
+use Prim.Native.Nat.{ℕ, _≤_}
+use native.Mathlib.Omega.{arith}
+use mathlib.Core.Bool.{Bool, true, false, _&&_, true≢false}
+use mathlib.Core.List.{List, [], _∷_}
+use lib.Dec.{T, leb}
+use lib.ListN.{length}
+use borrow.Author.Tests.{le-leb}
+use Rattle.sheet.specs.Values.{demandOf, vehicleOf}
+use Rattle.evaluation.specs.Limits.{limitsOf}
+use Rattle.evaluation.specs.Feasible.{routeFeasible}
+use Rattle.plan.specs.Outcome.{Outcome}
+use Rattle.plan.specs.Every.{Every}
+use Rattle.plan.specs.declared.terms.Terms.{Terms}
+use Rattle.plan.specs.Terms.{termsOf, Meant, terms-meant}
+use Rattle.solomon_i1.specs.Insertion.{feasibleIn, goesAlone, solomonI1}
+use Rattle.solomon_i1.specs.Planned.{seedIn, Seeds, planned}
+
+-- over capacity alone, or not feasible
+abbrev pub NotAlone : List ℕ → ℕ → ℕ → ℕ → Type 0
+NotAlone s depot v row = demandOf s row ≤ vehicleOf s v .capacity → T (routeFeasible s depot (limitsOf (vehicleOf s v)) (row ∷ [])) → ⊥
+
+not-both : (a b : Bool) → (a && b) ≡ false → T a → T b → ⊥
+not-both true true e f g = true≢false e
+not-both true false e f g = g
+not-both false b e f g = f
+
+module _ (s : List ℕ) (t : Terms) (m : Meant s t) where
+  not-alone : (row : ℕ) → goesAlone s t row ≡ false → NotAlone s (t .depot) (t .vehicle) row
+  not-alone row e l f =
+      not-both (leb (demandOf s row) (t .capacity)) (feasibleIn s t (row ∷ [])) e
+      (rw (le-leb (demandOf s row) (t .capacity) (rw (m .capacity) l)) tt) (rw (m .limits) f)
+
+  abbrev Refused : List ℕ → Outcome → Type 0
+  Refused left o = Every (NotAlone s (t .depot) (t .vehicle)) (o .aside)
+
+  seeds-refused : Seeds s t Refused
+  seeds-refused = record { none = tt; aside = λ left h e o k. (not-alone (seedIn s t left) e, k); round = λ left h e o k. k }
+
+pub insertion-alone : (s : List ℕ) (depot v : ℕ) (members : List ℕ) → Every (NotAlone s depot v) (solomonI1 s depot v members .aside)
+unfolding solomonI1 termsOf
+insertion-alone s depot v members = let t = termsOf s depot v members in let m = terms-meant s depot v members in planned s t (Refused s t m) (seeds-refused s t m) (length members) members (omega arith)

@@ -1,0 +1,48 @@
+-- Where no round needs a check, no window is soft, and a walk would pass every round of the members. Assumes nothing.
+use mathlib.Core.Path.{_≡_, refl}
+use Prim.Native.Nat.{ℕ}
+use mathlib.Core.Bool.{Bool, true, false, not, _||_, true≢false}
+use mathlib.Core.List.{List, [], _∷_}
+use Rattle.sheet.specs.Values.{vehicleOf}
+use Rattle.sheet.specs.declared.customer.Gate.{Gate}
+use Rattle.sheet.specs.declared.customer.Gate.the-variants.{Open, Hard, Soft}
+use Rattle.evaluation.specs.Limits.{limitsOf, isUnlimited}
+use Rattle.evaluation.specs.Checks.{windowed, rowWindowed, someWindowed, hasTimeWindows, hasSoftWindows, routeChecksNeeded}
+use Rattle.plan.specs.Unchecked.{unchecked-free, unchecked-windowless}
+use Rattle.plan.specs.Terms.{termsOf}
+use Rattle.solomon_i1.specs.Trial.{Unwalked}
+
+-- ---- without a window there is no soft one
+neither : (a b : Bool) → (a || b) ≡ false → (a ≡ false) × (b ≡ false)
+neither true b e = absurd (true≢false e)
+neither false b e = (refl, e)
+
+not-soft : (g : Gate) → windowed false g ≡ false → windowed true g ≡ false
+not-soft Open e = refl
+not-soft (Hard w) e = refl
+not-soft (Soft w penalty) e = e
+
+none-soft : (s rows : List ℕ) → someWindowed false s rows ≡ false → someWindowed true s rows ≡ false
+unfolding someWindowed
+none-soft s [] e = refl
+none-soft s (row ∷ rows) e =
+    let n = neither (rowWindowed false s row) (someWindowed false s rows) e in
+    rw (not-soft _ (n .0), none-soft s rows (n .1))
+
+module _ (s : List ℕ) (depot v : ℕ) (members : List ℕ) (e : routeChecksNeeded s depot members (limitsOf (vehicleOf s v)) ≡ false) where
+  pub unchecked-hard : hasSoftWindows s depot members ≡ false
+  unfolding routeChecksNeeded hasTimeWindows hasSoftWindows
+  unchecked-hard =
+      let n = neither (hasTimeWindows s depot members) (not (isUnlimited (limitsOf (vehicleOf s v)))) e .0 in
+      let m = neither (rowWindowed false s depot) (someWindowed false s members) n in
+      rw (not-soft _ (m .0), none-soft s members (m .1))
+
+-- so the members of a depot may join its rounds unwalked
+pub terms-unwalked : (s : List ℕ) (depot v : ℕ) (members : List ℕ) → Unwalked s (termsOf s depot v members) [] members
+unfolding termsOf
+terms-unwalked s depot v members = record {
+  hard = unchecked-hard s depot v members;
+  free = unchecked-free s depot members (limitsOf (vehicleOf s v));
+  round = λ e. tt;
+  unrouted = unchecked-windowless s depot members (limitsOf (vehicleOf s v));
+}

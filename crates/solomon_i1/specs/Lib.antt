@@ -1,0 +1,15 @@
+pub mod Insertion
+pub mod Cases
+pub mod Judging
+pub mod Trial
+pub mod Free
+pub mod Chosen
+pub mod Grown
+pub mod Planned
+pub mod Permutation
+pub mod Feasible
+pub mod Alone
+pub mod Later
+pub mod First
+pub mod Closed
+pub mod Tabled

@@ -1,0 +1,47 @@
+// Insertion: the farthest stop opens a round, and the cheapest insertion joins it until none is left.
+pub mod choice;
+mod growing;
+mod judging;
+mod seed;
+mod trial;
+
+use plan::tables::Filled;
+use plan::terms;
+ghost use mathlib.Core.Path.{_≡_};
+ghost use Prim.Native.Nat.{_<_};
+ghost use Rattle.sheet.specs.Fields.{vehiclesOf};
+ghost use Rattle.plan.specs.Laid.{Laid, Room, filledBy};
+ghost use Rattle.plan.specs.Members.{part, Members};
+ghost use Rattle.solomon_i1.specs.Insertion.{solomonI1};
+
+// The members stand in `stops` from where the tables are filled up to `total`, ascending; the vehicle, by its index, makes
+// all rounds. Answers how far the tables are filled with the rounds; the stops set aside stand after them, up to `total`.
+pub fn solomon_i1(
+    sheet: &[u8],
+    depot: usize,
+    vehicle: u16,
+    stops: &mut [u16],
+    ends: &mut [u16],
+    vehicles: &mut [u16],
+    filled: Filled,
+    total: usize,
+) -> Filled
+    requires { ⌜ Members (now sheet) depot (now stops) (filled .routed) total ⌝ }
+    requires { ⌜ Room (now ends) (now vehicles) filled total ⌝ }
+    requires { ⌜ vehicle < vehiclesOf (now sheet) ⌝ }
+    ensures { λ r. ⌜ r ≡ filledBy filled (solomonI1 (now (sheet .entry)) depot vehicle (part (now (stops .entry)) (filled .routed) total) .rounds) ⌝ }
+    ensures { λ _. ⌜ Laid (now (stops .entry)) (now (ends .entry)) (now (vehicles .entry)) filled (solomonI1 (now (sheet .entry)) depot vehicle (part (now (stops .entry)) (filled .routed) total)) (now (stops .exit)) (now (ends .exit)) (now (vehicles .exit)) ⌝ }
+{
+    let start = filled.routed;
+    let terms = terms::terms_of(sheet, depot, vehicle, &stops[start..total]);
+    let mut trial = [0u16; 101];
+    growing::lay_rounds(
+        sheet,
+        terms,
+        &mut stops[start..total],
+        ends,
+        vehicles,
+        &mut trial,
+        filled,
+    )
+}
