@@ -11,6 +11,7 @@
 //!     compare bench instructions     the same, counted by valgrind
 //!     compare bench SIDE CASE RUNS   one side of one case alone, for a profiler
 //!     compare bench plans ..         the planner against the Rust, in the same three ways
+//!     compare slowest METHOD SECONDS SEED FILE   a sheet that takes the planner long
 //!     compare freeze COUNT SEED DIR  writes DIR/stdin and DIR/stdout, a sample to keep
 //!     compare freeze plans COUNT SEED DIR   the same, of plans
 //!     compare example DIR            writes DIR/sheet and DIR/plan, to be drawn
@@ -48,9 +49,12 @@ mod refusals;
 mod rounds;
 mod selftest;
 mod sheet;
+mod slow_starts;
+mod slowest;
 mod stream;
 mod trial;
 mod tried;
+mod vary;
 
 use std::io;
 use std::path::Path;
@@ -58,7 +62,8 @@ use std::process::ExitCode;
 
 const USAGE: &str = "usage: compare selftest | refusals COUNT SEED | rounds COUNT SEED | \
                      plans COUNT SEED | plan NUMBER SEED | checked COUNT SEED | \
-                     bench [plans] [instructions | SIDE CASE RUNS] | freeze [plans] COUNT SEED DIR | example DIR";
+                     bench [plans] [instructions | SIDE CASE RUNS] | freeze [plans] COUNT SEED DIR | example DIR | \
+                     slowest METHOD SECONDS SEED FILE";
 
 fn main() -> ExitCode {
     let words: Vec<String> = std::env::args().skip(1).collect();
@@ -67,6 +72,7 @@ fn main() -> ExitCode {
         ["selftest"] => Some(selftest::run()),
         ["bench", "plans", ref words @ ..] => bench_plans::run(words),
         ["bench", ref words @ ..] => bench::run(words),
+        ["slowest", method, seconds, seed, file] => slowest::run(method, seconds, seed, file),
         ["refusals", count, seed] => numbers(count, seed).map(|(c, s)| refusals::run(c, s)),
         ["rounds", count, seed] => numbers(count, seed).map(|(c, s)| rounds::run(c, s)),
         ["plans", count, seed] => numbers(count, seed).map(|(c, s)| plans::run(c, s)),

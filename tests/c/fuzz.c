@@ -1,0 +1,308 @@
+/*
+ * Fuzzes the planner by mutations that know the sheet's form.
+ *
+ *   fuzz SECONDS [SEED]              mutates for so long
+ *   fuzz replay FILE [PLAN_BYTES]    asks a kept sheet again
+ *
+ * Sheets are drawn, mutated field by field according to what a field is, cut, spliced
+ * and fitted to their own plans. A sheet that shows something new joins the corpus from
+ * which the next ones are taken. Every sheet is lent as lend.h says; a plan is held to
+ * plan_check.h. A fault's sheet is kept in the file fuzz-fault.sheet, and the exit
+ * status is 1.
+ */
+#define _GNU_SOURCE
+#include <stdint.h>
+#include <stdio.h>
+#include <stdlib.h>
+#include <sys/time.h>
+#include <time.h>
+
+#include "mutate.h"
+
+enum { MOST_KEPT = 4096, MOST_KEPT_BYTES = 1 << 26, SIGNALS = 1 << 16 };
+/* No call takes so long, by the processor's time. */
+enum { PATIENCE_SECONDS = 20 };
+static const char FAULT_FILE[] = "fuzz-fault.sheet";
+
+struct kept {
+    uint8_t *bytes;
+    size_t len;
+};
+
+struct corpus {
+    struct kept sheets[MOST_KEPT];
+    unsigned count;
+    size_t bytes;
+};
+
+/* The sheet that is asked, and another one. */
+static struct sheet asked, spare;
+static uint8_t plan[MOST_PLAN];
+static struct corpus accepted, refused;
+static uint8_t signals[SIGNALS];
+static unsigned signal_count;
+static unsigned long sheets, answers[PLANNER_NO_VEHICLE + 1], planned[PLANNER_SWEEP + 1];
+
+static void end(const char *what)
+{
+    FILE *file = fopen(FAULT_FILE, "wb");
+    fprintf(stderr, "fuzz: %s: a sheet of %zu bytes, a plan of %zu\n", what, asked.len, asked.plan_len);
+    if (file == NULL || fwrite(asked.bytes, 1, asked.len, file) != asked.len || fclose(file) != 0)
+        fprintf(stderr, "fuzz: the sheet was not written to %s\n", FAULT_FILE);
+    else
+        fprintf(stderr, "fuzz: again with: fuzz replay %s %zu\n", FAULT_FILE, asked.plan_len);
+    exit(1);
+}
+
+/* A call that is the same at two alarms has not returned in between. */
+static void alarmed(int signal_number)
+{
+    static unsigned long seen;
+    if (signal_number == SIGVTALRM && calls == seen)
+        end("a call that does not return");
+    seen = calls;
+}
+
+static void watch_calls(void)
+{
+    struct sigaction act;
+    struct itimerval every = {{PATIENCE_SECONDS, 0}, {PATIENCE_SECONDS, 0}};
+    memset(&act, 0, sizeof act);
+    act.sa_handler = alarmed;
+    act.sa_flags = SA_ONSTACK;
+    if (sigaction(SIGVTALRM, &act, NULL) != 0 || setitimer(ITIMER_VIRTUAL, &every, NULL) != 0)
+        end("no alarm");
+}
+
+static void keep(struct corpus *in, const struct sheet *s)
+{
+    struct kept *to = &in->sheets[in->count < MOST_KEPT ? in->count : draw(MOST_KEPT)];
+    uint8_t *bytes = malloc(s->len + 1);
+    if (bytes == NULL || in->bytes + s->len > MOST_KEPT_BYTES) {
+        free(bytes);
+        return;
+    }
+    in->count += in->count < MOST_KEPT;
+    in->bytes += s->len - to->len;
+    free(to->bytes);
+    to->bytes = memcpy(bytes, s->bytes, s->len);
+    to->len = s->len;
+}
+
+/* The shorter of two for the most part: it is asked sooner. */
+static void take(struct sheet *s)
+{
+    const struct corpus *in = refused.count > 0 && (accepted.count == 0 || one_in(12)) ? &refused : &accepted;
+    const struct kept *from = &in->sheets[draw(in->count)], *other = &in->sheets[draw(in->count)];
+    if (other->len < from->len && !one_in(8))
+        from = other;
+    memcpy(s->bytes, from->bytes, from->len);
+    s->len = from->len;
+}
+
+/* Whether this value of this kind is seen for the first time. */
+static int is_new(unsigned kind, unsigned value)
+{
+    uint64_t mixed = (kind + UINT64_C(0x9e3779b97f4a7c15) * (value + UINT64_C(1))) * UINT64_C(0xbf58476d1ce4e5b9);
+    uint8_t *seen = &signals[(mixed ^ mixed >> 31) % SIGNALS];
+    if (*seen)
+        return 0;
+    *seen = 1;
+    signal_count++;
+    return 1;
+}
+
+/* A number's rough size. */
+static unsigned size_class(unsigned n)
+{
+    unsigned class = 0;
+    for (; n > 2; n = n * 2 / 3)
+        class++;
+    return 3 * class + n;
+}
+
+/* Which sets of marks a sheet's records have, one bit for each. */
+static unsigned marks_met(const uint8_t *records, unsigned n, unsigned width)
+{
+    unsigned met = 0;
+    for (unsigned i = 0; i < n; i++)
+        met |= 1u << (get(records + width * i + AT_MARKS, 4) & 7);
+    return met;
+}
+
+/* The chains' links, mixed. */
+static unsigned links_class(const struct reading *r)
+{
+    uint64_t mixed = get(r->plan, 4);
+    for (unsigned stop = r->depots; stop < r->rows; stop++)
+        mixed = (mixed ^ get(stop_record(r, stop) + AT_NEXT, 2)) * UINT64_C(0x9e3779b97f4a7c15);
+    return (unsigned)(mixed >> 52);
+}
+
+/* How many rounds rest, and how many are late. */
+static unsigned incidents(const struct reading *r, unsigned rounds)
+{
+    unsigned rests = 0, late = 0;
+    for (unsigned k = 0; k < rounds; k++) {
+        rests += get(round_record(r->plan, k) + AT_REST_PLACE, 2) != 0;
+        late += get(round_record(r->plan, k) + AT_LATENESS, 8) != 0;
+    }
+    return size_class(rests) << 8 | size_class(late);
+}
+
+/* Whether a planned sheet shows something new. */
+static int planned_is_new(const struct reading *r)
+{
+    unsigned rounds = (unsigned)get(r->plan + AT_ROUNDS, 2);
+    unsigned by = r->method << 4 | (r->depots > 3 ? 3 : r->depots) << 2 | r->sheet[AT_TIME_TABLE];
+    unsigned fleet = marks_met(vehicle_of(r->sheet, 0), r->vehicles, PLANNER_VEHICLE_BYTES);
+    int found = is_new(1, by << 16 | size_class(rounds) << 8 | size_class(r->aside));
+    found |= is_new(2, by << 16 | size_class(r->rows) << 8 | r->vehicles);
+    found |= is_new(3, by << 16 | incidents(r, rounds));
+    found |= is_new(4, r->method << 16 | marks_met(row_of(r->sheet, 0), r->rows, PLANNER_ROW_BYTES));
+    found |= is_new(5, r->method << 16 | fleet);
+    found |= is_new(6, r->method << 16 | (unsigned)(get(r->plan + AT_COST, 8) >> 52));
+    if (r->rows < 12)
+        found |= is_new(7, r->method << 16 | links_class(r));
+    return found;
+}
+
+/* Whether a refused sheet does. */
+static int refused_is_new(const struct sheet *s, uint32_t answer)
+{
+    if (s->len < PLANNER_HEADER_BYTES)
+        return is_new(8, (unsigned)s->len);
+    return is_new(9, answer << 16 | size_class(rows_in(s)) << 8 | size_class(vehicles_in(s)))
+           | is_new(10, answer << 16 | (s->bytes[AT_METHOD] <= PLANNER_SWEEP ? s->bytes[AT_METHOD] : PLANNER_SWEEP + 1u));
+}
+
+/* Asks the sheet; whether it was planned, and `r` tells of the plan then. */
+static int ask(struct sheet *s, struct reading *r)
+{
+    sheets++;
+    uint32_t answer = ask_with_plan(s->bytes, s->len, plan, s->plan_len);
+    answers[answer]++;
+    if (answer != PLANNER_ACCEPTED) {
+        if (refused_is_new(s, answer))
+            keep(&refused, s);
+        return 0;
+    }
+    const char *fault = plan_fault(r, s->bytes, plan);
+    if (fault != NULL) {
+        fprintf(stderr, "fuzz: %s\n", fault);
+        end("the plan is wrong");
+    }
+    planned[r->method]++;
+    if (planned_is_new(r))
+        keep(&accepted, s);
+    return 1;
+}
+
+static void splice(struct sheet *s)
+{
+    take(&spare);
+    if (laid_out(s) && laid_out(&spare) && !(bold && one_in(2)))
+        join_parts(s, &spare);
+    else
+        join_bytes(s, &spare);
+}
+
+/* A plan of the exact length for the most part. */
+static size_t draw_plan_len(const struct sheet *s)
+{
+    size_t exact = plan_len_of(s->bytes, s->len);
+    const uint64_t wrong[] = {0, 1, PLANNER_PLAN_HEADER_BYTES, exact - 1, exact + 1, draw(MOST_PLAN + 1)};
+    return bold && one_in(12) ? (size_t)PICK(wrong) : exact;
+}
+
+/* The next sheet; `fitted` says that the last one was planned, and `r` of its plan. */
+static void make_next(struct sheet *s, int fitted, const struct reading *r)
+{
+    bold = !fitted && one_in(3);
+    if (fitted) {
+        fit(s, r);
+    } else if (one_in(50)) {
+        draw_fresh(s);
+    } else {
+        take(s);
+        if (one_in(8))
+            splice(s);
+        do
+            mutate(s);
+        while (!one_in(3));
+    }
+    if (!bold && laid_out(s))
+        mend(s);
+    s->plan_len = draw_plan_len(s);
+}
+
+static void run(double seconds, unsigned long seed)
+{
+    static struct reading r;
+    struct timespec began, now;
+    int was_planned = 0;
+    state = (2 * seed + 1) * UINT64_C(0x9e3779b97f4a7c15);
+    clock_gettime(CLOCK_MONOTONIC, &began);
+    for (int i = 0; i < 500; i++) {
+        draw_fresh(&asked);
+        asked.plan_len = plan_len_of(asked.bytes, asked.len);
+        was_planned = ask(&asked, &r);
+    }
+    do {
+        make_next(&asked, was_planned && one_in(3), &r);
+        was_planned = ask(&asked, &r);
+        clock_gettime(CLOCK_MONOTONIC, &now);
+    } while ((double)(now.tv_sec - began.tv_sec) + 1e-9 * (double)(now.tv_nsec - began.tv_nsec) < seconds);
+}
+
+static int replay(const char *name, const char *plan_len)
+{
+    static struct reading r;
+    FILE *file = fopen(name, "rb");
+    if (file == NULL) {
+        perror(name);
+        return 2;
+    }
+    asked.len = fread(asked.bytes, 1, MOST_SHEET, file);
+    fclose(file);
+    asked.plan_len = plan_len != NULL ? strtoul(plan_len, NULL, 10) : plan_len_of(asked.bytes, asked.len);
+    if (asked.plan_len > MOST_PLAN)
+        asked.plan_len = MOST_PLAN;
+    ask(&asked, &r);
+    for (uint32_t answer = 0; answer <= PLANNER_NO_VEHICLE; answer++)
+        if (answers[answer] > 0)
+            printf("fuzz: answer %u\n", (unsigned)answer);
+    return 0;
+}
+
+static int report(void)
+{
+    printf("fuzz: %lu sheets, %lu calls\nfuzz: answers", sheets, calls);
+    for (unsigned i = 0; i <= PLANNER_NO_VEHICLE; i++)
+        printf(" %u: %lu%s", i, answers[i], i < PLANNER_NO_VEHICLE ? "," : "\n");
+    printf("fuzz: planned by method");
+    for (unsigned i = 0; i <= PLANNER_SWEEP; i++)
+        printf(" %u: %lu%s", i, planned[i], i < PLANNER_SWEEP ? "," : "\n");
+    printf("fuzz: corpus of %u sheets planned and %u refused, %u signals\n", accepted.count, refused.count, signal_count);
+    if (answers[PLANNER_ACCEPTED] == 0)
+        fprintf(stderr, "fuzz: nothing was planned\n");
+    return answers[PLANNER_ACCEPTED] == 0;
+}
+
+int main(int argc, char **argv)
+{
+    open_places();
+    if (argc > 2 && strcmp(argv[1], "replay") == 0)
+        return replay(argv[2], argc > 3 ? argv[3] : NULL);
+    double seconds = argc > 1 ? strtod(argv[1], NULL) : 0.0;
+    unsigned long seed = argc > 2 ? strtoul(argv[2], NULL, 10) : (unsigned long)time(NULL);
+    if (argc > 3 || seconds <= 0.0) {
+        fprintf(stderr, "usage: fuzz SECONDS [SEED] | fuzz replay FILE [PLAN_BYTES]\n");
+        return 2;
+    }
+    printf("fuzz: %g s, seed %lu\n", seconds, seed);
+    fflush(stdout);
+    watch_calls();
+    run(seconds, seed);
+    return report();
+}

@@ -1,0 +1,125 @@
+/*
+ * How much stack a call takes: each is made on a stack that was filled with a pattern,
+ * and the lowest word that is another afterwards tells. In bytes, the caller's own
+ * frame included; over several sheets of the most rows for each method, or for the
+ * sheets in files.
+ *
+ *   stack MOST [FILE..]    the exit status is 1 where a call takes more than MOST
+ */
+#define _GNU_SOURCE
+#include <stdint.h>
+#include <stdio.h>
+#include <stdlib.h>
+#include <ucontext.h>
+
+#include "sheets.h"
+
+enum { STACK_WORDS = 1 << 17, KINDS = 16, METHODS = PLANNER_SWEEP + 1 };
+static const uint64_t patterns[] = {UINT64_C(0xa5c396e17b2d4f08), UINT64_C(0x5a3c691e84d2b0f7)};
+
+static uint8_t sheet[PLANNER_SHEET_BYTES(PLANNER_MOST_ROWS, PLANNER_MOST_VEHICLES, 1)];
+static uint8_t plan[PLANNER_PLAN_BYTES(PLANNER_MOST_ROWS)];
+static size_t len;
+static uint32_t answer;
+static uint64_t stack[STACK_WORDS];
+static const uint8_t *top;
+static ucontext_t caller, callee;
+
+static void call(void)
+{
+    size_t plan_len = PLANNER_PLAN_BYTES(get(sheet + AT_ROWS, 2));
+    top = __builtin_frame_address(0);
+    answer = plan_rounds(sheet, len, plan, plan_len < sizeof plan ? plan_len : sizeof plan);
+}
+
+/* The bytes below the frame of `call` that hold the pattern no longer. */
+static size_t taken_with(uint64_t pattern)
+{
+    size_t lowest = 0;
+    for (size_t i = 0; i < STACK_WORDS; i++)
+        stack[i] = pattern;
+    if (getcontext(&callee) != 0)
+        exit(2);
+    callee.uc_stack.ss_sp = stack;
+    callee.uc_stack.ss_size = sizeof stack;
+    callee.uc_link = &caller;
+    makecontext(&callee, call, 0);
+    if (swapcontext(&caller, &callee) != 0)
+        exit(2);
+    while (stack[lowest] == pattern)
+        lowest++;
+    return (size_t)(top - (const uint8_t *)&stack[lowest]);
+}
+
+/* With one depot and with several, tight rounds and wide ones. */
+static void draw_kind(unsigned method, unsigned kind, uint64_t *state)
+{
+    struct shape shape;
+    shape.rows = PLANNER_MOST_ROWS;
+    shape.depots = kind % 2 ? 1 : 4;
+    shape.vehicles = PLANNER_MOST_VEHICLES;
+    shape.method = method;
+    shape.time_table = kind / 2 % 2;
+    shape.load = kind / 4 % 2 ? 500 : 20;
+    shape.hours = kind / 8 % 2 ? 20 : 2;
+    len = draw_sheet(sheet, shape, state);
+}
+
+static size_t larger(size_t a, size_t b)
+{
+    return a > b ? a : b;
+}
+
+/* By a call on the sheet. */
+static size_t taken(void)
+{
+    return larger(taken_with(patterns[0]), taken_with(patterns[1]));
+}
+
+static size_t taken_by(unsigned method)
+{
+    uint64_t state = UINT64_C(0x9e3779b97f4a7c15);
+    size_t most = 0;
+    for (unsigned kind = 0; kind < KINDS; kind++) {
+        draw_kind(method, kind, &state);
+        most = larger(most, taken());
+    }
+    return most;
+}
+
+static size_t taken_by_file(const char *name)
+{
+    FILE *file = fopen(name, "rb");
+    if (file == NULL) {
+        perror(name);
+        exit(2);
+    }
+    len = fread(sheet, 1, sizeof sheet, file);
+    fclose(file);
+    return taken();
+}
+
+static int tell(const char *what, size_t taken, size_t allowed)
+{
+    printf("stack: %s: %zu bytes", what, taken);
+    if (answer != PLANNER_ACCEPTED)
+        printf(", refused %u", (unsigned)answer);
+    printf("%s\n", taken > allowed ? ", too many" : "");
+    return taken > allowed;
+}
+
+int main(int argc, char **argv)
+{
+    static const char *const names[METHODS] = {"savings", "insertion", "nearest neighbour", "nn_tw", "sweep"};
+    size_t allowed = argc > 1 ? strtoul(argv[1], NULL, 10) : 0;
+    int over = 0;
+    if (allowed == 0) {
+        fprintf(stderr, "usage: stack MOST [FILE..]\n");
+        return 2;
+    }
+    for (unsigned method = 0; method < METHODS && argc == 2; method++)
+        over |= tell(names[method], taken_by(method), allowed);
+    for (int i = 2; i < argc; i++)
+        over |= tell(argv[i], taken_by_file(argv[i]), allowed);
+    return over;
+}

@@ -1,0 +1,180 @@
+/*
+ * Calls the planner over and over in one process, and looks ten times at the memory
+ * that the process holds and at the time that a call takes.
+ *
+ *   steady CALLS
+ *
+ * The sheets are of all methods and sizes and are asked in turn; every pass over them
+ * must give the answers and plans of the first. The exit status is 1 where one does
+ * not, where the process holds more than a few pages more than at the first look, or
+ * where a call of the last tenth takes above 1.5 times as long as one of the first, by
+ * the clock and by a fixed piece of work that is timed beside the calls: other work on
+ * the machine slows both.
+ */
+#define _GNU_SOURCE
+#include <fcntl.h>
+#include <stdint.h>
+#include <stdio.h>
+#include <stdlib.h>
+#include <time.h>
+#include <unistd.h>
+
+#include "sheets.h"
+
+static const unsigned sizes[] = {0, 1, 2, 10, 30, PLANNER_MOST_ROWS};
+static const unsigned depots[] = {1, 3};
+enum { SIZES = sizeof sizes / sizeof sizes[0], DEPOTS = 2, WIDTHS = 2, METHODS = PLANNER_SWEEP + 1 };
+enum { SHEETS = METHODS * SIZES * DEPOTS * WIDTHS, LOOKS = 10, MOST_GROWTH = 16 };
+static const double MOST_SLOWER = 1.5;
+
+/* A sheet with what the first call said of it. */
+struct asked {
+    uint8_t *sheet, *plan;
+    size_t len, plan_len;
+    uint32_t answer;
+};
+
+static struct asked all[SHEETS];
+
+/* What one look sees: kilobytes held, and of the time since the look before the microseconds that a call and the
+   fixed piece of work take. */
+struct look {
+    long held;
+    double call, work;
+};
+
+static void end(const char *what)
+{
+    fprintf(stderr, "steady: %s\n", what);
+    exit(1);
+}
+
+static void *room(size_t bytes)
+{
+    void *at = malloc(bytes);
+    if (at == NULL)
+        end("no memory for the sheets");
+    return at;
+}
+
+/* Sheet k of the set: tight rounds or wide ones. */
+static void draw_asked(struct asked *a, unsigned k, uint64_t *state)
+{
+    struct shape shape;
+    int wide = (int)(k % WIDTHS);
+    shape.method = k / WIDTHS % METHODS;
+    shape.rows = sizes[k / WIDTHS / METHODS / DEPOTS];
+    shape.depots = shape.rows < 3 ? 1 : depots[k / WIDTHS / METHODS % DEPOTS];
+    shape.vehicles = 8;
+    shape.time_table = wide;
+    shape.load = wide ? 500 : 20;
+    shape.hours = wide ? 20 : 2;
+    a->sheet = room(PLANNER_SHEET_BYTES(shape.rows, shape.vehicles, shape.time_table));
+    a->len = draw_sheet(a->sheet, shape, state);
+    a->plan_len = PLANNER_PLAN_BYTES(shape.rows);
+    a->plan = room(a->plan_len);
+    memset(a->plan, 0, a->plan_len);
+    a->answer = plan_rounds(a->sheet, a->len, a->plan, a->plan_len);
+}
+
+static void pass(void)
+{
+    static uint8_t plan[PLANNER_PLAN_BYTES(PLANNER_MOST_ROWS)];
+    for (unsigned k = 0; k < SHEETS; k++) {
+        memset(plan, 0, all[k].plan_len);
+        if (plan_rounds(all[k].sheet, all[k].len, plan, all[k].plan_len) != all[k].answer)
+            end("another answer than on the first call");
+        if (memcmp(plan, all[k].plan, all[k].plan_len) != 0)
+            end("another plan than on the first call");
+    }
+}
+
+/* The fixed piece of work: the sum of the least legs out of the rows of the largest sheet. */
+static double work(void)
+{
+    uint8_t *legs = legs_of(all[SHEETS - 1].sheet);
+    double sum = 0.0;
+    for (unsigned from = 0; from < PLANNER_MOST_ROWS; from++) {
+        double least = 1e9;
+        for (unsigned to = 0; to < PLANNER_MOST_ROWS; to++) {
+            double leg = get_f64(legs + PLANNER_LEG_BYTES * (from * PLANNER_MOST_ROWS + to));
+            least = leg < least ? leg : least;
+        }
+        sum += least;
+    }
+    return sum;
+}
+
+/* VmRSS, in kilobytes. */
+static long held(void)
+{
+    static char text[1 << 13];
+    int status = open("/proc/self/status", O_RDONLY);
+    ssize_t len = status < 0 ? -1 : read(status, text, sizeof text - 1);
+    text[len > 0 ? len : 0] = 0;
+    const char *line = strstr(text, "VmRSS:");
+    if (line == NULL || close(status) != 0)
+        end("/proc/self/status does not tell");
+    return strtol(line + strlen("VmRSS:"), NULL, 10);
+}
+
+/* Of this process alone, so that others on the machine count less. */
+static double seconds(void)
+{
+    struct timespec now;
+    if (clock_gettime(CLOCK_PROCESS_CPUTIME_ID, &now) != 0)
+        end("no clock");
+    return (double)now.tv_sec + 1e-9 * (double)now.tv_nsec;
+}
+
+static struct look look_after(unsigned long passes)
+{
+    struct look look = {0, 0, 0};
+    for (unsigned long i = 0; i < passes; i++) {
+        double began = seconds();
+        pass();
+        double passed = seconds();
+        if (!(work() >= 0.0))
+            end("the sheets have changed");
+        look.call += 1e6 * (passed - began) / ((double)passes * SHEETS);
+        look.work += 1e6 * (seconds() - passed) / (double)passes;
+    }
+    look.held = held();
+    return look;
+}
+
+static void tell(unsigned long calls, struct look look)
+{
+    printf("steady: after %lu calls %ld kB held, %.2f us a call (%.1f us the fixed work)\n", calls, look.held, look.call, look.work);
+    fflush(stdout);
+}
+
+int main(int argc, char **argv)
+{
+    uint64_t state = UINT64_C(0x9e3779b97f4a7c15);
+    unsigned long calls = argc == 2 ? strtoul(argv[1], NULL, 10) : 0, planned = 0;
+    unsigned long passes = (calls + LOOKS * SHEETS - 1) / (LOOKS * SHEETS);
+    struct look first, last;
+    if (calls == 0) {
+        fprintf(stderr, "usage: steady CALLS\n");
+        return 2;
+    }
+    for (unsigned k = 0; k < SHEETS; k++) {
+        draw_asked(&all[k], k, &state);
+        planned += all[k].answer == PLANNER_ACCEPTED;
+    }
+    printf("steady: %d sheets in turn, %lu of them planned\n", SHEETS, planned);
+    /* What is loaded at its first use is so before the first look that counts. */
+    first = last = look_after(1);
+    tell(0, last);
+    for (unsigned long i = 1; i <= LOOKS; i++) {
+        last = look_after(passes);
+        first = i == 1 ? last : first;
+        tell(i * passes * SHEETS, last);
+        if (last.held > first.held + MOST_GROWTH)
+            end("the process holds more and more");
+    }
+    if (last.call > MOST_SLOWER * first.call && last.call / last.work > MOST_SLOWER * first.call / first.work)
+        end("a call takes longer and longer");
+    return 0;
+}
