@@ -4,7 +4,7 @@ pub mod Gathering
 pub mod Marking
 pub mod Firsts
 pub mod Moving
+pub mod Fleets
 pub mod Sharing
 pub mod Planning
 pub mod Settling
-pub mod First

@@ -7,8 +7,8 @@ use mathlib.Core.Bool.{Bool, true, false, _&&_}
 use mathlib.Core.List.{List, [], _∷_, _++_, append-assoc, append-nil}
 use lib.Dec.{leb, ltb, eqb, ltb→lt}
 use lib.Ieee.Fits.{and-l, and-r}
-use lib.ListN.{length, getD, set, replicate, length-set, length-replicate, getD-replicate}
-use lib.Seq.{getD-set-same, getD-set-other}
+use lib.ListN.{length, getD, drop, set, replicate, length-drop, length-set, length-replicate, getD-replicate}
+use lib.Seq.{length-take-le, getD-take, getD-drop, getD-set-same, getD-set-other}
 use borrow.Author.Tests.{eqb-true, eqb-false, lt-ltb}
 use Rattle.sheet.specs.Fields.{rowsOf}
 use Rattle.sheet.specs.Depots.{depotsOf}
@@ -24,8 +24,8 @@ use Rattle.multi_depot.specs.Those.{those-few, those-parts}
 use Rattle.multi_depot.specs.ByDepot.{stopsWith, membersOf, plannedOf, plannedUpto, isIn}
 use Rattle.multi_depot.specs.Each.{planned-keeps, stops-count, stop-counted, one-more, upto-count}
 use Rattle.multi_depot.specs.Rounds.{upto-routed}
-use Rattle.multi_depot.specs.declared.Share.{Share}
-use Rattle.multi_depot.specs.Asked.{Marks, markedBy, Lent, Next, Shared, Planned}
+use Rattle.multi_depot.specs.Asked.{Marks, markedBy, Lent, Planned}
+use Rattle.multi_depot.proofs.Sharing.{Next, Shared}
 
 -- ---- room for the next members
 upto-length : (s at : List ℕ) (n : ℕ) → length (stopsOf (plannedUpto s at n)) ≡ length (stopsWith s (λ c. ltb (getD at c 0) n))
@@ -39,8 +39,8 @@ room-next s at n =
     let m = rowsOf s - depotsOf s in
     omega (arith, length-chains (o .rounds) (o .aside), upto-length s at n, those-parts (λ c. ltb (getD at c 0) n) (λ c. eqb (getD at c 0) n) (λ c. ltb (getD at c 0) (suc n)) (λ x. one-more true (getD at x 0) n) m (depotsOf s), those-few (λ c. ltb (getD at c 0) (suc n)) m (depotsOf s))
 
-pub next-there : (s at marks stops ends vehicles : List ℕ) (d : ℕ) (f : Filled) → d < depotsOf s → Planned s marks stops ends vehicles f (plannedUpto s at d) → Next s at d f
-next-there s at marks stops ends vehicles d f h p = record {
+pub next-there : {s : List ℕ} (at : List ℕ) {marks stops ends vehicles : List ℕ} (d : ℕ) {f : Filled} → d < depotsOf s → Planned s marks stops ends vehicles f (plannedUpto s at d) → Next s at d f
+next-there {s} at d h p = record {
   home = h;
   rounds = omega (arith, p .holds .count, p .holds .routed, upto-routed s at d (omega arith));
   room = omega (arith, p .holds .routed, room-next s at d);
@@ -58,9 +58,6 @@ aside-row s at d k h =
     let o = plannedOf s d (membersOf s at d) in
     let x = getD (o .aside) k 0 in
     member s at d x (omega (arith, count-at (o .aside) k h, planned-keeps s d (membersOf s at d) x, ap (count x) (chains-aside (o .rounds) (o .aside)), count-append x (chains (o .rounds) []) (o .aside)))
-
-pub part-row : (s at marks aside : List ℕ) (d : ℕ) (table : List ℕ) → Marks s marks aside → table ≡ plannedOf s d (membersOf s at d) .aside → (k : ℕ) → k < length table → getD table k 0 < length marks
-part-row s at marks aside d table m e k h = rw e (omega (arith, m .long, aside-row s at d k (rw e at h)))
 
 -- ---- and they are marked
 mark-one : (s marks xs : List ℕ) (y : ℕ) → y < length marks → Marks s marks xs → Marks s (set marks y 1) (xs ++ (y ∷ []))
@@ -91,14 +88,29 @@ marks-none s marks h = record { long = omega (arith, length-replicate {A = ℕ} 
 
 -- ---- the next depot planned
 module _ {s : List ℕ} (at : List ℕ) {marks stops ends vehicles : List ℕ} (d : ℕ) {f : Filled} (p : Planned s marks stops ends vehicles f (plannedUpto s at d))
-    {stops′ ends′ vehicles′ : List ℕ} {share : Share} (laid : Shared stops ends vehicles f (plannedOf s d (membersOf s at d)) stops′ ends′ vehicles′ share)
-    {marks′ : List ℕ} (marked : marks′ ≡ markedBy marks (part stops′ (share .filled .routed) (share .total))) where
-  pub planned-more : Planned s marks′ stops′ ends′ vehicles′ (share .filled) (plannedUpto s at (d + 1))
+    {stops′ ends′ vehicles′ : List ℕ} {done : Filled} {total : ℕ} (laid : Shared stops ends vehicles f (plannedOf s d (membersOf s at d)) stops′ ends′ vehicles′ done total) where
+  aside-known : (k : ℕ) → k < length (plannedOf s d (membersOf s at d) .aside) → getD (plannedOf s d (membersOf s at d) .aside) k 0 < length marks
+  aside-known k h = omega (arith, p .turned .long, aside-row s at d k h)
+
+  -- the stops that are to be marked
+  pub turned-known : (k : ℕ) → done .routed ≤ k → k < total → getD stops′ k 0 < length marks
+  turned-known k l h =
+      let n = length-take-le (total - done .routed) (drop (done .routed) stops′) (omega (arith, laid .within, length-drop (done .routed) stops′)) in
+      let g = getD-take (total - done .routed) (drop (done .routed) stops′) (k - done .routed) 0 (omega arith) ∙ getD-drop (done .routed) stops′ (k - done .routed) 0 in
+      let j : done .routed + (k - done .routed) ≡ k = omega arith in
+      rw (← j, ← g, laid .aside) (aside-known (k - done .routed) (omega (arith, n, ap length (laid .aside))))
+
+  pub planned-more : {marks′ : List ℕ} → marks′ ≡ markedBy marks (part stops′ (done .routed) total) → Planned s marks′ stops′ ends′ vehicles′ done (plannedUpto s at (d + 1))
   unfolding plannedUpto
-  planned-more = rw (add-one d) (record {
+  planned-more marked = rw (add-one d) (record {
     holds = laid .holds (plannedUpto s at d .rounds) (p .holds);
-    turned = rw (marked, laid .aside) (marks-more s (plannedOf s d (membersOf s at d) .aside) marks (plannedUpto s at d .aside) (part-row s at marks (plannedUpto s at d .aside) d (plannedOf s d (membersOf s at d) .aside) (p .turned) refl) (p .turned));
+    turned = rw (marked, laid .aside) (marks-more s (plannedOf s d (membersOf s at d) .aside) marks (plannedUpto s at d .aside) aside-known (p .turned));
   })
+
+  -- without members none is
+  pub planned-same : total ≡ done .routed → Planned s marks stops′ ends′ vehicles′ done (plannedUpto s at (d + 1))
+  unfolding markedBy
+  planned-same e = let z : total - done .routed ≡ 0 = omega arith in planned-more (rw z)
 
 pub planned-none : (s at marks stops ends vehicles : List ℕ) → rowsOf s ≤ length marks → Planned s (replicate (length marks) 0) stops ends vehicles empty (plannedUpto s at 0)
 unfolding plannedUpto

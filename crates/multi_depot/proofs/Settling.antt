@@ -26,10 +26,9 @@ use Rattle.multi_depot.specs.ByDepot.{isNobody, stopsWith, allStops, mem
 use Rattle.multi_depot.specs.Settled.{attemptsLeft, length-offered, unmoved, offer-falls, settles, moves-on, length-first, enough}
 use Rattle.multi_depot.specs.Each.{gathered-once, all-once}
 use Rattle.multi_depot.specs.Rounds.{outcome-right, rounds-few}
-use Rattle.multi_depot.specs.declared.Share.{Share}
-use Rattle.multi_depot.specs.Asked.{Marks, setAside, Lent, Desk, Next, Shared, Planned, Told}
+use Rattle.multi_depot.specs.Asked.{Marks, setAside, Lent, Desk, Planned, Told}
 use Rattle.multi_depot.proofs.Moving.{turned}
-use Rattle.multi_depot.proofs.Sharing.{part-there, length-planned}
+use Rattle.multi_depot.proofs.Sharing.{Next, Shared, part-there, length-planned}
 
 -- so many rounds of offers are enough, and settle the stops as they are to be
 pub record Settling (s at : List ℕ) : Type 0 where
@@ -112,11 +111,11 @@ module _ {s at₀ fleet stops ends vehicles : List ℕ} (lent : Lent s at₀ fle
   pub next-zeros : Next s at 0 empty
   next-zeros = record { home = depots-some s; rounds = omega arith; room = rw members-all (omega (arith, those-all (rowsOf s - depotsOf s) (depotsOf s))) }
 
-  pub one-held : {stops′ ends′ vehicles′ : List ℕ} {share : Share} → Shared stops ends vehicles empty (plannedOf s 0 (membersOf s at 0)) stops′ ends′ vehicles′ share → Held stops′ ends′ vehicles′ (share .filled) (rowsOf s - depotsOf s) (plannedOf s 0 (allStops s))
-  one-held {stops′} {ends′} {vehicles′} {share} h =
-      let k : Shared stops ends vehicles empty (plannedOf s 0 (allStops s)) stops′ ends′ vehicles′ share = rw members-all at h in
-      let n : share .total ≡ rowsOf s - depotsOf s = omega (arith, k .count, length-planned s 0 (allStops s), those-all (rowsOf s - depotsOf s) (depotsOf s)) in
-      subst (λ (m : ℕ). Held stops′ ends′ vehicles′ (share .filled) m (plannedOf s 0 (allStops s))) n (record { holds = k .holds [] (holds-none stops ends vehicles); from = k .from; within = k .within; aside = k .aside })
+  pub one-held : {stops′ ends′ vehicles′ : List ℕ} {done : Filled} {total : ℕ} → Shared stops ends vehicles empty (plannedOf s 0 (membersOf s at 0)) stops′ ends′ vehicles′ done total → Held stops′ ends′ vehicles′ done (rowsOf s - depotsOf s) (plannedOf s 0 (allStops s))
+  one-held {stops′} {ends′} {vehicles′} {done} {total} h =
+      let k : Shared stops ends vehicles empty (plannedOf s 0 (allStops s)) stops′ ends′ vehicles′ done total = rw members-all at h in
+      let n : total ≡ rowsOf s - depotsOf s = omega (arith, k .count, length-planned s 0 (allStops s), those-all (rowsOf s - depotsOf s) (depotsOf s)) in
+      subst (λ (m : ℕ). Held stops′ ends′ vehicles′ done m (plannedOf s 0 (allStops s))) n (record { holds = k .holds [] (holds-none stops ends vehicles); from = k .from; within = k .within; aside = k .aside })
 
 -- ---- either
 -- the part of the offers' table that is used

@@ -1,5 +1,5 @@
 -- A depot laid down behind the rounds that the tables hold. Assumes nothing.
-use mathlib.Core.Path.{_≡_, refl, sym, ap, _∙_, subst}
+use mathlib.Core.Path.{_≡_, refl, ap, _∙_}
 use Prim.Native.Nat.{ℕ, _+_, _-_, _≤_, _<_}
 use native.Mathlib.Omega.{arith}
 use mathlib.Core.Bool.{Bool, true, false, _&&_}
@@ -8,24 +8,37 @@ use lib.Dec.{eqb}
 use lib.ListN.{length, getD, take, drop}
 use lib.Seq.{length-take-le, drop-at, take-append-seam}
 use Rattle.wire.specs.Bytes.{write}
-use Rattle.wire.specs.Laws.{length-write, take-write}
+use Rattle.wire.specs.Laws.{length-write}
 use Rattle.wire.specs.Overwrite.{part-write}
-use Rattle.sheet.specs.Fields.{rowsOf, vehiclesOf}
+use Rattle.sheet.specs.Fields.{rowsOf}
 use Rattle.sheet.specs.Depots.{depotsOf, depots-few}
-use Rattle.sheet.specs.Values.{vehicleOf}
 use Rattle.plan.specs.declared.tables.Filled.{Filled}
 use Rattle.plan.specs.Outcome.{Round, Outcome}
 use Rattle.plan.specs.Read.{chains, stopsOf, isStop, one, count}
 use Rattle.plan.specs.Same.{same-length}
-use Rattle.plan.specs.Members.{part, Members, Fleet}
-use Rattle.plan.specs.Laid.{routedIn, filledBy, Laid, Room}
+use Rattle.plan.specs.Members.{part}
+use Rattle.plan.specs.Laid.{routedIn, filledBy, Laid}
 use Rattle.plan.specs.LaidLaws.{chains-aside, length-chains, length-routed}
 use Rattle.plan.specs.Holds.{Holds, holds-behind, holds-more}
-use Rattle.multi_depot.specs.Those.{those-at, those-few}
+use Rattle.multi_depot.specs.Those.{those-at}
 use Rattle.multi_depot.specs.ByDepot.{fleetOf, membersOf, constructOf, plannedOf}
 use Rattle.multi_depot.specs.Each.{stops-count, planned-keeps}
 use Rattle.multi_depot.specs.Rounds.{planned-routed}
-use Rattle.multi_depot.specs.Asked.{Lent, Next, Shared}
+use Rattle.multi_depot.specs.Asked.{Gathers, Lent, Ready, constructAt}
+
+-- a depot, and room for its members behind what is filled
+pub record Next (s at : List ℕ) (depot : ℕ) (f : Filled) : Type 0 where
+  pub home : depot < depotsOf s
+  pub rounds : f .rounds ≤ f .routed
+  pub room : f .routed + length (membersOf s at depot) ≤ rowsOf s
+
+-- a depot's outcome behind the rounds that the tables held: how far they are filled with it, and where its stops set aside end
+pub record Shared (stops ends vehicles : List ℕ) (f : Filled) (o : Outcome) (stops′ ends′ vehicles′ : List ℕ) (done : Filled) (total : ℕ) : Type 0 where
+  pub holds : (rounds : List Round) → Holds stops ends vehicles f rounds → Holds stops′ ends′ vehicles′ done (rounds ++ o .rounds)
+  pub count : total ≡ f .routed + length (stopsOf o)
+  pub from : done .routed ≤ total
+  pub within : total ≤ length stops′
+  pub aside : part stops′ (done .routed) total ≡ o .aside
 
 -- ---- what is written stands there
 pub part-there : (s : List ℕ) (at : ℕ) (xs : List ℕ) → at + length xs ≤ length s → part (write s at xs) at (at + length xs) ≡ xs
@@ -34,7 +47,7 @@ part-there s at xs h =
     let e : at + length xs - at ≡ length xs = omega arith in
     rw e (ap (take (length xs)) (drop-at (take at s) (xs ++ drop (at + length xs) s) at (length-take-le at s (omega arith))) ∙ take-append-seam xs (drop (at + length xs) s))
 
--- ---- the members and the fleet
+-- ---- the members
 pub length-planned : (s : List ℕ) (d : ℕ) (members : List ℕ) → length (stopsOf (plannedOf s d members)) ≡ length members
 length-planned s d members = same-length (stopsOf (plannedOf s d members)) members (planned-keeps s d members)
 
@@ -42,14 +55,6 @@ plans : (s : List ℕ) (d : ℕ) (members : List ℕ) → (length members ≡ 0 
 unfolding plannedOf
 plans s d [] h = absurd (h refl)
 plans s d (c ∷ cs) h = refl
-
-fleet-at : (s : List ℕ) (depot : ℕ) → Fleet s (fleetOf s depot)
-unfolding fleetOf
-fleet-at s depot k h = let q = those-at (λ v. eqb (vehicleOf s v .depot) depot) (vehiclesOf s) 0 k h in omega arith
-
-pub fleet-few : (s : List ℕ) (depot : ℕ) → length (fleetOf s depot) ≤ vehiclesOf s
-unfolding fleetOf
-fleet-few s depot = those-few (λ v. eqb (vehicleOf s v .depot) depot) (vehiclesOf s) 0
 
 member-row : (s at : List ℕ) (depot k : ℕ) → k < length (membersOf s at depot) → getD (membersOf s at depot) k 0 < rowsOf s
 unfolding membersOf
@@ -59,79 +64,71 @@ one-most : (b : Bool) → one b ≤ 1
 one-most true = omega arith
 one-most false = omega arith
 
--- the part of the fleet's table that is lent
-pub fleet-there : (s fleet fleet′ : List ℕ) (depot n : ℕ) → length (fleetOf s depot) ≤ length fleet → n ≡ length (fleetOf s depot) → fleet′ ≡ write fleet 0 (fleetOf s depot) → take (n - 0) fleet′ ≡ fleetOf s depot
-fleet-there s fleet fleet′ depot n h e w =
-    let m : n - 0 ≡ 0 + length (fleetOf s depot) = omega arith in
-    rw (m, w) (take-write fleet 0 (fleetOf s depot) (omega arith))
-
-module _ {s at fleet stops ends vehicles : List ℕ} {depot : ℕ} {f : Filled} (lent : Lent s at fleet stops ends vehicles) (next : Next s at depot f)
-    {stops₁ : List ℕ} {total : ℕ} (counted : total ≡ f .routed + length (membersOf s at depot)) (written : stops₁ ≡ write stops (f .routed) (membersOf s at depot)) where
+module _ {s at fleet stops ends vehicles : List ℕ} {depot : ℕ} {f : Filled} (lent : Lent s at fleet stops ends vehicles) (next : Next s at depot f) where
   within : f .routed + length (membersOf s at depot) ≤ length stops
   within = omega (arith, next .room, lent .stopped)
 
-  long : length stops₁ ≡ length stops
-  long = ap length written ∙ length-write stops (f .routed) (membersOf s at depot) within
+  pub members-fit : Gathers s at × (f .routed + length (membersOf s at depot) ≤ length stops)
+  members-fit = (record { sheet = lent .sheet; rows = lent .rows }, within)
 
-  there : part stops₁ (f .routed) total ≡ membersOf s at depot
-  there = rw (written, counted) (part-there stops (f .routed) (membersOf s at depot) within)
+  module _ {stops₁ : List ℕ} {total : ℕ} (counted : total ≡ f .routed + length (membersOf s at depot)) (written : stops₁ ≡ write stops (f .routed) (membersOf s at depot)) where
+    long : length stops₁ ≡ length stops
+    long = ap length written ∙ length-write stops (f .routed) (membersOf s at depot) within
 
-  still : (rounds : List Round) → Holds stops ends vehicles f rounds → Holds stops₁ ends vehicles f rounds
-  still rounds h = rw written (holds-behind stops ends vehicles f rounds h (membersOf s at depot) within)
+    there : part stops₁ (f .routed) total ≡ membersOf s at depot
+    there = rw (written, counted) (part-there stops (f .routed) (membersOf s at depot) within)
 
-  -- without members
-  nobodys : total ≡ f .routed → plannedOf s depot (membersOf s at depot) ≡ record { rounds = []; aside = [] }
-  unfolding plannedOf
-  nobodys e = go (membersOf s at depot) (omega arith)
-    where
-      go : (ms : List ℕ) → length ms ≡ 0 → plannedOf s depot ms ≡ record { rounds = []; aside = [] }
-      go [] h = refl
-      go (m ∷ ms) h = absurd (omega arith)
+    still : (rounds : List Round) → Holds stops ends vehicles f rounds → Holds stops₁ ends vehicles f rounds
+    still rounds h = rw written (holds-behind stops ends vehicles f rounds h (membersOf s at depot) within)
 
-  pub none-shared : total ≡ f .routed → Shared stops ends vehicles f (plannedOf s depot (membersOf s at depot)) stops₁ ends vehicles (record { filled = f; total = total })
-  unfolding chains
-  none-shared e = rw (nobodys e) (record {
-    holds = λ rounds h. rw (append-nil rounds) (still rounds h);
-    count = omega arith;
-    from = omega arith;
-    within = omega (arith, long, within);
-    aside = let z : total - f .routed ≡ 0 = omega arith in rw z;
-  })
+    -- without members
+    nobodys : total ≡ f .routed → plannedOf s depot (membersOf s at depot) ≡ record { rounds = []; aside = [] }
+    unfolding plannedOf
+    nobodys e = go (membersOf s at depot) (omega arith)
+      where
+        go : (ms : List ℕ) → length ms ≡ 0 → plannedOf s depot ms ≡ record { rounds = []; aside = [] }
+        go [] h = refl
+        go (m ∷ ms) h = absurd (omega arith)
 
-  module _ (some : total ≡ f .routed → ⊥) where
-    row : 0 < rowsOf s
-    row = let h = member-row s at depot 0 (omega (arith, some)) in omega arith
-
-    pub members-there : Members s depot stops₁ (f .routed) total
-    members-there = record {
-      routed = rw there (record {
-        sheet = lent .sheet;
-        home = omega (arith, next .home, depots-few s row);
-        few = omega (arith, next .room, lent .sheet .sized .rows);
-        row = member-row s at depot;
-      });
+    pub none-shared : total ≡ f .routed → Shared stops ends vehicles f (plannedOf s depot (membersOf s at depot)) stops₁ ends vehicles f total
+    unfolding chains
+    none-shared e = rw (nobodys e) (record {
+      holds = λ rounds h. rw (append-nil rounds) (still rounds h);
+      count = omega arith;
       from = omega arith;
-      most = omega (arith, next .room, lent .sheet .sized .rows);
       within = omega (arith, long, within);
-    }
+      aside = let z : total - f .routed ≡ 0 = omega arith in rw z;
+    })
 
-    pub once-there : (x : ℕ) → count x (part stops₁ (f .routed) total) ≤ 1
-    unfolding membersOf
-    once-there x = rw there (omega (arith, stops-count s (λ c. eqb (getD at c 0) depot) x, one-most (isStop s x && eqb (getD at x 0) depot)))
+    module _ (some : total ≡ f .routed → ⊥) where
+      row : 0 < rowsOf s
+      row = let h = member-row s at depot 0 (omega (arith, some)) in omega arith
 
-    pub room-there : Room ends vehicles f total
-    room-there = record { rounds = next .rounds; ended = omega (arith, next .room, lent .ended); driven = omega (arith, next .room, lent .driven) }
+      pub ready : Ready s depot fleet stops₁ ends vehicles f total
+      unfolding membersOf
+      ready = record {
+        members = record {
+          routed = rw there (record {
+            sheet = lent .sheet;
+            home = omega (arith, next .home, depots-few s row);
+            few = omega (arith, next .room, lent .sheet .sized .rows);
+            row = member-row s at depot;
+          });
+          from = omega arith;
+          most = omega (arith, next .room, lent .sheet .sized .rows);
+          within = omega (arith, long, within);
+        };
+        once = λ x. rw there (omega (arith, stops-count s (λ c. eqb (getD at c 0) depot) x, one-most (isStop s x && eqb (getD at x 0) depot)));
+        room = record { rounds = next .rounds; ended = omega (arith, next .room, lent .ended); driven = omega (arith, next .room, lent .driven) };
+        manned = lent .manned;
+      }
 
-    module _ {lot : List ℕ} (hers : lot ≡ fleetOf s depot) where
-      pub fleet-known : Fleet s lot
-      fleet-known = subst (Fleet s) (sym hers) (fleet-at s depot)
-
-      outcome : constructOf s depot (part stops₁ (f .routed) total) lot ≡ plannedOf s depot (membersOf s at depot)
-      outcome = rw (there, hers) (plans s depot (membersOf s at depot) (λ e. some (omega arith)))
+      outcome : constructAt s depot (part stops₁ (f .routed) total) ≡ plannedOf s depot (membersOf s at depot)
+      outcome = rw there (plans s depot (membersOf s at depot) (λ e. some (omega arith)))
 
       module _ {done : Filled} {stops₂ ends₂ vehicles₂ : List ℕ}
-          (filled : done ≡ filledBy f (constructOf s depot (part stops₁ (f .routed) total) lot .rounds))
-          (laid : Laid stops₁ ends vehicles f (constructOf s depot (part stops₁ (f .routed) total) lot) stops₂ ends₂ vehicles₂) where
+          (filled : done ≡ filledBy f (constructAt s depot (part stops₁ (f .routed) total) .rounds))
+          (laid : Laid stops₁ ends vehicles f (constructAt s depot (part stops₁ (f .routed) total)) stops₂ ends₂ vehicles₂) where
         abbrev o : Outcome
         o = plannedOf s depot (membersOf s at depot)
 
@@ -156,7 +153,7 @@ module _ {s at fleet stops ends vehicles : List ℕ} {depot : ℕ} {f : Filled} 
             rw (filled-so, m, laid-so .stopped, ← length-routed (o .rounds), chains-aside (o .rounds) (o .aside))
             (part-write stops₁ (f .routed) (chains (o .rounds) []) (o .aside) (rw (chains-aside (o .rounds) (o .aside)) at fits))
 
-        pub shares : Shared stops ends vehicles f o stops₂ ends₂ vehicles₂ (record { filled = done; total = total })
+        pub shares : Shared stops ends vehicles f o stops₂ ends₂ vehicles₂ done total
         shares = record {
           holds = λ rounds h. rw filled-so (holds-more stops₁ ends vehicles f rounds (still rounds h) o stops₂ ends₂ vehicles₂ laid-so fits
               (omega (arith, planned-routed s depot (membersOf s at depot), all, parts, next .rounds, next .room, lent .ended))

@@ -1,21 +1,21 @@
 -- What the functions ask, and what they leave in the tables that are lent.
 use mathlib.Core.Path.{_≡_}
-use Prim.Native.Nat.{ℕ, _+_, _-_, _≤_, _<_}
+use Prim.Native.Nat.{ℕ, _-_, _≤_, _<_}
 use mathlib.Core.Bool.{_||_}
-use mathlib.Core.List.{List, [], _∷_, _++_}
+use mathlib.Core.List.{List, [], _∷_}
 use lib.Dec.{eqb}
 use lib.ListN.{length, getD, set}
 use Rattle.sheet.specs.Fields.{rowsOf}
 use Rattle.sheet.specs.Depots.{depotsOf}
 use Rattle.sheet.specs.Accepted.{Accepted}
-use Rattle.plan.specs.Read.{one, stopsOf}
-use Rattle.plan.specs.Outcome.{Round, Outcome, outcomeIn}
-use Rattle.plan.specs.Members.{part}
+use Rattle.plan.specs.Read.{one, count}
+use Rattle.plan.specs.Outcome.{Outcome, outcomeIn}
+use Rattle.plan.specs.Members.{part, Members}
+use Rattle.plan.specs.Laid.{Room}
 use Rattle.plan.specs.Tables.{Tables}
 use Rattle.plan.specs.Holds.{Holds}
 use Rattle.plan.specs.declared.tables.Filled.{Filled}
-use Rattle.multi_depot.specs.declared.Share.{Share}
-use Rattle.multi_depot.specs.ByDepot.{isNobody, stopsWith, membersOf, isIn}
+use Rattle.multi_depot.specs.ByDepot.{fleetOf, isNobody, stopsWith, constructOf, isIn}
 
 -- a row of a sheet with so many depots
 pub record Asked (s : List ℕ) (depots stop : ℕ) : Type 0 where
@@ -65,19 +65,16 @@ pub record Desk (s at marks fleet stops ends vehicles : List ℕ) : Type 0 where
   pub ended : rowsOf s ≤ length ends
   pub driven : rowsOf s ≤ length vehicles
 
--- a depot, and room for its members behind what is filled
-pub record Next (s at : List ℕ) (depot : ℕ) (f : Filled) : Type 0 where
-  pub home : depot < depotsOf s
-  pub rounds : f .rounds ≤ f .routed
-  pub room : f .routed + length (membersOf s at depot) ≤ rowsOf s
+-- a depot's members in their table, each once, and room for their rounds behind what is filled
+pub record Ready (s : List ℕ) (depot : ℕ) (fleet stops ends vehicles : List ℕ) (f : Filled) (total : ℕ) : Type 0 where
+  pub members : Members s depot stops (f .routed) total
+  pub once : (x : ℕ) → count x (part stops (f .routed) total) ≤ 1
+  pub room : Room ends vehicles f total
+  pub manned : 16 ≤ length fleet
 
--- a depot's outcome behind the rounds that the tables held
-pub record Shared (stops ends vehicles : List ℕ) (f : Filled) (o : Outcome) (stops′ ends′ vehicles′ : List ℕ) (share : Share) : Type 0 where
-  pub holds : (rounds : List Round) → Holds stops ends vehicles f rounds → Holds stops′ ends′ vehicles′ (share .filled) (rounds ++ o .rounds)
-  pub count : share .total ≡ f .routed + length (stopsOf o)
-  pub from : share .filled .routed ≤ share .total
-  pub within : share .total ≤ length stops′
-  pub aside : part stops′ (share .filled .routed) (share .total) ≡ o .aside
+-- what is made of them, with the depot's vehicles
+abbrev pub constructAt : List ℕ → ℕ → List ℕ → Outcome
+constructAt s d members = constructOf s d members (fleetOf s d)
 
 -- the outcome of depots, whose stops set aside are marked
 pub record Planned (s marks stops ends vehicles : List ℕ) (f : Filled) (o : Outcome) : Type 0 where

@@ -2,112 +2,76 @@
 use plan::tables::Filled;
 use sheet::customer;
 ghost use mathlib.Core.Path.{_≡_};
-ghost use Prim.Native.Nat.{ℕ, _+_, _-_, _≤_, _<_};
+ghost use Prim.Native.Nat.{_+_, _-_, _≤_, _<_};
 ghost use lib.ListN.{length};
 ghost use Rattle.sheet.specs.Depots.{depotsOf};
-ghost use Rattle.sheet.specs.Fields.{rowsOf, vehiclesOf};
-ghost use Rattle.plan.specs.Laid.{Laid, Room, filledBy};
-ghost use Rattle.plan.specs.Members.{part, Members, Fleet};
+ghost use Rattle.sheet.specs.Fields.{rowsOf, methodOf};
+ghost use Rattle.plan.specs.Laid.{Laid, filledBy};
+ghost use Rattle.plan.specs.Members.{part};
 ghost use Rattle.plan.specs.Holds.{Held};
-ghost use Rattle.plan.specs.Read.{count};
-ghost use Rattle.multi_depot.specs.ByDepot.{membersOf, withVehicle, withFirst, constructOf, plannedOf, plannedUpto, planned, byDepot, outcomeOf, allStops};
-ghost use Rattle.multi_depot.specs.Asked.{Lent, Desk, Next, Shared, Planned, Told};
+ghost use Rattle.multi_depot.specs.ByDepot.{plannedOf, plannedUpto, planned, byDepot, outcomeOf, allStops};
+ghost use Rattle.multi_depot.specs.Asked.{Lent, Desk, Ready, Planned, Told, constructAt};
 
 mod depots;
 mod members;
 mod offers;
 
-// What a depot has made: how far the tables are filled with it, and where the stops that it sets aside end.
-pub struct Share {
-    pub filled: Filled,
-    pub total: usize,
-}
-
-// Savings, insertion or sweep, with one vehicle for all rounds.
-fn with_vehicle(
+// Savings with the depot's first vehicle; without one every stop is set aside, as it stands. Chosen by `plan_depot` and by
+// `one_depot` each: a function with two callers is not inlined, so no other method has the frame of the savings' tables.
+fn by_savings(
     sheet: &[u8],
     depot: usize,
-    vehicle: u16,
+    fleet: &mut [u16],
     stops: &mut [u16],
     ends: &mut [u16],
     vehicles: &mut [u16],
     filled: Filled,
     total: usize,
 ) -> Filled
-    requires { ⌜ Members (now sheet) depot (now stops) (filled .routed) total ⌝ }
-    requires { ⌜ Room (now ends) (now vehicles) filled total ⌝ }
-    requires { ⌜ vehicle < vehiclesOf (now sheet) ⌝ }
-    requires { ⌜ ((x : ℕ) → count x (part (now stops) (filled .routed) total) ≤ 1) ⌝ }
-    ensures { λ r. ⌜ r ≡ filledBy filled (withVehicle (now (sheet .entry)) depot (part (now (stops .entry)) (filled .routed) total) vehicle .rounds) ⌝ }
-    ensures { λ _. ⌜ Laid (now (stops .entry)) (now (ends .entry)) (now (vehicles .entry)) filled (withVehicle (now (sheet .entry)) depot (part (now (stops .entry)) (filled .routed) total) vehicle) (now (stops .exit)) (now (ends .exit)) (now (vehicles .exit)) ⌝ }
+    requires { ⌜ Ready (now sheet) depot (now fleet) (now stops) (now ends) (now vehicles) filled total ⌝ }
+    requires { ⌜ methodOf (now sheet) ≡ 0 ⌝ }
+    ensures { λ r. ⌜ r ≡ filledBy filled (constructAt (now (sheet .entry)) depot (part (now (stops .entry)) (filled .routed) total) .rounds) ⌝ }
+    ensures { λ _. ⌜ Laid (now (stops .entry)) (now (ends .entry)) (now (vehicles .entry)) filled (constructAt (now (sheet .entry)) depot (part (now (stops .entry)) (filled .routed) total)) (now (stops .exit)) (now (ends .exit)) (now (vehicles .exit)) ⌝ }
 {
-    let method = sheet::method(sheet);
-    if method == 0 {
-        return clarke_wright::clarke_wright_savings(
-            sheet,
-            depot,
-            vehicle,
-            stops,
-            ends,
-            vehicles,
-            filled,
-            total,
-        );
-    }
-    if method == 1 {
-        return solomon_i1::solomon_i1(sheet, depot, vehicle, stops, ends, vehicles, filled, total);
-    }
-    sweep::sweep(sheet, depot, vehicle, stops, ends, vehicles, filled, total)
-}
-
-// The same with the depot's first vehicle; without one every stop is set aside, as it stands.
-fn with_first(
-    sheet: &[u8],
-    depot: usize,
-    fleet: &[u16],
-    stops: &mut [u16],
-    ends: &mut [u16],
-    vehicles: &mut [u16],
-    filled: Filled,
-    total: usize,
-) -> Filled
-    requires { ⌜ Members (now sheet) depot (now stops) (filled .routed) total ⌝ }
-    requires { ⌜ Room (now ends) (now vehicles) filled total ⌝ }
-    requires { ⌜ Fleet (now sheet) (now fleet) ⌝ }
-    requires { ⌜ ((x : ℕ) → count x (part (now stops) (filled .routed) total) ≤ 1) ⌝ }
-    ensures { λ r. ⌜ r ≡ filledBy filled (withFirst (now (sheet .entry)) depot (part (now (stops .entry)) (filled .routed) total) (now (fleet .entry)) .rounds) ⌝ }
-    ensures { λ _. ⌜ Laid (now (stops .entry)) (now (ends .entry)) (now (vehicles .entry)) filled (withFirst (now (sheet .entry)) depot (part (now (stops .entry)) (filled .routed) total) (now (fleet .entry))) (now (stops .exit)) (now (ends .exit)) (now (vehicles .exit)) ⌝ }
-{
-    if fleet.len() == 0 {
+    if members::fleet_of(sheet, depot, fleet) == 0 {
         return filled;
     }
-    with_vehicle(sheet, depot, fleet[0], stops, ends, vehicles, filled, total)
+    clarke_wright::clarke_wright_savings(
+        sheet,
+        depot,
+        fleet[0],
+        stops,
+        ends,
+        vehicles,
+        filled,
+        total,
+    )
 }
 
-// The constructor by the method's number.
+// Every other constructor by the method's number: the nearest neighbours with the depot's vehicles, insertion and sweep with
+// the first.
 fn construct(
     sheet: &[u8],
     depot: usize,
-    fleet: &[u16],
+    fleet: &mut [u16],
     stops: &mut [u16],
     ends: &mut [u16],
     vehicles: &mut [u16],
     filled: Filled,
     total: usize,
 ) -> Filled
-    requires { ⌜ Members (now sheet) depot (now stops) (filled .routed) total ⌝ }
-    requires { ⌜ Room (now ends) (now vehicles) filled total ⌝ }
-    requires { ⌜ Fleet (now sheet) (now fleet) ⌝ }
-    requires { ⌜ ((x : ℕ) → count x (part (now stops) (filled .routed) total) ≤ 1) ⌝ }
-    ensures { λ r. ⌜ r ≡ filledBy filled (constructOf (now (sheet .entry)) depot (part (now (stops .entry)) (filled .routed) total) (now (fleet .entry)) .rounds) ⌝ }
-    ensures { λ _. ⌜ Laid (now (stops .entry)) (now (ends .entry)) (now (vehicles .entry)) filled (constructOf (now (sheet .entry)) depot (part (now (stops .entry)) (filled .routed) total) (now (fleet .entry))) (now (stops .exit)) (now (ends .exit)) (now (vehicles .exit)) ⌝ }
+    requires { ⌜ Ready (now sheet) depot (now fleet) (now stops) (now ends) (now vehicles) filled total ⌝ }
+    requires { ⌜ (methodOf (now sheet) ≡ 0 → ⊥) ⌝ }
+    ensures { λ r. ⌜ r ≡ filledBy filled (constructAt (now (sheet .entry)) depot (part (now (stops .entry)) (filled .routed) total) .rounds) ⌝ }
+    ensures { λ _. ⌜ Laid (now (stops .entry)) (now (ends .entry)) (now (vehicles .entry)) filled (constructAt (now (sheet .entry)) depot (part (now (stops .entry)) (filled .routed) total)) (now (stops .exit)) (now (ends .exit)) (now (vehicles .exit)) ⌝ }
 {
+    let n = members::fleet_of(sheet, depot, fleet);
     let method = sheet::method(sheet);
     if method == 2 {
         return nearest_neighbor::nearest_neighbor(
             sheet,
             depot,
-            fleet,
+            &fleet[0..n],
             stops,
             ends,
             vehicles,
@@ -119,7 +83,7 @@ fn construct(
         return nearest_neighbor::nearest_neighbor_tw(
             sheet,
             depot,
-            fleet,
+            &fleet[0..n],
             stops,
             ends,
             vehicles,
@@ -127,47 +91,16 @@ fn construct(
             total,
         );
     }
-    with_first(sheet, depot, fleet, stops, ends, vehicles, filled, total)
+    if n == 0 {
+        return filled;
+    }
+    if method == 1 {
+        return solomon_i1::solomon_i1(sheet, depot, fleet[0], stops, ends, vehicles, filled, total);
+    }
+    sweep::sweep(sheet, depot, fleet[0], stops, ends, vehicles, filled, total)
 }
 
-// A depot with its members, which no other has; without any it is not planned.
-fn lay_depot(
-    sheet: &[u8],
-    at: &[u16],
-    fleet: &mut [u16],
-    stops: &mut [u16],
-    ends: &mut [u16],
-    vehicles: &mut [u16],
-    depot: usize,
-    filled: Filled,
-) -> Share
-    requires { ⌜ Lent (now sheet) (now at) (now fleet) (now stops) (now ends) (now vehicles) ⌝ }
-    requires { ⌜ Next (now sheet) (now at) depot filled ⌝ }
-    ensures { λ r. ⌜ Shared (now (stops .entry)) (now (ends .entry)) (now (vehicles .entry)) filled (plannedOf (now (sheet .entry)) depot (membersOf (now (sheet .entry)) (now (at .entry)) depot)) (now (stops .exit)) (now (ends .exit)) (now (vehicles .exit)) r ⌝ }
-{
-    let from = filled.routed;
-    let total = members::members_of(sheet, at, depot, stops, from);
-    if total == from {
-        return Share { filled, total };
-    }
-    let n = members::fleet_of(sheet, depot, fleet);
-    let done = construct(
-        sheet,
-        depot,
-        &fleet[0..n],
-        stops,
-        ends,
-        vehicles,
-        filled,
-        total,
-    );
-    Share {
-        filled: done,
-        total,
-    }
-}
-
-// The same, with the stops that it turns down marked.
+// A depot with its members, which no other has; without any it is not planned. The stops that it turns down are marked.
 fn plan_depot(
     sheet: &[u8],
     at: &[u16],
@@ -184,11 +117,18 @@ fn plan_depot(
     requires { ⌜ Planned (now sheet) (now marks) (now stops) (now ends) (now vehicles) filled (plannedUpto (now sheet) (now at) depot) ⌝ }
     ensures { λ r. ⌜ Planned (now (sheet .entry)) (now (marks .exit)) (now (stops .exit)) (now (ends .exit)) (now (vehicles .exit)) r (plannedUpto (now (sheet .entry)) (now (at .entry)) (depot + 1)) ⌝ }
 {
-    let share = lay_depot(sheet, at, fleet, stops, ends, vehicles, depot, filled);
-    let done = share.filled;
-    let end = done.routed;
-    let total = share.total;
-    offers::mark(marks, &stops[end..total]);
+    let from = filled.routed;
+    let total = members::members_of(sheet, at, depot, stops, from);
+    if total == from {
+        return filled;
+    }
+    if sheet::method(sheet) == 0 {
+        let saved = by_savings(sheet, depot, fleet, stops, ends, vehicles, filled, total);
+        offers::mark(marks, stops, saved.routed, total);
+        return saved;
+    }
+    let done = construct(sheet, depot, fleet, stops, ends, vehicles, filled, total);
+    offers::mark(marks, stops, done.routed, total);
     done
 }
 
@@ -271,20 +211,18 @@ fn one_depot(
     ensures { λ r. ⌜ Held (now (stops .exit)) (now (ends .exit)) (now (vehicles .exit)) r (rowsOf (now (sheet .entry)) - depotsOf (now (sheet .entry))) (plannedOf (now (sheet .entry)) 0 (allStops (now (sheet .entry)))) ⌝ }
 {
     offers::fill(at, 0);
-    let share = lay_depot(
-        sheet,
-        at,
-        fleet,
-        stops,
-        ends,
-        vehicles,
-        0,
-        Filled {
-            rounds: 0,
-            routed: 0,
-        },
-    );
-    share.filled
+    let filled = Filled {
+        rounds: 0,
+        routed: 0,
+    };
+    let total = members::members_of(sheet, at, 0, stops, 0);
+    if total == 0 {
+        return filled;
+    }
+    if sheet::method(sheet) == 0 {
+        return by_savings(sheet, 0, fleet, stops, ends, vehicles, filled, total);
+    }
+    construct(sheet, 0, fleet, stops, ends, vehicles, filled, total)
 }
 
 // The sheet's outcome in the tables that are lent: its rounds, and behind them the stops set aside. `at` and `marks` are for

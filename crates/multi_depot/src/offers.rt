@@ -1,8 +1,9 @@
 // Rounds of offers: where each row goes at first, and where it goes once it is turned down.
 use crate::depots;
 ghost use mathlib.Core.Path.{_≡_};
-ghost use Prim.Native.Nat.{ℕ, _<_};
+ghost use Prim.Native.Nat.{ℕ, _≤_, _<_};
 ghost use lib.ListN.{length, getD, replicate};
+ghost use Rattle.plan.specs.Members.{part};
 ghost use Rattle.multi_depot.specs.ByDepot.{planned, movesTo, offered, moved, firstAt};
 ghost use Rattle.multi_depot.specs.Asked.{Asked, Offering, Marks, markedBy};
 
@@ -25,13 +26,14 @@ pub fn fill(table: &mut [u16], value: u16)
     }
 }
 
-// Marks the stops that a depot turned down.
-pub fn mark(marks: &mut [u16], aside: &[u16])
-    requires { ⌜ ((k : ℕ) → k < length (now aside) → getD (now aside) k 0 < length (now marks)) ⌝ }
-    ensures { λ _. ⌜ now (marks .exit) ≡ markedBy (now (marks .entry)) (now (aside .entry)) ⌝ }
+// Marks the stops that a depot turned down: in the table of stops from `from` up to `total`.
+pub fn mark(marks: &mut [u16], stops: &[u16], from: usize, total: usize)
+    requires { ⌜ total ≤ length (now stops) ⌝ }
+    requires { ⌜ ((k : ℕ) → from ≤ k → k < total → getD (now stops) k 0 < length (now marks)) ⌝ }
+    ensures { λ _. ⌜ now (marks .exit) ≡ markedBy (now (marks .entry)) (part (now (stops .entry)) from total) ⌝ }
 {
-    for i in 0..aside.len() {
-        let stop = aside[i] as usize;
+    for i in from..total {
+        let stop = stops[i] as usize;
         marks[stop] = 1;
     }
 }

@@ -1,31 +1,49 @@
 -- `multi_depot::plan_depot` meets its contract. Assumes nothing.
+use mathlib.Core.Path.{sym, _∙_}
 use borrow.Author.Needs.{needs}
-use Rattle.multi_depot.proofs.Planning.{next-there, part-row, planned-more}
+use Rattle.multi_depot.proofs.Sharing.{members-fit, none-shared, ready, shares}
+use Rattle.multi_depot.proofs.Planning.{next-there, turned-known, planned-more, planned-same}
 use Rattle.multi_depot.proofs.plan_depot.Statement.{statement}
 use Rattle.multi_depot.proofs.plan_depot.Tie as tie
 
-lay-depot-requires : tie.Need-lay-depot-requires
-lay-depot-requires c κs = let a = c .before .before .before .before .before .before .before .before .before .before .before .args in
-    let p = c .before .before .before .before .before .before .before .before .before .before .before .pre in
-    (p .0, next-there (a .sheet .now) (a .at .now) (a .marks .now) (a .stops .now) (a .ends .now) (a .vehicles .now) (a .depot) (a .filled) (p .1 .0) (p .1 .1))
-
-mul-mark : tie.Need-mul-mark
-mul-mark c = search needs
-
-sub-mark : tie.Need-sub-mark
-sub-mark c = search needs
-
-part-mark-start : tie.Need-part-mark-start
-part-mark-start c = search needs
-
-part-mark-end : tie.Need-part-mark-end
-part-mark-end c = search needs
-
-mark-requires : tie.Need-mark-requires
-mark-requires c κs = let a = c .before .before .before .before .before .before .before .before .before .before .before .before .before .before .before .before .before .before .before .before .before .before .before .before .args in part-row (a .sheet .now) (a .at .now) (a .marks .now) _ (a .depot) _ (c .before .before .before .before .before .before .before .before .before .before .before .before .before .before .before .before .before .before .before .before .before .before .before .before .pre .1 .1 .turned) (c .before .before .before .before .before .before .before .before .before .before .before .before .lay-depot .ensures .aside)
+members-of-requires : tie.Need-members-of-requires
+members-of-requires c κs =
+    let a = c .before .before .before .before .before .before .before .before .args in
+    let p = c .before .before .before .before .before .before .before .before .pre in
+    let next = next-there (a .at .now) (a .depot) (p .1 .0) (p .1 .1) in
+    members-fit (p .0) next
 
 same-length : tie.Need-same-length
 same-length c = search needs
+
+returns : tie.Need-returns
+returns c =
+    let a = c .before .before .before .before .before .before .before .before .before .before .before .before .args in
+    let p = c .before .before .before .before .before .before .before .before .before .before .before .before .pre in
+    let m = c .before .before .before .members-of .ensures in
+    let next = next-there (a .at .now) (a .depot) (p .1 .0) (p .1 .1) in
+    planned-same (a .at .now) (a .depot) (p .1 .1) (none-shared (p .0) next (m .0) (m .1) (c .if1 .taken)) (c .if1 .taken)
+
+method-requires : tie.Need-method-requires
+method-requires c κs = search needs
+
+by-savings-requires : tie.Need-by-savings-requires
+by-savings-requires c κs =
+    let a = c .before .before .before .before .before .before .before .before .before .before .before .before .before .before .before .before .before .before .args in
+    let p = c .before .before .before .before .before .before .before .before .before .before .before .before .before .before .before .before .before .before .pre in
+    let m = c .before .before .before .before .before .before .before .before .before .members-of .ensures in
+    let next = next-there (a .at .now) (a .depot) (p .1 .0) (p .1 .1) in
+    (ready (p .0) next (m .0) (m .1) (c .before .before .before .before .before .before .if1 .left), sym (c .before .before .before .before .before .method .ensures) ∙ c .before .before .before .before .if2 .taken)
+
+mark-requires : tie.Need-mark-requires
+mark-requires c κs =
+    let a = c .before .before .before .before .before .before .before .before .before .before .before .before .before .before .before .before .before .before .before .before .before .before .before .before .before .before .before .before .before .args in
+    let p = c .before .before .before .before .before .before .before .before .before .before .before .before .before .before .before .before .before .before .before .before .before .before .before .before .before .before .before .before .before .pre in
+    let m = c .before .before .before .before .before .before .before .before .before .before .before .before .before .before .before .before .before .before .before .before .members-of .ensures in
+    let next = next-there (a .at .now) (a .depot) (p .1 .0) (p .1 .1) in
+    let d = c .before .before .before .before .before .before .before .before .before .before .by-savings .ensures in
+    let share = shares (p .0) next (m .0) (m .1) (c .before .before .before .before .before .before .before .before .before .before .before .before .before .before .before .before .before .if1 .left) (d .0) (d .1) in
+    (share .within, turned-known (a .at .now) (a .depot) (p .1 .1) share)
 
 same-length-2 : tie.Need-same-length-2
 same-length-2 c = search needs
@@ -39,22 +57,83 @@ same-length-4 c = search needs
 same-length-5 : tie.Need-same-length-5
 same-length-5 c = search needs
 
-returns : tie.Need-returns
-returns c = let a = c .before .before .before .before .before .before .before .before .before .before .before .before .before .before .before .before .before .before .before .before .before .before .before .before .before .before .before .args in planned-more (a .at .now) (a .depot) (c .before .before .before .before .before .before .before .before .before .before .before .before .before .before .before .before .before .before .before .before .before .before .before .before .before .before .before .pre .1 .1) (c .before .before .before .before .before .before .before .before .before .before .before .before .before .before .before .lay-depot .ensures) (c .before .before .mark .ensures)
+same-length-6 : tie.Need-same-length-6
+same-length-6 c = search needs
+
+returns-2 : tie.Need-returns-2
+returns-2 c =
+    let a = c .before .before .before .before .before .before .before .before .before .before .before .before .before .before .before .before .before .before .before .before .before .before .before .before .before .before .before .before .before .before .before .before .args in
+    let p = c .before .before .before .before .before .before .before .before .before .before .before .before .before .before .before .before .before .before .before .before .before .before .before .before .before .before .before .before .before .before .before .before .pre in
+    let m = c .before .before .before .before .before .before .before .before .before .before .before .before .before .before .before .before .before .before .before .before .before .before .before .members-of .ensures in
+    let next = next-there (a .at .now) (a .depot) (p .1 .0) (p .1 .1) in
+    let d = c .before .before .before .before .before .before .before .before .before .before .before .before .before .by-savings .ensures in
+    let share = shares (p .0) next (m .0) (m .1) (c .before .before .before .before .before .before .before .before .before .before .before .before .before .before .before .before .before .before .before .before .if1 .left) (d .0) (d .1) in
+    planned-more (a .at .now) (a .depot) (p .1 .1) share (c .before .before .mark .ensures)
+
+construct-requires : tie.Need-construct-requires
+construct-requires c κs =
+    let a = c .before .before .before .before .before .before .before .before .before .before .before .before .before .before .before .before .before .before .args in
+    let p = c .before .before .before .before .before .before .before .before .before .before .before .before .before .before .before .before .before .before .pre in
+    let m = c .before .before .before .before .before .before .before .before .before .members-of .ensures in
+    let next = next-there (a .at .now) (a .depot) (p .1 .0) (p .1 .1) in
+    (ready (p .0) next (m .0) (m .1) (c .before .before .before .before .before .before .if1 .left), λ q. c .before .before .before .before .if2 .left (c .before .before .before .before .before .method .ensures ∙ q))
+
+mark-requires-2 : tie.Need-mark-requires-2
+mark-requires-2 c κs =
+    let a = c .before .before .before .before .before .before .before .before .before .before .before .before .before .before .before .before .before .before .before .before .before .before .before .before .before .before .before .before .before .args in
+    let p = c .before .before .before .before .before .before .before .before .before .before .before .before .before .before .before .before .before .before .before .before .before .before .before .before .before .before .before .before .before .pre in
+    let m = c .before .before .before .before .before .before .before .before .before .before .before .before .before .before .before .before .before .before .before .before .members-of .ensures in
+    let next = next-there (a .at .now) (a .depot) (p .1 .0) (p .1 .1) in
+    let d = c .before .before .before .before .before .before .before .before .before .before .construct .ensures in
+    let share = shares (p .0) next (m .0) (m .1) (c .before .before .before .before .before .before .before .before .before .before .before .before .before .before .before .before .before .if1 .left) (d .0) (d .1) in
+    (share .within, turned-known (a .at .now) (a .depot) (p .1 .1) share)
+
+same-length-7 : tie.Need-same-length-7
+same-length-7 c = search needs
+
+same-length-8 : tie.Need-same-length-8
+same-length-8 c = search needs
+
+same-length-9 : tie.Need-same-length-9
+same-length-9 c = search needs
+
+same-length-10 : tie.Need-same-length-10
+same-length-10 c = search needs
+
+same-length-11 : tie.Need-same-length-11
+same-length-11 c = search needs
+
+returns-3 : tie.Need-returns-3
+returns-3 c =
+    let a = c .before .before .before .before .before .before .before .before .before .before .before .before .before .before .before .before .before .before .before .before .before .before .before .before .before .before .before .before .before .before .before .before .args in
+    let p = c .before .before .before .before .before .before .before .before .before .before .before .before .before .before .before .before .before .before .before .before .before .before .before .before .before .before .before .before .before .before .before .before .pre in
+    let m = c .before .before .before .before .before .before .before .before .before .before .before .before .before .before .before .before .before .before .before .before .before .before .before .members-of .ensures in
+    let next = next-there (a .at .now) (a .depot) (p .1 .0) (p .1 .1) in
+    let d = c .before .before .before .before .before .before .before .before .before .before .before .before .before .construct .ensures in
+    let share = shares (p .0) next (m .0) (m .1) (c .before .before .before .before .before .before .before .before .before .before .before .before .before .before .before .before .before .before .before .before .if1 .left) (d .0) (d .1) in
+    planned-more (a .at .now) (a .depot) (p .1 .1) share (c .before .before .mark2 .ensures)
 
 pub plan-depot-spec : {M : Type 1} → statement M
 plan-depot-spec =
     tie.close
     (tie.spec
-    lay-depot-requires
-    mul-mark
-    sub-mark
-    part-mark-start
-    part-mark-end
-    mark-requires
+    members-of-requires
     same-length
+    returns
+    method-requires
+    by-savings-requires
+    mark-requires
     same-length-2
     same-length-3
     same-length-4
     same-length-5
-    returns)
+    same-length-6
+    returns-2
+    construct-requires
+    mark-requires-2
+    same-length-7
+    same-length-8
+    same-length-9
+    same-length-10
+    same-length-11
+    returns-3)
