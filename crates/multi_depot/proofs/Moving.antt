@@ -9,9 +9,6 @@ use lib.Dec.{eqb}
 use lib.ListN.{length, getD, take, drop, set, length-set, drop-of-length-le}
 use lib.Seq.{take-suc, take-suc-set, take-all, drop-cons, drop-set-lt}
 use borrow.Author.Tests.{eq-eqb, ne-eqb}
-use Rattle.sheet.specs.Fields.{rowsOf}
-use Rattle.plan.specs.Read.{one}
-use Rattle.multi_depot.specs.Asked.{Marks}
 use Rattle.multi_depot.specs.ByDepot.{planned, isIn, movesTo, offeredFrom, offered, moved}
 
 -- the rows so far, with those left; `any` says whether one has moved
@@ -19,14 +16,6 @@ pub record Moving (s at₀ at : List ℕ) (any : Bool) (row : ℕ) : Type 0 wher
   pub long : length at ≡ length at₀
   pub same : take row at ++ offeredFrom s (planned s at₀ .aside) row (drop row at) ≡ offered s at₀
   pub told : (any || moved (drop row at) (offeredFrom s (planned s at₀ .aside) row (drop row at))) ≡ moved at₀ (offered s at₀)
-
--- a mark says so
-marked-so : (b : Bool) → eqb (one b) 1 ≡ b
-marked-so true = refl
-marked-so false = refl
-
-pub turned : (s marks aside : List ℕ) → Marks s marks aside → (row : ℕ) → row < rowsOf s → eqb (getD marks row 0) 1 ≡ isIn row aside
-turned s marks aside m row h = ap (λ (n : ℕ). eqb n 1) (m .mark row h) ∙ marked-so (isIn row aside)
 
 pub begins : (s at : List ℕ) → Moving s at at false 0
 unfolding offered

@@ -1,19 +1,18 @@
 -- The depots one after another: there is room for the next one's members, and its stops set aside are marked. Assumes nothing.
-use mathlib.Core.Path.{_≡_, refl, sym, ap, _∙_, subst}
+use mathlib.Core.Path.{_≡_, sym, ap, _∙_}
 use Prim.Native.Nat.{ℕ, suc, _+_, _-_, _≤_, _<_}
 use native.Mathlib.Numerals.{add-one}
 use native.Mathlib.Omega.{arith}
-use mathlib.Core.Bool.{Bool, true, false, _&&_}
-use mathlib.Core.List.{List, [], _∷_, _++_, append-assoc, append-nil}
+use mathlib.Core.Bool.{true, _&&_}
+use mathlib.Core.List.{List, []}
 use lib.Dec.{leb, ltb, eqb, ltb→lt}
 use lib.Ieee.Fits.{and-l, and-r}
-use lib.ListN.{length, getD, drop, set, replicate, length-drop, length-set, length-replicate, getD-replicate}
-use lib.Seq.{length-take-le, getD-take, getD-drop, getD-set-same, getD-set-other}
-use borrow.Author.Tests.{eqb-true, eqb-false, lt-ltb}
+use lib.ListN.{length, getD, drop, replicate, length-drop}
+use lib.Seq.{length-take-le, getD-take, getD-drop}
 use Rattle.sheet.specs.Fields.{rowsOf}
 use Rattle.sheet.specs.Depots.{depotsOf}
 use Rattle.plan.specs.declared.tables.Filled.{Filled}
-use Rattle.plan.specs.Read.{chains, stopsOf, isStop, one, count}
+use Rattle.plan.specs.Read.{chains, stopsOf, isStop, count}
 use Rattle.plan.specs.Once.{count-append}
 use Rattle.plan.specs.Same.{same-length, count-at}
 use Rattle.plan.specs.Laid.{routedIn}
@@ -21,11 +20,12 @@ use Rattle.plan.specs.LaidLaws.{chains-aside, length-chains}
 use Rattle.plan.specs.Members.{part}
 use Rattle.plan.specs.Holds.{empty, holds-none}
 use Rattle.multi_depot.specs.Those.{those-few, those-parts}
-use Rattle.multi_depot.specs.ByDepot.{stopsWith, membersOf, plannedOf, plannedUpto, isIn}
+use Rattle.multi_depot.specs.ByDepot.{stopsWith, membersOf, plannedOf, plannedUpto}
 use Rattle.multi_depot.specs.Each.{planned-keeps, stops-count, stop-counted, one-more, upto-count}
 use Rattle.multi_depot.specs.Rounds.{upto-routed}
-use Rattle.multi_depot.specs.Asked.{Marks, markedBy, Lent, Planned}
-use Rattle.multi_depot.proofs.Sharing.{Next, Shared}
+use Rattle.multi_depot.specs.Asked.{markedBy, Lent, Next, Added, Planned}
+use Rattle.multi_depot.specs.Marked.{marks-more, marks-none}
+use Rattle.multi_depot.proofs.Sharing.{Shared}
 
 -- ---- room for the next members
 upto-length : (s at : List ℕ) (n : ℕ) → length (stopsOf (plannedUpto s at n)) ≡ length (stopsWith s (λ c. ltb (getD at c 0) n))
@@ -53,64 +53,47 @@ member s at d x h =
     let t = stop-counted (isStop s x && eqb (getD at x 0) d) (omega (arith, stops-count s (λ c. eqb (getD at c 0) d) x)) in
     ltb→lt x (rowsOf s) (and-r (leb (depotsOf s) x) (ltb x (rowsOf s)) (and-l (isStop s x) (eqb (getD at x 0) d) t))
 
+pub aside-members : (s at : List ℕ) (d x : ℕ) → count x (plannedOf s d (membersOf s at d) .aside) ≤ count x (membersOf s at d)
+aside-members s at d x =
+    let o = plannedOf s d (membersOf s at d) in
+    omega (arith, planned-keeps s d (membersOf s at d) x, ap (count x) (chains-aside (o .rounds) (o .aside)), count-append x (chains (o .rounds) []) (o .aside))
+
 aside-row : (s at : List ℕ) (d k : ℕ) → k < length (plannedOf s d (membersOf s at d) .aside) → getD (plannedOf s d (membersOf s at d) .aside) k 0 < rowsOf s
 aside-row s at d k h =
     let o = plannedOf s d (membersOf s at d) in
     let x = getD (o .aside) k 0 in
-    member s at d x (omega (arith, count-at (o .aside) k h, planned-keeps s d (membersOf s at d) x, ap (count x) (chains-aside (o .rounds) (o .aside)), count-append x (chains (o .rounds) []) (o .aside)))
+    member s at d x (omega (arith, count-at (o .aside) k h, aside-members s at d x))
 
--- ---- and they are marked
-mark-one : (s marks xs : List ℕ) (y : ℕ) → y < length marks → Marks s marks xs → Marks s (set marks y 1) (xs ++ (y ∷ []))
-unfolding count
-mark-one s marks xs y h m = record {
-  long = omega (arith, m .long, length-set marks y 1);
-  mark = λ c l. go c l (eqb c y) refl;
-}
-  where
-    go : (c : ℕ) → c < rowsOf s → (b : Bool) → eqb c y ≡ b → getD (set marks y 1) c 0 ≡ one (isIn c (xs ++ (y ∷ [])))
-    go c l true e =
-        let n : count c (xs ++ (y ∷ [])) ≡ count c xs + 1 = count-append c xs (y ∷ []) ∙ rw e in
-        rw (n, lt-ltb 0 (count c xs + 1) (omega arith), eqb-true c y e) (getD-set-same marks y 1 0 h)
-    go c l false e =
-        let n : count c (xs ++ (y ∷ [])) ≡ count c xs = count-append c xs (y ∷ []) ∙ rw e (omega arith) in
-        rw n (getD-set-other marks y c 1 0 (eqb-false c y e) ∙ m .mark c l)
+aside-known : (s at marks : List ℕ) (d : ℕ) → rowsOf s ≤ length marks → (k : ℕ) → k < length (plannedOf s d (membersOf s at d) .aside) → getD (plannedOf s d (membersOf s at d) .aside) k 0 < length marks
+aside-known s at marks d l k h = omega (arith, aside-row s at d k h)
 
-marks-more : (s ys marks xs : List ℕ) → ((k : ℕ) → k < length ys → getD ys k 0 < length marks) → Marks s marks xs → Marks s (markedBy marks ys) (xs ++ ys)
-unfolding markedBy
-marks-more s [] marks xs f m = rw (append-nil xs) m
-marks-more s (y ∷ ys) marks xs f m =
-    subst (Marks s (markedBy (set marks y 1) ys)) (append-assoc xs (y ∷ []) ys)
-    (marks-more s ys (set marks y 1) (xs ++ (y ∷ [])) (λ k h. rw (length-set marks y 1) (f (suc k) (omega arith))) (mark-one s marks xs y (f 0 (omega arith)) m))
-
-pub marks-none : (s marks : List ℕ) → rowsOf s ≤ length marks → Marks s (replicate (length marks) 0) []
-unfolding count
-marks-none s marks h = record { long = omega (arith, length-replicate {A = ℕ} (length marks) 0); mark = λ c l. getD-replicate (length marks) c 0 0 (omega arith) }
-
--- ---- the next depot planned
-module _ {s : List ℕ} (at : List ℕ) {marks stops ends vehicles : List ℕ} (d : ℕ) {f : Filled} (p : Planned s marks stops ends vehicles f (plannedUpto s at d))
-    {stops′ ends′ vehicles′ : List ℕ} {done : Filled} {total : ℕ} (laid : Shared stops ends vehicles f (plannedOf s d (membersOf s at d)) stops′ ends′ vehicles′ done total) where
-  aside-known : (k : ℕ) → k < length (plannedOf s d (membersOf s at d) .aside) → getD (plannedOf s d (membersOf s at d) .aside) k 0 < length marks
-  aside-known k h = omega (arith, p .turned .long, aside-row s at d k h)
-
+-- ---- a depot laid down, and its stops set aside marked
+module _ (s at marks : List ℕ) (d : ℕ) (long : rowsOf s ≤ length marks)
+    {stops ends vehicles : List ℕ} {f : Filled} {stops′ ends′ vehicles′ : List ℕ} {done : Filled} {total : ℕ} (laid : Shared stops ends vehicles f (plannedOf s d (membersOf s at d)) stops′ ends′ vehicles′ done total) where
   -- the stops that are to be marked
   pub turned-known : (k : ℕ) → done .routed ≤ k → k < total → getD stops′ k 0 < length marks
   turned-known k l h =
       let n = length-take-le (total - done .routed) (drop (done .routed) stops′) (omega (arith, laid .within, length-drop (done .routed) stops′)) in
       let g = getD-take (total - done .routed) (drop (done .routed) stops′) (k - done .routed) 0 (omega arith) ∙ getD-drop (done .routed) stops′ (k - done .routed) 0 in
       let j : done .routed + (k - done .routed) ≡ k = omega arith in
-      rw (← j, ← g, laid .aside) (aside-known (k - done .routed) (omega (arith, n, ap length (laid .aside))))
+      rw (← j, ← g, laid .aside) (aside-known s at marks d long (k - done .routed) (omega (arith, n, ap length (laid .aside))))
 
-  pub planned-more : {marks′ : List ℕ} → marks′ ≡ markedBy marks (part stops′ (done .routed) total) → Planned s marks′ stops′ ends′ vehicles′ done (plannedUpto s at (d + 1))
-  unfolding plannedUpto
-  planned-more marked = rw (add-one d) (record {
-    holds = laid .holds (plannedUpto s at d .rounds) (p .holds);
-    turned = rw (marked, laid .aside) (marks-more s (plannedOf s d (membersOf s at d) .aside) marks (plannedUpto s at d .aside) aside-known (p .turned));
-  })
+  pub adds : {marks′ : List ℕ} → marks′ ≡ markedBy marks (part stops′ (done .routed) total) → Added marks stops ends vehicles f (plannedOf s d (membersOf s at d)) marks′ stops′ ends′ vehicles′ done
+  adds marked = record { holds = laid .holds; turned = marked ∙ ap (markedBy marks) (laid .aside) }
 
   -- without members none is
-  pub planned-same : total ≡ done .routed → Planned s marks stops′ ends′ vehicles′ done (plannedUpto s at (d + 1))
+  pub adds-none : total ≡ done .routed → Added marks stops ends vehicles f (plannedOf s d (membersOf s at d)) marks stops′ ends′ vehicles′ done
   unfolding markedBy
-  planned-same e = let z : total - done .routed ≡ 0 = omega arith in planned-more (rw z)
+  adds-none e = let z : total - done .routed ≡ 0 = omega arith in adds (rw z)
+
+-- ---- behind the depots before it
+pub planned-more : {s : List ℕ} (at : List ℕ) {marks stops ends vehicles : List ℕ} (d : ℕ) {f : Filled} {marks′ stops′ ends′ vehicles′ : List ℕ} {done : Filled} → Planned s marks stops ends vehicles f (plannedUpto s at d)
+    → Added marks stops ends vehicles f (plannedOf s d (membersOf s at d)) marks′ stops′ ends′ vehicles′ done → Planned s marks′ stops′ ends′ vehicles′ done (plannedUpto s at (d + 1))
+unfolding plannedUpto
+planned-more {s} at {marks} d p a = rw (add-one d) (record {
+  holds = a .holds (plannedUpto s at d .rounds) (p .holds);
+  turned = rw (a .turned) (marks-more s (plannedOf s d (membersOf s at d) .aside) marks (plannedUpto s at d .aside) (aside-known s at marks d (p .turned .long)) (p .turned));
+})
 
 pub planned-none : (s at marks stops ends vehicles : List ℕ) → rowsOf s ≤ length marks → Planned s (replicate (length marks) 0) stops ends vehicles empty (plannedUpto s at 0)
 unfolding plannedUpto

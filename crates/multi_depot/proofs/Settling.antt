@@ -6,7 +6,7 @@ use mathlib.Core.Bool.{Bool, true, false, _||_}
 use mathlib.Core.List.{List, []}
 use lib.Dec.{eqb}
 use lib.ListN.{length, getD, take, replicate, length-replicate, getD-replicate}
-use lib.Seq.{length-take-le}
+use lib.Seq.{length-take-le, take-all}
 use borrow.Author.Tests.{eq-eqb, ne-eqb}
 use Rattle.wire.specs.Bytes.{write}
 use Rattle.wire.specs.Laws.{length-write}
@@ -26,9 +26,9 @@ use Rattle.multi_depot.specs.ByDepot.{isNobody, stopsWith, allStops, mem
 use Rattle.multi_depot.specs.Settled.{attemptsLeft, length-offered, unmoved, offer-falls, settles, moves-on, length-first, enough}
 use Rattle.multi_depot.specs.Each.{gathered-once, all-once}
 use Rattle.multi_depot.specs.Rounds.{outcome-right, rounds-few}
-use Rattle.multi_depot.specs.Asked.{Marks, setAside, Lent, Desk, Planned, Told}
-use Rattle.multi_depot.proofs.Moving.{turned}
-use Rattle.multi_depot.proofs.Sharing.{Next, Shared, part-there, length-planned}
+use Rattle.multi_depot.specs.Asked.{Marks, setAside, Lent, Desk, Next, Planned, Untouched, Told}
+use Rattle.multi_depot.specs.Marked.{turned}
+use Rattle.multi_depot.proofs.Sharing.{Shared, part-there, length-planned}
 
 -- so many rounds of offers are enough, and settle the stops as they are to be
 pub record Settling (s at : List ℕ) : Type 0 where
@@ -40,6 +40,10 @@ pub record Settling (s at : List ℕ) : Type 0 where
 pub begins : (s at : List ℕ) → at ≡ firstAt s → Settling s at
 unfolding settledAt
 begins s at e = rw e (record { long = length-first s; rounds = rowsOf s * depotsOf s; most = enough s; same = refl })
+
+-- where the rows were before an offer
+pub copied : (before at : List ℕ) {before′ : List ℕ} → length before ≡ length at → before′ ≡ take (length before) at → before′ ≡ at
+copied before at h e = e ∙ take-all (length before) at (omega arith)
 
 module _ (s at : List ℕ) (a : Accepted s) (g : Settling s at) where
   pub falls : moved at (offered s at) ≡ true → attemptsLeft s (offered s at) < attemptsLeft s at
@@ -69,6 +73,9 @@ aside-is s at marks aside m =
 gathered-long : (s at : List ℕ) → length (stopsOf (gathered s at)) ≡ rowsOf s - depotsOf s
 gathered-long s at =
     same-length (stopsOf (gathered s at)) (allStops s) (λ x. gathered-once s at x ∙ sym (all-once s x)) ∙ those-all (rowsOf s - depotsOf s) (depotsOf s)
+
+pub planned-still : {s at marks stops ends vehicles at′ marks′ stops′ ends′ vehicles′ : List ℕ} {f : Filled} → Untouched at marks stops ends vehicles at′ marks′ stops′ ends′ vehicles′ → Planned s marks stops ends vehicles f (planned s at) → Planned s marks′ stops′ ends′ vehicles′ f (planned s at′)
+planned-still u p = rw (u .stayed, u .marked, u .stopped, u .ended, u .driven) p
 
 module _ {s : List ℕ} (at : List ℕ) {marks stops ends vehicles : List ℕ} {f : Filled} (p : Planned s marks stops ends vehicles f (planned s at)) (long : rowsOf s ≤ length stops) where
   abbrev o : Outcome

@@ -24,13 +24,7 @@ use Rattle.multi_depot.specs.Those.{those-at}
 use Rattle.multi_depot.specs.ByDepot.{fleetOf, membersOf, constructOf, plannedOf}
 use Rattle.multi_depot.specs.Each.{stops-count, planned-keeps}
 use Rattle.multi_depot.specs.Rounds.{planned-routed}
-use Rattle.multi_depot.specs.Asked.{Gathers, Lent, Ready, constructAt}
-
--- a depot, and room for its members behind what is filled
-pub record Next (s at : List ℕ) (depot : ℕ) (f : Filled) : Type 0 where
-  pub home : depot < depotsOf s
-  pub rounds : f .rounds ≤ f .routed
-  pub room : f .routed + length (membersOf s at depot) ≤ rowsOf s
+use Rattle.multi_depot.specs.Asked.{Gathers, Lent, Ready, Next, constructAt}
 
 -- a depot's outcome behind the rounds that the tables held: how far they are filled with it, and where its stops set aside end
 pub record Shared (stops ends vehicles : List ℕ) (f : Filled) (o : Outcome) (stops′ ends′ vehicles′ : List ℕ) (done : Filled) (total : ℕ) : Type 0 where

@@ -6,4 +6,5 @@ pub mod Settled
 pub mod Each
 pub mod Rounds
 pub mod Asked
+pub mod Marked
 pub mod Cases

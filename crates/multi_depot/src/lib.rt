@@ -2,19 +2,20 @@
 use plan::tables::Filled;
 use sheet::customer;
 ghost use mathlib.Core.Path.{_≡_};
-ghost use Prim.Native.Nat.{_+_, _-_, _≤_, _<_};
+ghost use mathlib.Core.Bool.{false};
+ghost use Prim.Native.Nat.{_-_, _≤_, _<_};
 ghost use lib.ListN.{length};
 ghost use Rattle.sheet.specs.Depots.{depotsOf};
 ghost use Rattle.sheet.specs.Fields.{rowsOf, methodOf};
 ghost use Rattle.plan.specs.Laid.{Laid, filledBy};
 ghost use Rattle.plan.specs.Members.{part};
 ghost use Rattle.plan.specs.Holds.{Held};
-ghost use Rattle.multi_depot.specs.ByDepot.{plannedOf, plannedUpto, planned, byDepot, outcomeOf, allStops};
-ghost use Rattle.multi_depot.specs.Asked.{Lent, Desk, Ready, Planned, Told, constructAt};
+ghost use Rattle.multi_depot.specs.ByDepot.{membersOf, plannedOf, planned, offered, firstAt, settledAt, byDepot, outcomeOf, allStops};
+ghost use Rattle.multi_depot.specs.Asked.{Marks, Lent, Desk, Ready, Next, Added, Planned, Remarked, Untouched, Told, constructAt};
 
 mod depots;
-mod members;
-mod offers;
+pub mod members;
+pub mod offers;
 
 // Savings with the depot's first vehicle; without one every stop is set aside, as it stands. Chosen by `plan_depot` and by
 // `one_depot` each: a function with two callers is not inlined, so no other method has the frame of the savings' tables.
@@ -113,9 +114,8 @@ fn plan_depot(
     filled: Filled,
 ) -> Filled
     requires { ⌜ Lent (now sheet) (now at) (now fleet) (now stops) (now ends) (now vehicles) ⌝ }
-    requires { ⌜ depot < depotsOf (now sheet) ⌝ }
-    requires { ⌜ Planned (now sheet) (now marks) (now stops) (now ends) (now vehicles) filled (plannedUpto (now sheet) (now at) depot) ⌝ }
-    ensures { λ r. ⌜ Planned (now (sheet .entry)) (now (marks .exit)) (now (stops .exit)) (now (ends .exit)) (now (vehicles .exit)) r (plannedUpto (now (sheet .entry)) (now (at .entry)) (depot + 1)) ⌝ }
+    requires { ⌜ Next (now sheet) (now at) depot filled × (rowsOf (now sheet) ≤ length (now marks)) ⌝ }
+    ensures { λ r. ⌜ Added (now (marks .entry)) (now (stops .entry)) (now (ends .entry)) (now (vehicles .entry)) filled (plannedOf (now (sheet .entry)) depot (membersOf (now (sheet .entry)) (now (at .entry)) depot)) (now (marks .exit)) (now (stops .exit)) (now (ends .exit)) (now (vehicles .exit)) r ⌝ }
 {
     let from = filled.routed;
     let total = members::members_of(sheet, at, depot, stops, from);
@@ -168,7 +168,107 @@ fn plan_depots(
     filled
 }
 
-// Offers until no stop moves: each that moves one lowers the attempts left.
+// A depot planned anew, from the start of the tables on: only its marks are needed.
+fn remark(
+    sheet: &[u8],
+    at: &[u16],
+    marks: &mut [u16],
+    fleet: &mut [u16],
+    stops: &mut [u16],
+    ends: &mut [u16],
+    vehicles: &mut [u16],
+    depot: usize,
+)
+    requires { ⌜ Lent (now sheet) (now at) (now fleet) (now stops) (now ends) (now vehicles) ⌝ }
+    requires { ⌜ (depot < depotsOf (now sheet)) × (rowsOf (now sheet) ≤ length (now marks)) ⌝ }
+    ensures { λ _. ⌜ Remarked (now (sheet .entry)) (now (at .entry)) (now (marks .entry)) depot (now (marks .exit)) ⌝ }
+{
+    offers::clear(at, marks, depot);
+    let filled = Filled {
+        rounds: 0,
+        routed: 0,
+    };
+    plan_depot(
+        sheet,
+        at,
+        marks,
+        fleet,
+        stops,
+        ends,
+        vehicles,
+        depot,
+        filled,
+    );
+}
+
+// The marks after an offer. A depot whose members are the same turns the same ones down, so that it is not planned.
+fn remark_changed(
+    sheet: &[u8],
+    depots: usize,
+    before: &[u16],
+    at: &[u16],
+    marks: &mut [u16],
+    fleet: &mut [u16],
+    stops: &mut [u16],
+    ends: &mut [u16],
+    vehicles: &mut [u16],
+)
+    requires { ⌜ Lent (now sheet) (now at) (now fleet) (now stops) (now ends) (now vehicles) ⌝ }
+    requires { ⌜ (depots ≡ depotsOf (now sheet)) × (now at ≡ offered (now sheet) (now before)) ⌝ }
+    requires { ⌜ Marks (now sheet) (now marks) (planned (now sheet) (now before) .aside) ⌝ }
+    ensures { λ _. ⌜ Marks (now (sheet .entry)) (now (marks .exit)) (planned (now (sheet .entry)) (now (at .entry)) .aside) ⌝ }
+{
+    for depot in 0..depots {
+        if !offers::is_changed(before, at, depot) {
+            continue;
+        }
+        remark(sheet, at, marks, fleet, stops, ends, vehicles, depot);
+    }
+}
+
+// Offers until no stop moves: each that moves one lowers the attempts left. Answers whether one has moved; what the tables held
+// is lost then.
+fn settle(
+    sheet: &[u8],
+    depots: usize,
+    before: &mut [u16],
+    at: &mut [u16],
+    marks: &mut [u16],
+    fleet: &mut [u16],
+    stops: &mut [u16],
+    ends: &mut [u16],
+    vehicles: &mut [u16],
+) -> bool
+    requires { ⌜ Lent (now sheet) (now at) (now fleet) (now stops) (now ends) (now vehicles) ⌝ }
+    requires { ⌜ (depots ≡ depotsOf (now sheet)) × (length (now before) ≡ rowsOf (now sheet)) ⌝ }
+    requires { ⌜ (now at ≡ firstAt (now sheet)) × Marks (now sheet) (now marks) (planned (now sheet) (now at) .aside) ⌝ }
+    ensures { λ _. ⌜ now (at .exit) ≡ settledAt (now (sheet .entry)) ⌝ }
+    ensures { λ r. ⌜ (r ≡ false → Untouched (now (at .entry)) (now (marks .entry)) (now (stops .entry)) (now (ends .entry)) (now (vehicles .entry)) (now (at .exit)) (now (marks .exit)) (now (stops .exit)) (now (ends .exit)) (now (vehicles .exit))) ⌝ }
+{
+    let mut any = false;
+    'offers: loop {
+        sorting::copy(at, before);
+        if !offers::offer(sheet, depots, at, marks) {
+            break 'offers;
+        }
+        remark_changed(
+            sheet,
+            depots,
+            before,
+            at,
+            marks,
+            fleet,
+            stops,
+            ends,
+            vehicles,
+        );
+        any = true;
+    }
+    any
+}
+
+// Every depot planned; then the stops are settled and, where one has moved, every depot is planned once more: between offers
+// only the marks are kept.
 fn by_depot(
     sheet: &[u8],
     at: &mut [u16],
@@ -183,19 +283,27 @@ fn by_depot(
     ensures { λ r. ⌜ Held (now (stops .exit)) (now (ends .exit)) (now (vehicles .exit)) r (rowsOf (now (sheet .entry)) - depotsOf (now (sheet .entry))) (byDepot (now (sheet .entry))) ⌝ }
 {
     let depots = customer::depots(sheet);
+    let rows = at.len();
+    let mut before = [0u16; 101];
     offers::first_at(sheet, depots, at);
-    let mut filled = Filled {
-        rounds: 0,
-        routed: 0,
-    };
-    'offers: loop {
-        filled = plan_depots(sheet, depots, at, marks, fleet, stops, ends, vehicles);
-        if !offers::offer(sheet, depots, at, marks) {
-            break 'offers;
-        }
+    let filled = plan_depots(sheet, depots, at, marks, fleet, stops, ends, vehicles);
+    if !settle(
+        sheet,
+        depots,
+        &mut before[0..rows],
+        at,
+        marks,
+        fleet,
+        stops,
+        ends,
+        vehicles,
+    ) {
+        members::lay_aside(sheet, at, marks, stops, filled.routed);
+        return filled;
     }
-    members::lay_aside(sheet, at, marks, stops, filled.routed);
-    filled
+    let last = plan_depots(sheet, depots, at, marks, fleet, stops, ends, vehicles);
+    members::lay_aside(sheet, at, marks, stops, last.routed);
+    last
 }
 
 // One depot with every stop.

@@ -1,11 +1,12 @@
 // Rounds of offers: where each row goes at first, and where it goes once it is turned down.
 use crate::depots;
 ghost use mathlib.Core.Path.{_≡_};
+ghost use mathlib.Core.Bool.{false};
 ghost use Prim.Native.Nat.{ℕ, _≤_, _<_};
 ghost use lib.ListN.{length, getD, replicate};
 ghost use Rattle.plan.specs.Members.{part};
 ghost use Rattle.multi_depot.specs.ByDepot.{planned, movesTo, offered, moved, firstAt};
-ghost use Rattle.multi_depot.specs.Asked.{Asked, Offering, Marks, markedBy};
+ghost use Rattle.multi_depot.specs.Asked.{Asked, Offering, Marks, Cleared, Alike, markedBy};
 
 // Every row at its nearest depot with a vehicle.
 pub fn first_at(sheet: &[u8], depots: usize, at: &mut [u16])
@@ -36,6 +37,40 @@ pub fn mark(marks: &mut [u16], stops: &[u16], from: usize, total: usize)
         let stop = stops[i] as usize;
         marks[stop] = 1;
     }
+}
+
+// Takes the marks off a depot's rows.
+pub fn clear(at: &[u16], marks: &mut [u16], depot: usize)
+    requires { ⌜ length (now at) ≤ length (now marks) ⌝ }
+    ensures { λ _. ⌜ Cleared (now (at .entry)) (now (marks .entry)) depot (now (marks .exit)) ⌝ }
+{
+    for row in 0..at.len() {
+        if at[row] as usize != depot {
+            continue;
+        }
+        marks[row] = 0;
+    }
+}
+
+// Whether a row has left a depot or come to it.
+pub fn is_changed(before: &[u16], at: &[u16], depot: usize) -> bool
+    requires { ⌜ length (now before) ≡ length (now at) ⌝ }
+    ensures { λ r. ⌜ (r ≡ false → Alike (now (before .entry)) (now (at .entry)) depot) ⌝ }
+{
+    for row in 0..at.len() {
+        let was = before[row] as usize;
+        let is = at[row] as usize;
+        if was == is {
+            continue;
+        }
+        if was == depot {
+            return true;
+        }
+        if is == depot {
+            return true;
+        }
+    }
+    false
 }
 
 // The depot of a row after an offer: a stop turned down goes to its next depot, where there is one.

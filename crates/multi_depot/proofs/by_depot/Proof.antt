@@ -1,120 +1,157 @@
 -- `multi_depot::by_depot` meets its contract. Assumes nothing.
-use mathlib.Core.Path.{_≡_, refl, sym, ap, _∙_}
-use Prim.Native.Nat.{ℕ, _≤_}
+use mathlib.Core.Path.{_≡_, sym, _∙_}
+use Prim.Native.Nat.{_-_, _≤_}
 use native.Mathlib.Omega.{arith}
-use mathlib.Core.Bool.{false}
-use mathlib.Core.List.{List}
-use lib.ListN.{length}
-use borrow.Author.Tests.{not-true, not-false}
+use lib.ListN.{length, replicate}
+use lib.Seq.{length-take-le}
+use borrow.Author.Tests.{not-true}
 use Rattle.sheet.specs.Fields.{rowsOf}
-use Rattle.multi_depot.specs.ByDepot.{planned, offered, moved, settledAt, byDepot}
-use Rattle.multi_depot.specs.Settled.{attemptsLeft}
-use Rattle.multi_depot.specs.Asked.{Planned}
-use Rattle.multi_depot.proofs.Planning.{Kept, lent-still}
-use Rattle.multi_depot.proofs.Settling.{Settling, begins, falls, goes-on, stays, ends, room-aside, gathered-held}
+use Rattle.multi_depot.specs.ByDepot.{planned, byDepot}
+use Rattle.multi_depot.specs.Asked.{Lent, Planned}
+use Rattle.multi_depot.proofs.Settling.{planned-still, room-aside, gathered-held}
+use borrow.Author.Needs.{needs}
 use Rattle.multi_depot.proofs.by_depot.Statement.{statement}
 use Rattle.multi_depot.proofs.by_depot.Tie as tie
 
-abbrev Inv-offers : tie.InvT-offers
-Inv-offers sheet at₀ marks₀ fleet₀ stops₀ ends₀ vehicles₀ depots at marks fleet stops ends vehicles =
-    Kept marks₀ fleet₀ stops₀ ends₀ vehicles₀ marks fleet stops ends vehicles × Settling sheet at
+depots-requires : tie.Need-depots-requires
+depots-requires c κs = search needs
 
-abbrev μ-offers : tie.MeasureT-offers
-μ-offers sheet at₀ marks₀ fleet₀ stops₀ ends₀ vehicles₀ depots at marks fleet stops ends vehicles =
-    attemptsLeft sheet at
+first-at-requires : tie.Need-first-at-requires
+first-at-requires c κs = search needs
 
-depots-requires : tie.Need-depots-requires Inv-offers μ-offers
-depots-requires c κs = c .before .before .before .before .before .before .before .pre .0 .sheet .sized
+plan-depots-requires : tie.Need-plan-depots-requires
+plan-depots-requires c κs = let p = c .before .before .before .before .before .before .before .before .before .before .before .before .before .before .before .before .before .before .pre in
+    (record { sheet = p .0 .sheet; rows = c .before .before .before .before .before .before .before .before .first-at .kept .1 .1 .0 ∙ p .0 .rows; manned = p .0 .manned; stopped = p .0 .stopped; ended = p .0 .ended; driven = p .0 .driven }, (c .before .before .before .before .before .before .before .before .before .before .depots .ensures, p .1))
 
-first-at-requires : tie.Need-first-at-requires Inv-offers μ-offers
-first-at-requires c κs = let p = c .before .before .before .before .before .before .before .before .before .pre .0 in record { sheet = p .sheet; count = c .before .depots .ensures; rows = p .rows }
+sub-settle : tie.Need-sub-settle
+sub-settle c = search needs
 
-offers-holds : tie.Need-offers-holds Inv-offers μ-offers
-offers-holds c = (record { marked = refl; manned = refl; stopped = refl; ended = refl; driven = refl }, begins _ _ (c .before .before .first-at .ensures))
+part-before-start : tie.Need-part-before-start
+part-before-start c = search needs
 
-plan-depots-requires : tie.Need-plan-depots-requires Inv-offers μ-offers
-plan-depots-requires c κs = let p = c .before .before .before .before .before .before .before .before .before .before .before .before .before .before .before .before .before .before .before .pre in
-    let i = c .before .before .before .before .before .before .offers .inv in
-    (lent-still (p .0) (i .0) (i .1 .long), (c .before .before .before .before .before .before .before .before .before .before .before .depots .ensures, omega (arith, p .1, i .0 .marked)))
+part-before-end : tie.Need-part-before-end
+part-before-end c = omega (arith, c .before .before .before .before .before .before .before .before .before .before .before .before .before .before .before .before .before .before .before .before .before .before .before .before .before .before .before .before .before .pre .0 .rows, c .before .before .before .before .before .before .before .before .before .before .before .before .before .before .before .before .before .before .before .before .before .before .before .before .before .before .before .before .before .pre .0 .sheet .sized .rows)
 
-offer-requires : tie.Need-offer-requires Inv-offers μ-offers
-offer-requires c κs = (record { sheet = c .before .before .before .before .before .before .before .before .before .before .before .before .before .before .before .before .before .before .before .before .before .before .before .before .before .before .before .before .before .before .before .before .pre .0 .sheet; count = c .before .before .before .before .before .before .before .before .before .before .before .before .before .before .before .before .before .before .before .before .before .before .before .before .depots .ensures; rows = c .before .before .before .before .before .before .before .before .before .before .before .before .before .before .before .before .before .before .before .offers .inv .1 .long }, c .before .before .before .before .before .before .before .before .before .before .before .before .plan-depots .ensures .turned)
-
-offers-less : tie.Need-offers-less Inv-offers μ-offers
-offers-less c = rw (c .before .before .before .offer .ensures .1) (falls _ _ (c .before .before .before .before .before .before .before .before .before .before .before .before .before .before .before .before .before .before .before .before .before .before .before .before .before .before .before .before .before .before .before .before .before .before .before .before .pre .0 .sheet) (c .before .before .before .before .before .before .before .before .before .before .before .before .before .before .before .before .before .before .before .before .before .before .before .offers .inv .1) (sym (c .before .before .before .offer .ensures .0) ∙ not-false _ (c .if1 .left)))
-
-offers-again : tie.Need-offers-again Inv-offers μ-offers
-offers-again c = let k = c .before .before .before .before .before .before .before .before .before .before .before .before .before .before .before .before .before .before .before .before .before .before .before .offers .inv .0 in
-    let w = c .before .before .before .before .before .before .before .before .before .before .before .before .before .before .before .before .plan-depots in (
+settle-requires : tie.Need-settle-requires
+settle-requires c κs = let p = c .before .before .before .before .before .before .before .before .before .before .before .before .before .before .before .before .before .before .before .before .before .before .before .before .before .before .before .before .before .before .before .before .before .before .before .before .pre .0 in
+    let w = c .before .before .before .before .before .before .before .before .before .before .before .before .before .before .before .before .before .plan-depots in (
       record {
-        marked = w .kept .1 .1 .1 .0 ∙ k .marked;
-        manned = w .kept .1 .1 .1 .1 .0 ∙ k .manned;
-        stopped = w .kept .1 .1 .1 .1 .1 .0 ∙ k .stopped;
-        ended = w .kept .1 .1 .1 .1 .1 .1 .0 ∙ k .ended;
-        driven = w .kept .1 .1 .1 .1 .1 .1 .1 .0 ∙ k .driven;
+        sheet = p .sheet;
+        rows = c .before .before .before .before .before .before .before .before .before .before .before .before .before .before .before .before .before .before .before .before .before .before .before .before .before .before .first-at .kept .1 .1 .0 ∙ p .rows;
+        manned = omega (arith, p .manned, w .kept .1 .1 .1 .1 .0);
+        stopped = omega (arith, p .stopped, w .kept .1 .1 .1 .1 .1 .0);
+        ended = omega (arith, p .ended, w .kept .1 .1 .1 .1 .1 .1 .0);
+        driven = omega (arith, p .driven, w .kept .1 .1 .1 .1 .1 .1 .1 .0);
       },
-      rw (c .before .before .before .offer .ensures .1) (goes-on _ _ (c .before .before .before .before .before .before .before .before .before .before .before .before .before .before .before .before .before .before .before .before .before .before .before .before .before .before .before .before .before .before .before .before .before .before .before .before .pre .0 .sheet) (c .before .before .before .before .before .before .before .before .before .before .before .before .before .before .before .before .before .before .before .before .before .before .before .offers .inv .1) (sym (c .before .before .before .offer .ensures .0) ∙ not-false _ (c .if1 .left))),
+      ((c .before .before .before .before .before .before .before .before .before .before .before .before .before .before .before .before .before .before .before .before .before .before .before .before .before .before .before .before .depots .ensures, length-take-le (length (c .before .before .before .before .before .before .before .before .before .before .before .before .before .before .before .before .before .before .before .before .before .before .before .before .before .before .before .before .before .before .before .before .before .before .before .before .args .at .now) - 0) (replicate 101 0) (omega (arith, p .rows, p .sheet .sized .rows)) ∙ omega (arith, p .rows)), (c .before .before .before .before .before .before .before .before .before .before .before .before .before .before .before .before .before .before .before .before .before .before .before .before .before .before .first-at .ensures, w .ensures .turned)),
     )
 
--- once no stop has moved, the tables hold the depots' outcome as the stops are settled
-module _ (c : tie.Then1 Inv-offers μ-offers) where
-  abbrev now-at : List ℕ
-  now-at = c .before .before .before .offer .last .1 .1 .0
+-- after the offers the tables are as long
+module _ (c : tie.After-settle) where
+  at-long : length (c .settle .last .1 .1 .1 .0) ≡ length (c .before .before .before .before .before .before .before .before .before .before .before .before .before .before .before .before .before .before .before .before .before .before .before .before .before .before .before .before .before .before .before .before .before .before .before .before .before .args .at .now)
+  at-long = c .settle .kept .1 .1 .1 .0 ∙ c .before .before .before .before .before .before .before .before .before .before .before .before .before .before .before .before .before .before .before .before .before .before .before .before .before .before .before .first-at .kept .1 .1 .0
 
-  unmoving : moved (c .before .before .before .before .before .before .before .before .before .before .before .before .before .before .before .before .before .before .before .before .before .before .before .offers .at) (offered (c .before .before .before .before .before .before .before .before .before .before .before .before .before .before .before .before .before .before .before .before .before .before .before .before .before .before .before .before .before .before .before .before .before .before .before .before .args .sheet .now) (c .before .before .before .before .before .before .before .before .before .before .before .before .before .before .before .before .before .before .before .before .before .before .before .offers .at)) ≡ false
-  unmoving = sym (c .before .before .before .offer .ensures .0) ∙ not-true _ (c .if1 .taken)
+  marks-long : length (c .settle .last .1 .1 .1 .1 .0) ≡ length (c .before .before .before .before .before .before .before .before .before .before .before .before .before .before .before .before .before .before .before .before .before .before .before .before .before .before .before .before .before .before .before .before .before .before .before .before .before .args .marks .now)
+  marks-long = c .settle .kept .1 .1 .1 .1 .0 ∙ c .before .before .before .before .before .before .before .before .before .before .before .before .before .before .before .before .before .before .plan-depots .kept .1 .1 .1 .0
 
-  same-at : now-at ≡ c .before .before .before .before .before .before .before .before .before .before .before .before .before .before .before .before .before .before .before .before .before .before .before .offers .at
-  same-at = c .before .before .before .offer .ensures .1 ∙ stays _ _ (c .before .before .before .before .before .before .before .before .before .before .before .before .before .before .before .before .before .before .before .before .before .before .before .before .before .before .before .before .before .before .before .before .before .before .before .before .pre .0 .sheet) (c .before .before .before .before .before .before .before .before .before .before .before .before .before .before .before .before .before .before .before .before .before .before .before .offers .inv .1) unmoving
+  fleet-long : length (c .settle .last .1 .1 .1 .1 .1 .0) ≡ length (c .before .before .before .before .before .before .before .before .before .before .before .before .before .before .before .before .before .before .before .before .before .before .before .before .before .before .before .before .before .before .before .before .before .before .before .before .before .args .fleet .now)
+  fleet-long = c .settle .kept .1 .1 .1 .1 .1 .0 ∙ c .before .before .before .before .before .before .before .before .before .before .before .before .before .before .before .before .before .before .plan-depots .kept .1 .1 .1 .1 .0
 
-  settled-at : settledAt (c .before .before .before .before .before .before .before .before .before .before .before .before .before .before .before .before .before .before .before .before .before .before .before .before .before .before .before .before .before .before .before .before .before .before .before .before .args .sheet .now) ≡ now-at
-  settled-at = ends _ _ (c .before .before .before .before .before .before .before .before .before .before .before .before .before .before .before .before .before .before .before .before .before .before .before .before .before .before .before .before .before .before .before .before .before .before .before .before .pre .0 .sheet) (c .before .before .before .before .before .before .before .before .before .before .before .before .before .before .before .before .before .before .before .before .before .before .before .offers .inv .1) unmoving ∙ sym same-at
+  stops-long : length (c .settle .last .1 .1 .1 .1 .1 .1 .0) ≡ length (c .before .before .before .before .before .before .before .before .before .before .before .before .before .before .before .before .before .before .before .before .before .before .before .before .before .before .before .before .before .before .before .before .before .before .before .before .before .args .stops .now)
+  stops-long = c .settle .kept .1 .1 .1 .1 .1 .1 .0 ∙ c .before .before .before .before .before .before .before .before .before .before .before .before .before .before .before .before .before .before .plan-depots .kept .1 .1 .1 .1 .1 .0
 
-  planned-at : Planned (c .before .before .before .before .before .before .before .before .before .before .before .before .before .before .before .before .before .before .before .before .before .before .before .before .before .before .before .before .before .before .before .before .before .before .before .before .args .sheet .now) (c .before .before .before .before .before .before .before .before .before .before .before .before .before .before .before .before .plan-depots .last .1 .1 .1 .0) (c .before .before .before .before .before .before .before .before .before .before .before .before .before .before .before .before .plan-depots .last .1 .1 .1 .1 .1 .0) (c .before .before .before .before .before .before .before .before .before .before .before .before .before .before .before .before .plan-depots .last .1 .1 .1 .1 .1 .1 .0) (c .before .before .before .before .before .before .before .before .before .before .before .before .before .before .before .before .plan-depots .last .1 .1 .1 .1 .1 .1 .1 .0) (c .before .before .before .before .before .before .before .before .before .before .before .before .before .before .before .before .plan-depots .result) (planned (c .before .before .before .before .before .before .before .before .before .before .before .before .before .before .before .before .before .before .before .before .before .before .before .before .before .before .before .before .before .before .before .before .before .before .before .before .args .sheet .now) now-at)
-  planned-at = rw same-at (c .before .before .before .before .before .before .before .before .before .before .before .before .before .before .before .before .plan-depots .ensures)
+  ends-long : length (c .settle .last .1 .1 .1 .1 .1 .1 .1 .0) ≡ length (c .before .before .before .before .before .before .before .before .before .before .before .before .before .before .before .before .before .before .before .before .before .before .before .before .before .before .before .before .before .before .before .before .before .before .before .before .before .args .ends .now)
+  ends-long = c .settle .kept .1 .1 .1 .1 .1 .1 .1 .0 ∙ c .before .before .before .before .before .before .before .before .before .before .before .before .before .before .before .before .before .before .plan-depots .kept .1 .1 .1 .1 .1 .1 .0
 
-  long : rowsOf (c .before .before .before .before .before .before .before .before .before .before .before .before .before .before .before .before .before .before .before .before .before .before .before .before .before .before .before .before .before .before .before .before .before .before .before .before .args .sheet .now) ≤ length (c .before .before .before .before .before .before .before .before .before .before .before .before .before .before .before .before .plan-depots .last .1 .1 .1 .1 .1 .0)
-  long = omega (arith, c .before .before .before .before .before .before .before .before .before .before .before .before .before .before .before .before .before .before .before .before .before .before .before .before .before .before .before .before .before .before .before .before .before .before .before .before .pre .0 .stopped, c .before .before .before .before .before .before .before .before .before .before .before .before .before .before .before .before .before .before .before .before .before .before .before .offers .inv .0 .stopped, c .before .before .before .before .before .before .before .before .before .before .before .before .before .before .before .before .plan-depots .kept .1 .1 .1 .1 .1 .0)
+  vehicles-long : length (c .settle .last .1 .1 .1 .1 .1 .1 .1 .1 .0) ≡ length (c .before .before .before .before .before .before .before .before .before .before .before .before .before .before .before .before .before .before .before .before .before .before .before .before .before .before .before .before .before .before .before .before .before .before .before .before .before .args .vehicles .now)
+  vehicles-long = c .settle .kept .1 .1 .1 .1 .1 .1 .1 .1 .0 ∙ c .before .before .before .before .before .before .before .before .before .before .before .before .before .before .before .before .before .before .plan-depots .kept .1 .1 .1 .1 .1 .1 .1 .0
 
-lay-aside-requires : tie.Need-lay-aside-requires Inv-offers μ-offers
-lay-aside-requires c κs = let t = c .before .before .before in
-    (record { sheet = c .before .before .before .before .before .before .before .before .before .before .before .before .before .before .before .before .before .before .before .before .before .before .before .before .before .before .before .before .before .before .before .before .before .before .before .before .before .before .before .pre .0 .sheet; rows = ap length (same-at t) ∙ c .before .before .before .before .before .before .before .before .before .before .before .before .before .before .before .before .before .before .before .before .before .before .before .before .before .before .offers .inv .1 .long }, (c .before .before .before .before .before .before .before .before .before .before .before .before .before .before .before .before .before .before .before .plan-depots .ensures .turned .long, room-aside (now-at t) (planned-at t) (long t)))
+  lent : Lent (c .before .before .before .before .before .before .before .before .before .before .before .before .before .before .before .before .before .before .before .before .before .before .before .before .before .before .before .before .before .before .before .before .before .before .before .before .before .args .sheet .now) (c .settle .last .1 .1 .1 .0) (c .settle .last .1 .1 .1 .1 .1 .0) (c .settle .last .1 .1 .1 .1 .1 .1 .0) (c .settle .last .1 .1 .1 .1 .1 .1 .1 .0) (c .settle .last .1 .1 .1 .1 .1 .1 .1 .1 .0)
+  lent = let p = c .before .before .before .before .before .before .before .before .before .before .before .before .before .before .before .before .before .before .before .before .before .before .before .before .before .before .before .before .before .before .before .before .before .before .before .before .before .pre .0 in record {
+    sheet = p .sheet;
+    rows = at-long ∙ p .rows;
+    manned = omega (arith, p .manned, fleet-long);
+    stopped = omega (arith, p .stopped, stops-long);
+    ended = omega (arith, p .ended, ends-long);
+    driven = omega (arith, p .driven, vehicles-long);
+  }
 
-same-length : tie.Need-same-length Inv-offers μ-offers
-same-length c = ap length (same-at (c .before .before .before .before .before .before)) ∙ c .before .before .before .before .before .before .before .before .before .before .before .before .before .before .before .before .before .before .before .before .before .before .before .before .before .before .before .before .before .offers .inv .1 .long ∙ sym (c .before .before .before .before .before .before .before .before .before .before .before .before .before .before .before .before .before .before .before .before .before .before .before .before .before .before .before .before .before .before .before .before .before .before .before .before .before .before .before .before .before .before .pre .0 .rows)
+  marked : rowsOf (c .before .before .before .before .before .before .before .before .before .before .before .before .before .before .before .before .before .before .before .before .before .before .before .before .before .before .before .before .before .before .before .before .before .before .before .before .before .args .sheet .now) ≤ length (c .settle .last .1 .1 .1 .1 .0)
+  marked = omega (arith, c .before .before .before .before .before .before .before .before .before .before .before .before .before .before .before .before .before .before .before .before .before .before .before .before .before .before .before .before .before .before .before .before .before .before .before .before .before .pre .1, marks-long)
 
-same-length-2 : tie.Need-same-length-2 Inv-offers μ-offers
-same-length-2 c = c .before .before .before .before .before .before .before .before .before .before .before .before .before .before .before .before .before .before .before .before .before .before .plan-depots .kept .1 .1 .1 .0 ∙ c .before .before .before .before .before .before .before .before .before .before .before .before .before .before .before .before .before .before .before .before .before .before .before .before .before .before .before .before .before .offers .inv .0 .marked
+-- without a stop that has moved the tables hold what was planned at first
+module _ (c : tie.Then1) where
+  still : Planned (c .before .before .before .before .before .before .before .before .before .before .before .before .before .before .before .before .before .before .before .before .before .before .before .before .before .before .before .before .before .before .before .before .before .before .before .before .before .before .before .before .before .before .before .before .before .before .before .before .before .before .before .args .sheet .now) (c .before .before .before .before .before .before .before .before .before .before .before .before .before .before .settle .last .1 .1 .1 .1 .0) (c .before .before .before .before .before .before .before .before .before .before .before .before .before .before .settle .last .1 .1 .1 .1 .1 .1 .0) (c .before .before .before .before .before .before .before .before .before .before .before .before .before .before .settle .last .1 .1 .1 .1 .1 .1 .1 .0) (c .before .before .before .before .before .before .before .before .before .before .before .before .before .before .settle .last .1 .1 .1 .1 .1 .1 .1 .1 .0) (c .before .before .before .before .before .before .before .before .before .before .before .before .before .before .before .before .before .before .before .before .before .before .before .before .before .before .before .before .before .before .before .before .plan-depots .result) (planned (c .before .before .before .before .before .before .before .before .before .before .before .before .before .before .before .before .before .before .before .before .before .before .before .before .before .before .before .before .before .before .before .before .before .before .before .before .before .before .before .before .before .before .before .before .before .before .before .before .before .before .before .args .sheet .now) (c .before .before .before .before .before .before .before .before .before .before .before .before .before .before .settle .last .1 .1 .1 .0))
+  still = planned-still (c .before .before .before .before .before .before .before .before .before .before .before .before .before .before .settle .ensures .1 (not-true _ (c .if1 .taken))) (c .before .before .before .before .before .before .before .before .before .before .before .before .before .before .before .before .before .before .before .before .before .before .before .before .before .before .before .before .before .before .before .before .plan-depots .ensures)
 
-same-length-3 : tie.Need-same-length-3 Inv-offers μ-offers
-same-length-3 c = c .before .before .before .before .before .before .before .before .before .before .before .before .before .before .before .before .before .before .before .before .before .before .plan-depots .kept .1 .1 .1 .1 .0 ∙ c .before .before .before .before .before .before .before .before .before .before .before .before .before .before .before .before .before .before .before .before .before .before .before .before .before .before .before .before .before .offers .inv .0 .manned
+lay-aside-requires : tie.Need-lay-aside-requires
+lay-aside-requires c κs = let l = lent (c .before .before .before .before .before .before .before .before .before .before .before .before .before .before .before .before .before) in
+    (record { sheet = l .sheet; rows = l .rows }, (marked (c .before .before .before .before .before .before .before .before .before .before .before .before .before .before .before .before .before), room-aside (c .before .before .before .before .before .before .before .before .before .before .before .before .before .before .before .before .before .settle .last .1 .1 .1 .0) (still (c .before .before .before)) (l .stopped)))
 
-same-length-4 : tie.Need-same-length-4 Inv-offers μ-offers
-same-length-4 c = c .before .before .lay-aside .kept .1 .1 .1 .0 ∙ c .before .before .before .before .before .before .before .before .before .before .before .before .before .before .before .before .before .before .before .before .before .before .plan-depots .kept .1 .1 .1 .1 .1 .0 ∙ c .before .before .before .before .before .before .before .before .before .before .before .before .before .before .before .before .before .before .before .before .before .before .before .before .before .before .before .before .before .offers .inv .0 .stopped
+same-length : tie.Need-same-length
+same-length c = at-long (c .before .before .before .before .before .before .before .before .before .before .before .before .before .before .before .before .before .before .before .before)
 
-same-length-5 : tie.Need-same-length-5 Inv-offers μ-offers
-same-length-5 c = c .before .before .before .before .before .before .before .before .before .before .before .before .before .before .before .before .before .before .before .before .before .before .plan-depots .kept .1 .1 .1 .1 .1 .1 .0 ∙ c .before .before .before .before .before .before .before .before .before .before .before .before .before .before .before .before .before .before .before .before .before .before .before .before .before .before .before .before .before .offers .inv .0 .ended
+same-length-2 : tie.Need-same-length-2
+same-length-2 c = search needs
 
-same-length-6 : tie.Need-same-length-6 Inv-offers μ-offers
-same-length-6 c = c .before .before .before .before .before .before .before .before .before .before .before .before .before .before .before .before .before .before .before .before .before .before .plan-depots .kept .1 .1 .1 .1 .1 .1 .1 .0 ∙ c .before .before .before .before .before .before .before .before .before .before .before .before .before .before .before .before .before .before .before .before .before .before .before .before .before .before .before .before .before .offers .inv .0 .driven
+same-length-3 : tie.Need-same-length-3
+same-length-3 c = search needs
 
-returns : tie.Need-returns Inv-offers μ-offers
+same-length-4 : tie.Need-same-length-4
+same-length-4 c = search needs
+
+same-length-5 : tie.Need-same-length-5
+same-length-5 c = search needs
+
+same-length-6 : tie.Need-same-length-6
+same-length-6 c = search needs
+
+returns : tie.Need-returns
 unfolding byDepot
-returns c = let t = c .before .before .before .before .before .before in rw (settled-at t) (gathered-held (now-at t) (planned-at t) (long t) (c .before .before .lay-aside .ensures))
+returns c = rw (sym (c .before .before .before .before .before .before .before .before .before .before .before .before .before .before .before .before .before .before .before .before .settle .ensures .0)) (gathered-held (c .before .before .before .before .before .before .before .before .before .before .before .before .before .before .before .before .before .before .before .before .settle .last .1 .1 .1 .0) (still (c .before .before .before .before .before .before)) (lent (c .before .before .before .before .before .before .before .before .before .before .before .before .before .before .before .before .before .before .before .before) .stopped) (c .before .before .lay-aside .ensures))
+
+plan-depots-requires-2 : tie.Need-plan-depots-requires-2
+plan-depots-requires-2 c κs = (lent (c .before .before .before .before .before .before .before .before .before .before .before .before .before .before .before .before .before .before .before .before), (c .before .before .before .before .before .before .before .before .before .before .before .before .before .before .before .before .before .before .before .before .before .before .before .before .before .before .before .before .before .before .before .before .before .before .before .before .before .before .before .before .before .before .before .before .before .before .before .before .before .depots .ensures, marked (c .before .before .before .before .before .before .before .before .before .before .before .before .before .before .before .before .before .before .before .before)))
+
+lay-aside-requires-2 : tie.Need-lay-aside-requires-2
+lay-aside-requires-2 c κs = let l = lent (c .before .before .before .before .before .before .before .before .before .before .before .before .before .before .before .before .before .before .before .before .before .before .before .before .before .before .before .before .before .before .before .before .before .before) in
+    let w = c .before .before .before .before .before .before .before .before .before .before .before .before .before .plan-depots2 in
+    (record { sheet = l .sheet; rows = l .rows }, (w .ensures .turned .long, room-aside (c .before .before .before .before .before .before .before .before .before .before .before .before .before .before .before .before .before .before .before .before .before .before .before .before .before .before .before .before .before .before .before .before .before .before .settle .last .1 .1 .1 .0) (w .ensures) (omega (arith, l .stopped, w .kept .1 .1 .1 .1 .1 .0))))
+
+same-length-7 : tie.Need-same-length-7
+same-length-7 c = at-long (c .before .before .before .before .before .before .before .before .before .before .before .before .before .before .before .before .before .before .before .before .before .before .before .before .before .before .before .before .before .before .before .before .before .before .before .before .before)
+
+same-length-8 : tie.Need-same-length-8
+same-length-8 c = c .before .before .before .before .before .before .before .before .before .before .before .before .before .before .before .before .plan-depots2 .kept .1 .1 .1 .0 ∙ marks-long (c .before .before .before .before .before .before .before .before .before .before .before .before .before .before .before .before .before .before .before .before .before .before .before .before .before .before .before .before .before .before .before .before .before .before .before .before .before)
+
+same-length-9 : tie.Need-same-length-9
+same-length-9 c = c .before .before .before .before .before .before .before .before .before .before .before .before .before .before .before .before .plan-depots2 .kept .1 .1 .1 .1 .0 ∙ fleet-long (c .before .before .before .before .before .before .before .before .before .before .before .before .before .before .before .before .before .before .before .before .before .before .before .before .before .before .before .before .before .before .before .before .before .before .before .before .before)
+
+same-length-10 : tie.Need-same-length-10
+same-length-10 c = c .before .before .lay-aside2 .kept .1 .1 .1 .0 ∙ c .before .before .before .before .before .before .before .before .before .before .before .before .before .before .before .before .plan-depots2 .kept .1 .1 .1 .1 .1 .0 ∙ stops-long (c .before .before .before .before .before .before .before .before .before .before .before .before .before .before .before .before .before .before .before .before .before .before .before .before .before .before .before .before .before .before .before .before .before .before .before .before .before)
+
+same-length-11 : tie.Need-same-length-11
+same-length-11 c = c .before .before .before .before .before .before .before .before .before .before .before .before .before .before .before .before .plan-depots2 .kept .1 .1 .1 .1 .1 .1 .0 ∙ ends-long (c .before .before .before .before .before .before .before .before .before .before .before .before .before .before .before .before .before .before .before .before .before .before .before .before .before .before .before .before .before .before .before .before .before .before .before .before .before)
+
+same-length-12 : tie.Need-same-length-12
+same-length-12 c = c .before .before .before .before .before .before .before .before .before .before .before .before .before .before .before .before .plan-depots2 .kept .1 .1 .1 .1 .1 .1 .1 .0 ∙ vehicles-long (c .before .before .before .before .before .before .before .before .before .before .before .before .before .before .before .before .before .before .before .before .before .before .before .before .before .before .before .before .before .before .before .before .before .before .before .before .before)
+
+returns-2 : tie.Need-returns-2
+unfolding byDepot
+returns-2 c = let w = c .before .before .before .before .before .before .before .before .before .before .before .before .before .before .before .before .plan-depots2 in
+    rw (sym (c .before .before .before .before .before .before .before .before .before .before .before .before .before .before .before .before .before .before .before .before .before .before .before .before .before .before .before .before .before .before .before .before .before .before .before .before .before .settle .ensures .0)) (gathered-held (c .before .before .before .before .before .before .before .before .before .before .before .before .before .before .before .before .before .before .before .before .before .before .before .before .before .before .before .before .before .before .before .before .before .before .before .before .before .settle .last .1 .1 .1 .0) (w .ensures) (omega (arith, lent (c .before .before .before .before .before .before .before .before .before .before .before .before .before .before .before .before .before .before .before .before .before .before .before .before .before .before .before .before .before .before .before .before .before .before .before .before .before) .stopped, w .kept .1 .1 .1 .1 .1 .0)) (c .before .before .lay-aside2 .ensures))
 
 pub by-depot-spec : {M : Type 1} → statement M
 by-depot-spec =
     tie.close
     (tie.spec
-    Inv-offers
-    μ-offers
     depots-requires
     first-at-requires
-    offers-holds
     plan-depots-requires
-    offer-requires
-    offers-less
-    offers-again
+    sub-settle
+    part-before-start
+    part-before-end
+    settle-requires
     lay-aside-requires
     same-length
     same-length-2
@@ -122,4 +159,13 @@ by-depot-spec =
     same-length-4
     same-length-5
     same-length-6
-    returns)
+    returns
+    plan-depots-requires-2
+    lay-aside-requires-2
+    same-length-7
+    same-length-8
+    same-length-9
+    same-length-10
+    same-length-11
+    same-length-12
+    returns-2)

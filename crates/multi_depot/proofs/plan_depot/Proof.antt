@@ -2,7 +2,7 @@
 use mathlib.Core.Path.{sym, _∙_}
 use borrow.Author.Needs.{needs}
 use Rattle.multi_depot.proofs.Sharing.{members-fit, none-shared, ready, shares}
-use Rattle.multi_depot.proofs.Planning.{next-there, turned-known, planned-more, planned-same}
+use Rattle.multi_depot.proofs.Planning.{turned-known, adds, adds-none}
 use Rattle.multi_depot.proofs.plan_depot.Statement.{statement}
 use Rattle.multi_depot.proofs.plan_depot.Tie as tie
 
@@ -10,8 +10,7 @@ members-of-requires : tie.Need-members-of-requires
 members-of-requires c κs =
     let a = c .before .before .before .before .before .before .before .before .args in
     let p = c .before .before .before .before .before .before .before .before .pre in
-    let next = next-there (a .at .now) (a .depot) (p .1 .0) (p .1 .1) in
-    members-fit (p .0) next
+    members-fit (p .0) (p .1 .0)
 
 same-length : tie.Need-same-length
 same-length c = search needs
@@ -21,8 +20,7 @@ returns c =
     let a = c .before .before .before .before .before .before .before .before .before .before .before .before .args in
     let p = c .before .before .before .before .before .before .before .before .before .before .before .before .pre in
     let m = c .before .before .before .members-of .ensures in
-    let next = next-there (a .at .now) (a .depot) (p .1 .0) (p .1 .1) in
-    planned-same (a .at .now) (a .depot) (p .1 .1) (none-shared (p .0) next (m .0) (m .1) (c .if1 .taken)) (c .if1 .taken)
+    adds-none (a .sheet .now) (a .at .now) (a .marks .now) (a .depot) (p .1 .1) (none-shared (p .0) (p .1 .0) (m .0) (m .1) (c .if1 .taken)) (c .if1 .taken)
 
 method-requires : tie.Need-method-requires
 method-requires c κs = search needs
@@ -32,18 +30,16 @@ by-savings-requires c κs =
     let a = c .before .before .before .before .before .before .before .before .before .before .before .before .before .before .before .before .before .before .args in
     let p = c .before .before .before .before .before .before .before .before .before .before .before .before .before .before .before .before .before .before .pre in
     let m = c .before .before .before .before .before .before .before .before .before .members-of .ensures in
-    let next = next-there (a .at .now) (a .depot) (p .1 .0) (p .1 .1) in
-    (ready (p .0) next (m .0) (m .1) (c .before .before .before .before .before .before .if1 .left), sym (c .before .before .before .before .before .method .ensures) ∙ c .before .before .before .before .if2 .taken)
+    (ready (p .0) (p .1 .0) (m .0) (m .1) (c .before .before .before .before .before .before .if1 .left), sym (c .before .before .before .before .before .method .ensures) ∙ c .before .before .before .before .if2 .taken)
 
 mark-requires : tie.Need-mark-requires
 mark-requires c κs =
     let a = c .before .before .before .before .before .before .before .before .before .before .before .before .before .before .before .before .before .before .before .before .before .before .before .before .before .before .before .before .before .args in
     let p = c .before .before .before .before .before .before .before .before .before .before .before .before .before .before .before .before .before .before .before .before .before .before .before .before .before .before .before .before .before .pre in
     let m = c .before .before .before .before .before .before .before .before .before .before .before .before .before .before .before .before .before .before .before .before .members-of .ensures in
-    let next = next-there (a .at .now) (a .depot) (p .1 .0) (p .1 .1) in
     let d = c .before .before .before .before .before .before .before .before .before .before .by-savings .ensures in
-    let share = shares (p .0) next (m .0) (m .1) (c .before .before .before .before .before .before .before .before .before .before .before .before .before .before .before .before .before .if1 .left) (d .0) (d .1) in
-    (share .within, turned-known (a .at .now) (a .depot) (p .1 .1) share)
+    let share = shares (p .0) (p .1 .0) (m .0) (m .1) (c .before .before .before .before .before .before .before .before .before .before .before .before .before .before .before .before .before .if1 .left) (d .0) (d .1) in
+    (share .within, turned-known (a .sheet .now) (a .at .now) (a .marks .now) (a .depot) (p .1 .1) share)
 
 same-length-2 : tie.Need-same-length-2
 same-length-2 c = search needs
@@ -65,28 +61,25 @@ returns-2 c =
     let a = c .before .before .before .before .before .before .before .before .before .before .before .before .before .before .before .before .before .before .before .before .before .before .before .before .before .before .before .before .before .before .before .before .args in
     let p = c .before .before .before .before .before .before .before .before .before .before .before .before .before .before .before .before .before .before .before .before .before .before .before .before .before .before .before .before .before .before .before .before .pre in
     let m = c .before .before .before .before .before .before .before .before .before .before .before .before .before .before .before .before .before .before .before .before .before .before .before .members-of .ensures in
-    let next = next-there (a .at .now) (a .depot) (p .1 .0) (p .1 .1) in
     let d = c .before .before .before .before .before .before .before .before .before .before .before .before .before .by-savings .ensures in
-    let share = shares (p .0) next (m .0) (m .1) (c .before .before .before .before .before .before .before .before .before .before .before .before .before .before .before .before .before .before .before .before .if1 .left) (d .0) (d .1) in
-    planned-more (a .at .now) (a .depot) (p .1 .1) share (c .before .before .mark .ensures)
+    let share = shares (p .0) (p .1 .0) (m .0) (m .1) (c .before .before .before .before .before .before .before .before .before .before .before .before .before .before .before .before .before .before .before .before .if1 .left) (d .0) (d .1) in
+    adds (a .sheet .now) (a .at .now) (a .marks .now) (a .depot) (p .1 .1) share (c .before .before .mark .ensures)
 
 construct-requires : tie.Need-construct-requires
 construct-requires c κs =
     let a = c .before .before .before .before .before .before .before .before .before .before .before .before .before .before .before .before .before .before .args in
     let p = c .before .before .before .before .before .before .before .before .before .before .before .before .before .before .before .before .before .before .pre in
     let m = c .before .before .before .before .before .before .before .before .before .members-of .ensures in
-    let next = next-there (a .at .now) (a .depot) (p .1 .0) (p .1 .1) in
-    (ready (p .0) next (m .0) (m .1) (c .before .before .before .before .before .before .if1 .left), λ q. c .before .before .before .before .if2 .left (c .before .before .before .before .before .method .ensures ∙ q))
+    (ready (p .0) (p .1 .0) (m .0) (m .1) (c .before .before .before .before .before .before .if1 .left), λ q. c .before .before .before .before .if2 .left (c .before .before .before .before .before .method .ensures ∙ q))
 
 mark-requires-2 : tie.Need-mark-requires-2
 mark-requires-2 c κs =
     let a = c .before .before .before .before .before .before .before .before .before .before .before .before .before .before .before .before .before .before .before .before .before .before .before .before .before .before .before .before .before .args in
     let p = c .before .before .before .before .before .before .before .before .before .before .before .before .before .before .before .before .before .before .before .before .before .before .before .before .before .before .before .before .before .pre in
     let m = c .before .before .before .before .before .before .before .before .before .before .before .before .before .before .before .before .before .before .before .before .members-of .ensures in
-    let next = next-there (a .at .now) (a .depot) (p .1 .0) (p .1 .1) in
     let d = c .before .before .before .before .before .before .before .before .before .before .construct .ensures in
-    let share = shares (p .0) next (m .0) (m .1) (c .before .before .before .before .before .before .before .before .before .before .before .before .before .before .before .before .before .if1 .left) (d .0) (d .1) in
-    (share .within, turned-known (a .at .now) (a .depot) (p .1 .1) share)
+    let share = shares (p .0) (p .1 .0) (m .0) (m .1) (c .before .before .before .before .before .before .before .before .before .before .before .before .before .before .before .before .before .if1 .left) (d .0) (d .1) in
+    (share .within, turned-known (a .sheet .now) (a .at .now) (a .marks .now) (a .depot) (p .1 .1) share)
 
 same-length-7 : tie.Need-same-length-7
 same-length-7 c = search needs
@@ -108,10 +101,9 @@ returns-3 c =
     let a = c .before .before .before .before .before .before .before .before .before .before .before .before .before .before .before .before .before .before .before .before .before .before .before .before .before .before .before .before .before .before .before .before .args in
     let p = c .before .before .before .before .before .before .before .before .before .before .before .before .before .before .before .before .before .before .before .before .before .before .before .before .before .before .before .before .before .before .before .before .pre in
     let m = c .before .before .before .before .before .before .before .before .before .before .before .before .before .before .before .before .before .before .before .before .before .before .before .members-of .ensures in
-    let next = next-there (a .at .now) (a .depot) (p .1 .0) (p .1 .1) in
     let d = c .before .before .before .before .before .before .before .before .before .before .before .before .before .construct .ensures in
-    let share = shares (p .0) next (m .0) (m .1) (c .before .before .before .before .before .before .before .before .before .before .before .before .before .before .before .before .before .before .before .before .if1 .left) (d .0) (d .1) in
-    planned-more (a .at .now) (a .depot) (p .1 .1) share (c .before .before .mark2 .ensures)
+    let share = shares (p .0) (p .1 .0) (m .0) (m .1) (c .before .before .before .before .before .before .before .before .before .before .before .before .before .before .before .before .before .before .before .before .if1 .left) (d .0) (d .1) in
+    adds (a .sheet .now) (a .at .now) (a .marks .now) (a .depot) (p .1 .1) share (c .before .before .mark2 .ensures)
 
 pub plan-depot-spec : {M : Type 1} → statement M
 plan-depot-spec =

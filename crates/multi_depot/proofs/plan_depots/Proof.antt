@@ -5,7 +5,7 @@ use native.Mathlib.Omega.{arith}
 use Rattle.sheet.specs.Depots.{depotsOf}
 use Rattle.multi_depot.specs.ByDepot.{plannedUpto}
 use Rattle.multi_depot.specs.Asked.{Planned}
-use Rattle.multi_depot.proofs.Planning.{planned-none, Kept, lent-still}
+use Rattle.multi_depot.proofs.Planning.{next-there, planned-more, planned-none, Kept, lent-still}
 use Rattle.multi_depot.proofs.plan_depots.Statement.{statement}
 use Rattle.multi_depot.proofs.plan_depots.Tie as tie
 
@@ -29,7 +29,7 @@ loop-holds c = let a = c .before .before .before .before .before .before .before
 plan-depot-requires : tie.Need-plan-depot-requires Inv-loop μ-loop
 plan-depot-requires c κs = let p = c .before .before .before .before .before .before .before .before .before .before .before .before .before .before .before .before .before .before .pre in
     let l = c .before .before .before .before .before .before .loop in
-    (lent-still (p .0) (l .inv .1 .0) (p .0 .rows), (omega (arith, p .1 .0), l .inv .1 .1))
+    (lent-still (p .0) (l .inv .1 .0) (p .0 .rows), (next-there _ (l .depot) (omega (arith, p .1 .0)) (l .inv .1 .1), l .inv .1 .1 .turned .long))
 
 add-depot : tie.Need-add-depot Inv-loop μ-loop
 add-depot c = omega arith
@@ -38,7 +38,8 @@ loop-less : tie.Need-loop-less Inv-loop μ-loop
 loop-less c = omega arith
 
 loop-again : tie.Need-loop-again Inv-loop μ-loop
-loop-again c = let k = c .before .before .before .before .before .before .before .before .before .before .before .before .before .before .before .before .before .loop .inv .1 .0 in
+loop-again c = let l = c .before .before .before .before .before .before .before .before .before .before .before .before .before .before .before .before .before .loop in
+    let k = l .inv .1 .0 in
     let w = c .before .before .before .before .before .before .before .before .before .before .plan-depot in (
       omega arith,
       (
@@ -49,7 +50,7 @@ loop-again c = let k = c .before .before .before .before .before .before .before
           ended = w .kept .1 .1 .1 .1 .1 .0 ∙ k .ended;
           driven = w .kept .1 .1 .1 .1 .1 .1 .0 ∙ k .driven;
         },
-        w .ensures,
+        planned-more _ _ (l .inv .1 .1) (w .ensures),
       ),
     )
 

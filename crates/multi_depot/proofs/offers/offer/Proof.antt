@@ -7,7 +7,8 @@ use lib.ListN.{length, getD}
 use Rattle.sheet.specs.Depots.{depots-few}
 use Rattle.multi_depot.specs.ByDepot.{planned, isIn, movesTo}
 use Rattle.multi_depot.proofs.Asking.{moves-upto}
-use Rattle.multi_depot.proofs.Moving.{Moving, turned, begins, stays, moves, moved-to, any-moved}
+use Rattle.multi_depot.specs.Marked.{turned}
+use Rattle.multi_depot.proofs.Moving.{Moving, begins, stays, moves, moved-to, any-moved}
 use Rattle.multi_depot.proofs.offers.offer.Statement.{statement}
 use Rattle.multi_depot.proofs.offers.offer.Tie as tie
 
