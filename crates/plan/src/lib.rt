@@ -179,7 +179,7 @@ fn write_aside(plan: &mut [u8], sheet: &[u8], aside: &[u16]) -> u16
 }
 
 // Where the round after the first n starts.
-fn end_of(ends: &[u16], n: usize) -> usize
+pub fn end_of(ends: &[u16], n: usize) -> usize
     requires { ⌜ n ≤ length (now ends) ⌝ }
     ensures { λ r. ⌜ r ≡ startIn (now (ends .entry)) n ⌝ }
 {

@@ -1,4 +1,6 @@
 // What a host calls.
+mod limit;
+
 ghost use mathlib.Core.Path.{_≡_};
 ghost use Prim.Native.Nat.{_-_};
 ghost use lib.ListN.{length};
@@ -8,6 +10,7 @@ ghost use Rattle.sheet.specs.Accepted.{Sized, Accepted};
 ghost use Rattle.sheet.specs.Refusal.{refusalOf};
 ghost use Rattle.planner.specs.Answer.{priced, planFor, Answered, Once, Lawful, Alone, Closed};
 ghost use Rattle.planner.specs.Tabled.{Tabled};
+ghost use Rattle.planner.specs.Limited.{LimitAnswered, LimitOnce, LimitFew, LimitStood, LimitAside};
 
 // Whether a sheet would be planned into a buffer of `plan_len` bytes: 0, or the number of the refusal.
 #[no_mangle]
@@ -106,4 +109,26 @@ pub extern "C" fn plan_rounds(sheet: &[u8], plan: &mut [u8]) -> u32
     }
     fill(sheet, plan);
     0
+}
+
+// Brings a plan down to at most `greatest` rounds: 0 and the plan out, or the number of the refusal and every byte of
+// `plan_out` as it was.
+#[no_mangle]
+pub extern "C" fn limit_rounds(
+    sheet: &[u8],
+    plan_in: &[u8],
+    greatest: u32,
+    plan_out: &mut [u8],
+) -> u32
+    ensures { λ r. ⌜ LimitAnswered (now (sheet .entry)) (now («plan_in» .entry)) greatest (now («plan_out» .entry)) r (now («plan_out» .exit)) ⌝ }
+    ensures { λ r. ⌜ LimitOnce (now (sheet .entry)) r (now («plan_out» .exit)) ⌝ }
+    ensures { λ r. ⌜ LimitFew (now (sheet .entry)) greatest r (now («plan_out» .exit)) ⌝ }
+    ensures { λ r. ⌜ LimitStood (now (sheet .entry)) (now («plan_in» .entry)) r (now («plan_out» .exit)) ⌝ }
+    ensures { λ r. ⌜ LimitAside (now (sheet .entry)) (now («plan_in» .entry)) r (now («plan_out» .exit)) ⌝ }
+{
+    let told = limit::unread_refusal(sheet, plan_in.len(), plan_out.len());
+    if told != 0 {
+        return told;
+    }
+    limit::limit(sheet, plan_in, greatest, plan_out)
 }

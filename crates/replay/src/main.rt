@@ -7,11 +7,6 @@ use libc::STDOUT_FILENO;
 // One byte more than the longest sheet, so that a sample can hold a sheet that is too long.
 const ROOM: usize = 169_233;
 
-fn stop_at_cut() -> bool {
-    io::write_all(STDOUT_FILENO, b"cut\n");
-    false
-}
-
 fn print_line(n: u64) -> bool {
     io::print_decimal(STDOUT_FILENO, n) && io::write_all(STDOUT_FILENO, b"\n")
 }
@@ -20,7 +15,7 @@ fn print_line(n: u64) -> bool {
 fn replay_sheet(sheet: &mut [u8], plan_len: usize) -> bool {
     let n = io::read_full(STDIN_FILENO, sheet);
     if n < sheet.len() {
-        return stop_at_cut();
+        return replaying::stop_at_cut();
     }
     print_line(refusal::refusal(sheet, plan_len) as u64)
 }
@@ -33,7 +28,7 @@ fn replay_record() -> bool {
         return false;
     }
     if got < 8 {
-        return stop_at_cut();
+        return replaying::stop_at_cut();
     }
     let sheet_len = wire::u32_at(&lengths, 0) as usize;
     let plan_len = wire::u32_at(&lengths, 4) as usize;
@@ -41,7 +36,7 @@ fn replay_record() -> bool {
     // As much of the sheet as room holds.
     let n = io::count(sheet_len as isize, &room);
     if n < sheet_len {
-        return stop_at_cut();
+        return replaying::stop_at_cut();
     }
     replay_sheet(&mut room[..n], plan_len)
 }

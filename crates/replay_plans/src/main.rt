@@ -3,42 +3,21 @@
 // sheet's bytes. A record that is cut short, or whose sheet or plan is too long, ends the run with
 // `cut`.
 use libc::STDIN_FILENO;
-use libc::STDOUT_FILENO;
 
 // The most bytes of a sheet, and of a plan: no sample has more.
 const ROOM: usize = 8192;
-
-fn stop_at_cut() -> bool {
-    io::write_all(STDOUT_FILENO, b"cut\n");
-    false
-}
-
-fn print_bytes(bytes: &[u8]) -> bool {
-    for i in 0..bytes.len() {
-        if !io::print_hex(STDOUT_FILENO, bytes[i] as u64, 2) {
-            return false;
-        }
-    }
-    io::write_all(STDOUT_FILENO, b"\n")
-}
-
-fn print_refused(number: u32) -> bool {
-    io::write_all(STDOUT_FILENO, b"refused ")
-        && io::print_decimal(STDOUT_FILENO, number as u64)
-        && io::write_all(STDOUT_FILENO, b"\n")
-}
 
 // Reads a record's sheet, after its two lengths, and prints its answer.
 fn replay_sheet(sheet: &mut [u8], plan: &mut [u8]) -> bool {
     let n = io::read_full(STDIN_FILENO, sheet);
     if n < sheet.len() {
-        return stop_at_cut();
+        return replaying::stop_at_cut();
     }
     let number = planner::plan_rounds(sheet, plan);
     if number != 0 {
-        return print_refused(number);
+        return replaying::print_refused(number);
     }
-    print_bytes(plan)
+    replaying::print_bytes(plan)
 }
 
 // Replays one record, with room for its sheet and its plan, and answers whether to go on.
@@ -49,15 +28,15 @@ fn replay_record(sheet: &mut [u8], plan: &mut [u8]) -> bool {
         return false;
     }
     if got < 8 {
-        return stop_at_cut();
+        return replaying::stop_at_cut();
     }
     let sheet_len = wire::u32_at(&lengths, 0) as usize;
     let plan_len = wire::u32_at(&lengths, 4) as usize;
     if sheet.len() < sheet_len {
-        return stop_at_cut();
+        return replaying::stop_at_cut();
     }
     if plan.len() < plan_len {
-        return stop_at_cut();
+        return replaying::stop_at_cut();
     }
     replay_sheet(&mut sheet[..sheet_len], &mut plan[..plan_len])
 }

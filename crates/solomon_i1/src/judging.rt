@@ -9,10 +9,11 @@ use sheet::matrix;
 ghost use mathlib.Core.Path.{_≡_};
 ghost use mathlib.Core.Bool.{false};
 ghost use mathlib.Core.List.{[], _∷_};
-ghost use Prim.Native.Nat.{suc, _+_, _≤_, _<_};
+ghost use Prim.Native.Nat.{ℕ, suc, _+_, _≤_, _<_};
 ghost use lib.ListN.{length, getD};
 ghost use Rattle.sheet.specs.Fields.{rowsOf};
 ghost use Rattle.evaluation.specs.Routed.{Routed};
+ghost use Rattle.plan.specs.Every.{loadOf};
 ghost use Rattle.solomon_i1.specs.declared.choice.Choice.the-variants.{Nowhere};
 ghost use Rattle.solomon_i1.specs.Insertion.{prevAt, nextAt, detour, judge, better, tryPlaces, tryStop, tryStops, bestOf};
 ghost use Rattle.solomon_i1.specs.Trial.{Trial, Joinable, softCost, figuresOf, aloneCost, pricesOf, judgeTrial};
@@ -58,7 +59,7 @@ fn behind_at(depot: usize, route: &[u16], k: usize) -> usize
 }
 
 // The way past the stop, less the leg that it breaks.
-fn detour(sheet: &[u8], depot: usize, route: &[u16], row: usize, k: usize) -> f64
+pub fn detour(sheet: &[u8], depot: usize, route: &[u16], row: usize, k: usize) -> f64
     requires { ⌜ Routed (now sheet) depot (now route) ⌝ }
     requires { ⌜ (row < rowsOf (now sheet)) × (k ≤ length (now route)) ⌝ }
     ensures { λ r. ⌜ r ≡ detour (now (sheet .entry)) depot (now (route .entry)) row k ⌝ }
@@ -70,7 +71,7 @@ fn detour(sheet: &[u8], depot: usize, route: &[u16], row: usize, k: usize) -> f6
 }
 
 // What a round costs, which only the soft rules ask.
-fn soft_cost(sheet: &[u8], terms: Terms, route: &[u16]) -> f64
+pub fn soft_cost(sheet: &[u8], terms: Terms, route: &[u16]) -> f64
     requires { ⌜ Routed (now sheet) (terms .depot) (now route) ⌝ }
     ensures { λ r. ⌜ r ≡ softCost (now (sheet .entry)) terms (now (route .entry)) ⌝ }
 {
@@ -81,15 +82,24 @@ fn soft_cost(sheet: &[u8], terms: Terms, route: &[u16]) -> f64
     evaluation::effective_cost(sheet, route, terms.depot, limits)
 }
 
+// What its stops ask of a vehicle.
+pub fn load_of(sheet: &[u8], route: &[u16]) -> u32
+    requires { ⌜ ((depot : ℕ) × Routed (now sheet) depot (now route)) ⌝ }
+    ensures { λ r. ⌜ r ≡ loadOf (now (sheet .entry)) (now (route .entry)) ⌝ }
+{
+    let mut load: u32 = 0;
+    for i in 0..route.len() {
+        load = load + customer::demand(sheet, route[i] as usize);
+    }
+    load
+}
+
 fn figures_of(sheet: &[u8], terms: Terms, route: &[u16]) -> Figures
     requires { ⌜ Routed (now sheet) (terms .depot) (now route) ⌝ }
     ensures { λ r. ⌜ r ≡ figuresOf (now (sheet .entry)) terms (now (route .entry)) ⌝ }
 {
     let cost = soft_cost(sheet, terms, route);
-    let mut load: u32 = 0;
-    for i in 0..route.len() {
-        load = load + customer::demand(sheet, route[i] as usize);
-    }
+    let load = load_of(sheet, route);
     Figures { load, cost }
 }
 
@@ -207,7 +217,7 @@ fn rebuilt(tried: Tried) -> Tried
 }
 
 // From before the first stop to after the last.
-fn try_places(
+pub fn try_places(
     sheet: &[u8],
     terms: Terms,
     prices: Prices,

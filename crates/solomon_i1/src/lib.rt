@@ -1,9 +1,9 @@
 // Insertion: the farthest stop opens a round, and the cheapest insertion joins it until none is left.
 pub mod choice;
 mod growing;
-mod judging;
+pub mod judging;
 mod seed;
-mod trial;
+pub mod trial;
 
 use plan::tables::Filled;
 use plan::terms;

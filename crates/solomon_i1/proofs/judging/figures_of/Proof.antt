@@ -1,63 +1,15 @@
 -- `solomon_i1::judging::figures_of` meets its contract. Assumes nothing.
-use Prim.Native.Nat.{_-_}
-use native.Mathlib.Omega.{arith}
-use Rattle.solomon_i1.proofs.Choosing.{Loading, loading, loads, loaded}
 use Rattle.solomon_i1.proofs.judging.figures_of.Statement.{statement}
 use Rattle.solomon_i1.proofs.judging.figures_of.Tie as tie
 
-abbrev Inv-loop : tie.InvT-loop
-Inv-loop sheet route cost load₀ i₀ i-end load i = Loading sheet route load i i-end
-
-abbrev μ-loop : tie.MeasureT-loop
-μ-loop sheet route cost load₀ i₀ i-end load i = i-end - i
-
-soft-cost-requires : tie.Need-soft-cost-requires Inv-loop μ-loop
+soft-cost-requires : tie.Need-soft-cost-requires
 soft-cost-requires c κs = c .before .before .pre
 
-loop-holds : tie.Need-loop-holds Inv-loop μ-loop
-loop-holds c = let o = c .before .before .before in loading (o .args .sheet .now) (o .args .route .now)
+load-of-requires : tie.Need-load-of-requires
+load-of-requires c κs = (_, c .before .before .before .pre)
 
-mul-demand : tie.Need-mul-demand Inv-loop μ-loop
-mul-demand c = omega arith
-
-shared-slice-read-demand : tie.Need-shared-slice-read-demand Inv-loop μ-loop
-shared-slice-read-demand c = omega (arith, c .before .before .loop .inv .last)
-
-cast-demand : tie.Need-cast-demand Inv-loop μ-loop
-cast-demand c = omega (arith, c .shared-slice-known3 .given (c .before .before .loop .i))
-
-demand-requires : tie.Need-demand-requires Inv-loop μ-loop
-demand-requires c κs = let o = c .before .before .before .before .before .before in (o .pre .sheet, o .pre .row (c .before .before .loop .i) (omega (arith, c .before .before .loop .inv .last)))
-
-add-load : tie.Need-add-load Inv-loop μ-loop
-add-load c = let o = c .before .before .before .before .before .before .before in let g = loads _ _ _ _ _ (c .before .before .before .loop .inv) _ _ (o .pre) (c .before .before .loop-test .taken) (c .demand .ensures) in omega (arith, g .few, g .within, g .last, o .pre .few)
-
-add-i : tie.Need-add-i Inv-loop μ-loop
-add-i c = omega arith
-
-loop-less : tie.Need-loop-less Inv-loop μ-loop
-loop-less c = omega arith
-
-loop-again : tie.Need-loop-again Inv-loop μ-loop
-loop-again c = loads _ _ _ _ _ (c .before .before .before .loop .inv) _ _ (c .before .before .before .before .before .before .before .pre) (c .before .before .loop-test .taken) (c .demand .ensures)
-
-returns : tie.Need-returns Inv-loop μ-loop
-returns c = rw (c .before .before .soft-cost .ensures, loaded _ _ _ _ _ (c .before .loop .inv) (c .loop-test .left))
+returns : tie.Need-returns
+returns c = rw (c .before .soft-cost .ensures, c .load-of .ensures)
 
 pub figures-of-spec : {M : Type 1} → statement M
-figures-of-spec =
-    tie.close
-    (tie.spec
-    Inv-loop
-    μ-loop
-    soft-cost-requires
-    loop-holds
-    mul-demand
-    shared-slice-read-demand
-    cast-demand
-    demand-requires
-    add-load
-    add-i
-    loop-less
-    loop-again
-    returns)
+figures-of-spec = tie.close (tie.spec soft-cost-requires load-of-requires returns)

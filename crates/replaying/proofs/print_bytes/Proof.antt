@@ -1,11 +1,11 @@
--- `replay_plans::print_bytes` meets its contract. Assumes nothing.
+-- `replaying::print_bytes` meets its contract. Assumes nothing.
 use mathlib.Core.Path.{_≡_, refl}
 use Prim.Native.Nat.{_-_}
 use native.Mathlib.Omega.{arith}
 use lib.ListN.{length}
 use borrow.Author.Needs.{needs}
-use Rattle.replay_plans.proofs.print_bytes.Statement.{statement}
-use Rattle.replay_plans.proofs.print_bytes.Tie as tie
+use Rattle.replaying.proofs.print_bytes.Statement.{statement}
+use Rattle.replaying.proofs.print_bytes.Tie as tie
 
 abbrev Inv-loop : tie.InvT-loop
 Inv-loop bytes i₀ t3 i-end i = i-end ≡ length bytes

@@ -1,0 +1,5 @@
+pub mod Priced
+pub mod Judged
+pub mod Rounds
+pub mod Pending
+pub mod Unwon

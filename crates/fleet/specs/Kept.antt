@@ -1,0 +1,65 @@
+-- Every round that the limiter leaves stands as it stood, or keeps capacity and is feasible, on every sheet. Assumes nothing.
+use mathlib.Core.Path.{_≡_, refl}
+use Prim.Native.Nat.{ℕ, zero, suc, _+_, _<_}
+use native.Mathlib.Omega.{arith}
+use mathlib.Core.Bool.{Bool, not, _||_}
+use mathlib.Core.List.{List, [], _∷_}
+use lib.Dec.{T, leb→le}
+use lib.Ieee.Fits.{and-l}
+use lib.ListN.{length, getD, take, drop}
+use Rattle.sheet.specs.Values.{demandOf, vehicleOf}
+use Rattle.plan.specs.Outcome.{Round, Outcome}
+use Rattle.plan.specs.Every.{Every, every-of, every-append, every-take, every-drop, loadOf, Feasible}
+use Rattle.plan.specs.Moved.{inserted, inserted-load, inserted-length}
+use Rattle.solomon_i1.specs.Later.{roundAt}
+use Rattle.fleet.specs.Cheapest.{passes, loads, takes}
+use Rattle.fleet.specs.Limit.{victimOf, putIn, Refit, dropped, dropRound, softIn, limitRoutes}
+use Rattle.fleet.specs.Steps.{refit-on-kept, limit-on-kept}
+
+-- a round with a stop more, before its k-th
+abbrev pub withStop : ℕ → ℕ → Round → Round
+withStop k row r = record { vehicle = r .vehicle; stops = inserted k row (r .stops) }
+
+-- ---- what a round keeps when it takes a stop, every round keeps
+put-every : (P : Round → Type 0) (i k row : ℕ) (rs : List Round) → i < length rs → (P (roundAt rs i) → P (withStop k row (roundAt rs i))) → Every P rs → Every P (putIn i k row rs)
+unfolding putIn
+put-every P i k row [] h f e = tt
+put-every P zero k row (r ∷ rs) h f e = (f (e .0), e .1)
+put-every P (suc i) k row (r ∷ rs) h f e = (e .0, put-every P i k row rs (omega arith) f (e .1))
+
+module _ (s : List ℕ) (soft : Bool) (P : Round → Type 0) where
+  abbrev pub Takes : Type 0
+  Takes = (r : Round) (row k : ℕ) → T (takes s soft (r .vehicle) (r .stops) row) → T (passes s (r .vehicle) (inserted k row (r .stops))) → P r → P (withStop k row r)
+
+  drop-every : Takes → (o : Outcome) → Every P (o .rounds) → Every P (dropRound s soft o .rounds)
+  unfolding dropRound
+  drop-every f o e =
+      let i = victimOf s (o .rounds) .round in
+      let x = dropped s (o .rounds) in
+      refit-on-kept s soft (λ (y : Refit). Every P (y .rounds))
+      (λ y j i k h p u. put-every P i k (getD (y .pending) j 0) (y .rounds) (p .round) (f (roundAt (y .rounds) i) (getD (y .pending) j 0) k (p .taken) (p .passed)) u)
+      (length (x .pending)) x
+      (every-append P (take i (o .rounds)) (drop (i + 1) (o .rounds)) (every-take P i (o .rounds) e) (every-drop P (i + 1) (o .rounds) e))
+
+pub limit-every : (s : List ℕ) (greatest : ℕ) (o : Outcome) (P : Round → Type 0) → Takes s (softIn s o) P → Every P (o .rounds) → Every P (limitRoutes s greatest o .rounds)
+unfolding limitRoutes
+limit-every s greatest o P f e = limit-on-kept s (softIn s o) greatest (λ (q : Outcome). Every P (q .rounds)) (λ q h u. drop-every s (softIn s o) P f q u) (length (o .rounds)) o e
+
+-- ---- the limiter
+-- a round as it stood before, or one that took a stop
+pub data Stood (s : List ℕ) (before : List Round) (r : Round) : Type 0 where
+  untouched : (i : ℕ) → i < length before → r ≡ roundAt before i → Stood s before r
+  refitted : Feasible s 0 r → Stood s before r
+
+stood-takes : (s : List ℕ) (soft : Bool) (before : List Round) → Takes s soft (Stood s before)
+unfolding takes
+stood-takes s soft before r row k t p u =
+    let fits = leb→le (loadOf s (r .stops) + demandOf s row) (vehicleOf s (r .vehicle) .capacity) (and-l (loads s (r .vehicle) (r .stops) row) (not soft || passes s (r .vehicle) (r .stops)) t) in
+    refitted (record {
+      carried = record { some = omega (arith, inserted-length k row (r .stops)); capacity = omega (arith, fits, inserted-load k row (r .stops) s) };
+      feasible = p;
+    })
+
+pub limit-kept : (s : List ℕ) (greatest : ℕ) (o : Outcome) → Every (Stood s (o .rounds)) (limitRoutes s greatest o .rounds)
+limit-kept s greatest o =
+    limit-every s greatest o (Stood s (o .rounds)) (stood-takes s (softIn s o) (o .rounds)) (every-of (Stood s (o .rounds)) (record { vehicle = 0; stops = [] }) (o .rounds) (λ i h. untouched i h refl))

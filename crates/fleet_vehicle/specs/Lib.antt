@@ -1,0 +1,3 @@
+pub mod Find
+pub mod Indexed
+pub mod Cases

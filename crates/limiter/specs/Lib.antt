@@ -1,0 +1,2 @@
+pub mod Limitable
+pub mod Asked
