@@ -86,7 +86,8 @@ extern "C" {
  *   offset  type     field
  *        0  u32      its vehicle's id
  *        4  i32      load
- *        8  u16      first stop
+ *        8  u16      first stop; 0 is an empty round, which only limit_rounds
+ *                    reads or writes
  *       10  u16      place of the rest: before that stop, 1 is before the first;
  *                    0 is no rest
  *       12  u32      zero
@@ -161,8 +162,9 @@ enum {
      + (size_t)PLANNER_PLAN_ROW_BYTES * (size_t)(rows))
 
 /*
- * Why a sheet is turned back. The conditions are tested in this order, rows,
+ * Why a call is turned back. The conditions are tested in this order, rows,
  * matrix entries and vehicles ascending, and the first that holds is the answer.
+ * The last two are limit_rounds' alone.
  */
 enum planner_refusal {
     /* No condition holds. */
@@ -174,7 +176,7 @@ enum planner_refusal {
     PLANNER_TOO_MANY = 2,
     /* Method above 4. */
     PLANNER_BAD_METHOD = 3,
-    /* Sheet or plan not of its exact length. */
+    /* Sheet or a plan not of its exact length. */
     PLANNER_BAD_LENGTH = 4,
     /* Field or mark of a row out of range, or an unmarked field not zero. */
     PLANNER_BAD_ROW = 5,
@@ -184,7 +186,13 @@ enum planner_refusal {
        zero, or an id twice. */
     PLANNER_BAD_VEHICLE = 7,
     /* No vehicle, for savings, insertion or sweep. */
-    PLANNER_NO_VEHICLE = 8
+    PLANNER_NO_VEHICLE = 8,
+    /* The sheet has several depots. */
+    PLANNER_SEVERAL_DEPOTS = 9,
+    /* The plan in has more rounds than the sheet has rows, a round whose id is
+       no vehicle's, a link to no stop, or a stop that does not stand exactly
+       once in all its chains. */
+    PLANNER_BAD_PLAN = 10
 };
 
 /*
@@ -219,6 +227,50 @@ uint32_t check_sheet(const uint8_t *sheet, size_t sheet_len, size_t plan_len);
  * its own. No other thread may touch the plan, or write the sheet, during the call.
  */
 uint32_t plan_rounds(const uint8_t *sheet, size_t sheet_len, uint8_t *plan, size_t plan_len);
+
+/*
+ * Brings a plan within a number of rounds. While there are more, the round of the
+ * least load is dropped, of several such the one of fewest stops, of those the
+ * first. Its stops go, the cheapest first, to the rounds that stay, each at the
+ * cheapest place that keeps its vehicle's capacity, limits and rest and all hard
+ * windows; what a place costs is the detour, and with soft windows the lateness
+ * too. A stop that fits nowhere is set aside. A round that takes no stop stays as it
+ * was, whatever it breaks.
+ *
+ * PLANNER_ACCEPTED, and the plan out fills its buffer, with the figures of every
+ * round; or the first refusal of enum planner_refusal that holds, and every byte of
+ * the buffer is as it was. Every byte string of every length has an answer, and the
+ * same call the same one. Every stop stands once in the plan out, and there are at
+ * most `greatest` rounds. Stops that the plan in sets aside stay so; the chain of
+ * those set aside comes out ascending.
+ *
+ *   sheet, sheet_len    as for check_sheet; of any method, with one depot
+ *   plan_in             the plan's bytes, not NULL: a plan of plan_rounds', of this
+ *                       function's, or made up. What is read of it: the number of
+ *                       rounds, the ids and first stops of so many records, the
+ *                       first stop set aside, and each stop's next. No figure is
+ *                       read, and none of the other bytes needs to be zero. Rounds
+ *                       may be empty, over capacity or late, and several may have
+ *                       one vehicle
+ *   plan_in_len         how many bytes are lent: no other byte is read.
+ *                       PLANNER_PLAN_BYTES(rows) is the only length accepted
+ *   greatest            the most rounds of the plan out, any number; with 0 every
+ *                       stop is set aside
+ *   plan_out            where the plan goes, not NULL
+ *   plan_out_len        how many bytes are lent: no other byte is written.
+ *                       PLANNER_PLAN_BYTES(rows) is the only length accepted
+ *
+ * plan_out must overlap neither plan_in nor the sheet: a plan can't be limited in
+ * place. Lend a second buffer, and copy.
+ *
+ * It allocates nothing, keeps no state, calls nothing outside the archive, and
+ * always returns; several threads may call it at once, each with a plan out of its
+ * own. No other thread may touch the plan out, or write the sheet or the plan in,
+ * during the call.
+ */
+uint32_t limit_rounds(const uint8_t *sheet, size_t sheet_len,
+                      const uint8_t *plan_in, size_t plan_in_len, uint32_t greatest,
+                      uint8_t *plan_out, size_t plan_out_len);
 
 #ifdef __cplusplus
 }

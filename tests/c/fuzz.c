@@ -1,14 +1,17 @@
 /*
- * Fuzzes the planner by mutations that know the sheet's form.
+ * Fuzzes the planner and the limiter by mutations that know the form of sheets and plans.
  *
  *   fuzz SECONDS [SEED]              mutates for so long
  *   fuzz replay FILE [PLAN_BYTES]    asks a kept sheet again
+ *   fuzz limit SHEET PLAN GREATEST [PLAN_OUT_BYTES]    asks the limiter again
  *
  * Sheets are drawn, mutated field by field according to what a field is, cut, spliced
  * and fitted to their own plans. A sheet that shows something new joins the corpus from
- * which the next ones are taken. Every sheet is lent as lend.h says; a plan is held to
- * plan_check.h. A fault's sheet is kept in the file fuzz-fault.sheet, and the exit
- * status is 1.
+ * which the next ones are taken. After each sheet the limiter is asked with a plan in
+ * for it: its own, or one that is dealt, and mutated. Every call is lent as lend.h says;
+ * a plan is held to plan_check.h, and whether a plan in is taken too. A fault's sheet is
+ * kept in the file fuzz-fault.sheet, and the limiter's plan in in fuzz-fault.plan; the
+ * exit status is 1.
  */
 #define _GNU_SOURCE
 #include <stdint.h>
@@ -17,12 +20,12 @@
 #include <sys/time.h>
 #include <time.h>
 
-#include "mutate.h"
+#include "mutate_plan.h"
 
 enum { MOST_KEPT = 4096, MOST_KEPT_BYTES = 1 << 26, SIGNALS = 1 << 16 };
 /* No call takes so long, by the processor's time. */
 enum { PATIENCE_SECONDS = 20 };
-static const char FAULT_FILE[] = "fuzz-fault.sheet";
+static const char FAULT_FILE[] = "fuzz-fault.sheet", FAULT_PLAN[] = "fuzz-fault.plan";
 
 struct kept {
     uint8_t *bytes;
@@ -35,22 +38,36 @@ struct corpus {
     size_t bytes;
 };
 
-/* The sheet that is asked, and another one. */
+/* The sheet that is asked, and another one; the plan in, and whether the limiter is asked. */
 static struct sheet asked, spare;
-static uint8_t plan[MOST_PLAN];
+static struct plan_in plan_in;
+static int limiting;
+static uint8_t plan[MOST_PLAN], plan_out[MOST_PLAN];
 static struct corpus accepted, refused;
 static uint8_t signals[SIGNALS];
 static unsigned signal_count;
 static unsigned long sheets, answers[PLANNER_NO_VEHICLE + 1], planned[PLANNER_SWEEP + 1];
+static unsigned long limits, limit_answers[PLANNER_BAD_PLAN + 1], dropped;
+
+static void keep_fault(const char *name, const uint8_t *bytes, size_t len)
+{
+    FILE *file = fopen(name, "wb");
+    if (file == NULL || fwrite(bytes, 1, len, file) != len || fclose(file) != 0)
+        fprintf(stderr, "fuzz: %s was not written\n", name);
+}
 
 static void end(const char *what)
 {
-    FILE *file = fopen(FAULT_FILE, "wb");
-    fprintf(stderr, "fuzz: %s: a sheet of %zu bytes, a plan of %zu\n", what, asked.len, asked.plan_len);
-    if (file == NULL || fwrite(asked.bytes, 1, asked.len, file) != asked.len || fclose(file) != 0)
-        fprintf(stderr, "fuzz: the sheet was not written to %s\n", FAULT_FILE);
-    else
-        fprintf(stderr, "fuzz: again with: fuzz replay %s %zu\n", FAULT_FILE, asked.plan_len);
+    size_t plan_len = limiting ? plan_in.len : asked.plan_len;
+    fprintf(stderr, "fuzz: %s: a sheet of %zu bytes, a plan of %zu\n", what, asked.len, plan_len);
+    keep_fault(FAULT_FILE, asked.bytes, asked.len);
+    if (limiting) {
+        keep_fault(FAULT_PLAN, plan_in.bytes, plan_in.len);
+        fprintf(stderr, "fuzz: again with: fuzz limit %s %s %u %zu\n", FAULT_FILE, FAULT_PLAN,
+                (unsigned)plan_in.greatest, plan_in.plan_out_len);
+    } else {
+        fprintf(stderr, "fuzz: again with: fuzz replay %s %zu\n", FAULT_FILE, plan_len);
+    }
     exit(1);
 }
 
@@ -198,6 +215,61 @@ static int ask(struct sheet *s, struct reading *r)
     return 1;
 }
 
+/* The limiter's answer by the check of the sheet and by the plan in's chains. */
+static uint32_t expected_answer(struct sheet *s, const struct plan_in *p, struct reading *r)
+{
+    size_t wrong = p->len != plan_len_of(s->bytes, s->len) ? p->len : p->plan_out_len;
+    uint32_t answer = check_sheet(s->bytes, s->len, wrong);
+    if (answer != PLANNER_ACCEPTED)
+        return answer;
+    if (depots_of(s->bytes) > 1)
+        return PLANNER_SEVERAL_DEPOTS;
+    return plan_in_is_good(r, s->bytes, (uint8_t *)p->bytes) ? PLANNER_ACCEPTED : PLANNER_BAD_PLAN;
+}
+
+/* Whether a plan out shows something new. */
+static int limited_is_new(const struct reading *r)
+{
+    unsigned before = (unsigned)get(r->plan_in + AT_ROUNDS, 2), after = (unsigned)get(r->plan + AT_ROUNDS, 2);
+    int found = is_new(11, size_class(before) << 16 | size_class(after) << 8 | size_class(r->aside));
+    found |= is_new(12, size_class(before - after) << 16 | incidents(r, after));
+    if (r->rows < 12)
+        found |= is_new(13, links_class(r));
+    return found;
+}
+
+static void ask_to_limit(struct sheet *s, const struct plan_in *p)
+{
+    static struct reading r;
+    struct limiting l = {s->bytes, p->bytes, s->len, p->len, p->plan_out_len, p->greatest};
+    limits++;
+    uint32_t answer = ask_limiter(l, plan_out);
+    limit_answers[answer]++;
+    if (answer != expected_answer(s, p, &r))
+        end("another answer of the limiter's than its sheet and plan in ask for");
+    if (answer != PLANNER_ACCEPTED)
+        return;
+    const char *fault = limit_fault(&r, s->bytes, (uint8_t *)p->bytes, p->greatest, plan_out);
+    if (fault != NULL) {
+        fprintf(stderr, "fuzz: %s\n", fault);
+        end("the plan out is wrong");
+    }
+    dropped += get(p->bytes + AT_ROUNDS, 2) > p->greatest;
+    if (limited_is_new(&r))
+        keep(&accepted, s);
+}
+
+/* The limiter on the sheet that was asked last. */
+static void limit_asked(struct sheet *s, int was_planned)
+{
+    if (!laid_out(s) || rows_in(s) > PLANNER_MOST_ROWS)
+        return;
+    limiting = 1;
+    make_plan_in(&plan_in, s, was_planned ? plan : NULL);
+    ask_to_limit(s, &plan_in);
+    limiting = 0;
+}
+
 static void splice(struct sheet *s)
 {
     take(&spare);
@@ -251,23 +323,34 @@ static void run(double seconds, unsigned long seed)
     do {
         make_next(&asked, was_planned && one_in(3), &r);
         was_planned = ask(&asked, &r);
+        limit_asked(&asked, was_planned);
         clock_gettime(CLOCK_MONOTONIC, &now);
     } while ((double)(now.tv_sec - began.tv_sec) + 1e-9 * (double)(now.tv_nsec - began.tv_nsec) < seconds);
+}
+
+static size_t read_file(const char *name, uint8_t *bytes, size_t most)
+{
+    FILE *file = fopen(name, "rb");
+    if (file == NULL) {
+        perror(name);
+        exit(2);
+    }
+    size_t len = fread(bytes, 1, most, file);
+    fclose(file);
+    return len;
+}
+
+static size_t plan_bytes(const char *word)
+{
+    size_t len = strtoul(word, NULL, 10);
+    return len < MOST_PLAN ? len : MOST_PLAN;
 }
 
 static int replay(const char *name, const char *plan_len)
 {
     static struct reading r;
-    FILE *file = fopen(name, "rb");
-    if (file == NULL) {
-        perror(name);
-        return 2;
-    }
-    asked.len = fread(asked.bytes, 1, MOST_SHEET, file);
-    fclose(file);
-    asked.plan_len = plan_len != NULL ? strtoul(plan_len, NULL, 10) : plan_len_of(asked.bytes, asked.len);
-    if (asked.plan_len > MOST_PLAN)
-        asked.plan_len = MOST_PLAN;
+    asked.len = read_file(name, asked.bytes, MOST_SHEET);
+    asked.plan_len = plan_len != NULL ? plan_bytes(plan_len) : plan_len_of(asked.bytes, asked.len);
     ask(&asked, &r);
     for (uint32_t answer = 0; answer <= PLANNER_NO_VEHICLE; answer++)
         if (answers[answer] > 0)
@@ -275,18 +358,38 @@ static int replay(const char *name, const char *plan_len)
     return 0;
 }
 
+static int replay_limit(const char *sheet, const char *plan_name, const char *greatest, const char *out_len)
+{
+    asked.len = read_file(sheet, asked.bytes, MOST_SHEET);
+    plan_in.len = read_file(plan_name, plan_in.bytes, MOST_PLAN);
+    plan_in.greatest = (uint32_t)strtoul(greatest, NULL, 10);
+    plan_in.plan_out_len = out_len != NULL ? plan_bytes(out_len) : plan_len_of(asked.bytes, asked.len);
+    limiting = 1;
+    ask_to_limit(&asked, &plan_in);
+    for (uint32_t answer = 0; answer <= PLANNER_BAD_PLAN; answer++)
+        if (limit_answers[answer] > 0)
+            printf("fuzz: answer %u\n", (unsigned)answer);
+    return 0;
+}
+
+static void print_counts(const char *what, const unsigned long *counts, unsigned last)
+{
+    printf("fuzz: %s", what);
+    for (unsigned i = 0; i <= last; i++)
+        printf(" %u: %lu%s", i, counts[i], i < last ? "," : "\n");
+}
+
 static int report(void)
 {
-    printf("fuzz: %lu sheets, %lu calls\nfuzz: answers", sheets, calls);
-    for (unsigned i = 0; i <= PLANNER_NO_VEHICLE; i++)
-        printf(" %u: %lu%s", i, answers[i], i < PLANNER_NO_VEHICLE ? "," : "\n");
-    printf("fuzz: planned by method");
-    for (unsigned i = 0; i <= PLANNER_SWEEP; i++)
-        printf(" %u: %lu%s", i, planned[i], i < PLANNER_SWEEP ? "," : "\n");
+    printf("fuzz: %lu sheets and %lu plans in, %lu calls\n", sheets, limits, calls);
+    print_counts("answers", answers, PLANNER_NO_VEHICLE);
+    print_counts("planned by method", planned, PLANNER_SWEEP);
+    print_counts("answers of the limiter", limit_answers, PLANNER_BAD_PLAN);
+    printf("fuzz: %lu plans out with fewer rounds\n", dropped);
     printf("fuzz: corpus of %u sheets planned and %u refused, %u signals\n", accepted.count, refused.count, signal_count);
-    if (answers[PLANNER_ACCEPTED] == 0)
-        fprintf(stderr, "fuzz: nothing was planned\n");
-    return answers[PLANNER_ACCEPTED] == 0;
+    if (answers[PLANNER_ACCEPTED] == 0 || dropped == 0)
+        fprintf(stderr, "fuzz: nothing was planned, or nothing limited\n");
+    return answers[PLANNER_ACCEPTED] == 0 || dropped == 0;
 }
 
 int main(int argc, char **argv)
@@ -294,10 +397,13 @@ int main(int argc, char **argv)
     open_places();
     if (argc > 2 && strcmp(argv[1], "replay") == 0)
         return replay(argv[2], argc > 3 ? argv[3] : NULL);
+    if (argc > 4 && strcmp(argv[1], "limit") == 0)
+        return replay_limit(argv[2], argv[3], argv[4], argc > 5 ? argv[5] : NULL);
     double seconds = argc > 1 ? strtod(argv[1], NULL) : 0.0;
     unsigned long seed = argc > 2 ? strtoul(argv[2], NULL, 10) : (unsigned long)time(NULL);
     if (argc > 3 || seconds <= 0.0) {
-        fprintf(stderr, "usage: fuzz SECONDS [SEED] | fuzz replay FILE [PLAN_BYTES]\n");
+        fprintf(stderr, "usage: fuzz SECONDS [SEED] | fuzz replay FILE [PLAN_BYTES] | "
+                        "fuzz limit SHEET PLAN GREATEST [PLAN_OUT_BYTES]\n");
         return 2;
     }
     printf("fuzz: %g s, seed %lu\n", seconds, seed);

@@ -1,6 +1,7 @@
 /*
  * Lends sheets of every kind, cut short, damaged, random and accepted, with plans of
- * every length, and holds the answers that are known to what they must be.
+ * every length, and to the limiter plans in likewise, and holds the answers that are
+ * known to what they must be.
  */
 #define _GNU_SOURCE
 #include <stdint.h>
@@ -8,9 +9,9 @@
 #include <stdlib.h>
 
 #include "lend.h"
-#include "sheets.h"
+#include "plans.h"
 
-static unsigned long planned;
+static unsigned long planned, limited;
 static const char *lending = "nothing";
 
 static void end(const char *what)
@@ -125,6 +126,133 @@ static void lend_planned(uint8_t *sheet)
     }
 }
 
+static uint32_t limit(struct limiting l)
+{
+    static uint8_t plan_out[MOST_PLAN];
+    uint32_t answer = ask_limiter(l, plan_out);
+    limited += answer == PLANNER_ACCEPTED;
+    return answer;
+}
+
+static void expect_limit(struct limiting l, uint32_t answer)
+{
+    uint32_t got = limit(l);
+    if (got != answer) {
+        fprintf(stderr, "guard: %s: a plan in of %zu bytes, greatest %u: %u, not %u\n", lending, l.plan_in_len,
+                (unsigned)l.greatest, (unsigned)got, (unsigned)answer);
+        exit(1);
+    }
+}
+
+/* A sheet with a plan in, of their exact lengths. */
+static struct limiting with_plan(const uint8_t *sheet, size_t len, const uint8_t *plan_in, uint32_t greatest)
+{
+    struct limiting l;
+    l.sheet = sheet;
+    l.plan_in = plan_in;
+    l.len = len;
+    l.plan_in_len = l.plan_out_len = plan_len_of(sheet, len);
+    l.greatest = greatest;
+    return l;
+}
+
+/* Plans of every length up to one byte too many, in and out. */
+static void limit_plans(struct limiting l)
+{
+    size_t exact = l.plan_in_len;
+    for (size_t len = 0; len <= exact + 1; len++) {
+        uint32_t answer = len == exact ? PLANNER_ACCEPTED : PLANNER_BAD_LENGTH;
+        l.plan_in_len = len;
+        l.plan_out_len = exact;
+        expect_limit(l, answer);
+        l.plan_in_len = exact;
+        l.plan_out_len = len;
+        expect_limit(l, answer);
+        l.plan_in_len = len;
+        expect_limit(l, answer);
+    }
+}
+
+static void limit_cut(struct limiting l)
+{
+    for (size_t len = l.len; len > 0; len--) {
+        l.len = len - 1;
+        expect_limit(l, l.len < PLANNER_HEADER_BYTES ? PLANNER_BAD_HEADER : PLANNER_BAD_LENGTH);
+    }
+}
+
+/* Links far out of the plan among them. */
+static void limit_damaged(struct limiting l, uint8_t *plan_in)
+{
+    static const uint8_t damages[] = {0x01, 0x02, 0x40, 0x80, 0xff};
+    for (size_t at = 0; at < l.plan_in_len; at++)
+        for (size_t i = 0; i < sizeof damages; i++) {
+            plan_in[at] ^= damages[i];
+            limit(l);
+            plan_in[at] ^= damages[i];
+        }
+}
+
+/* Lone rounds, or all set aside where there is no vehicle, within half of them. */
+static void limit_sizes(uint8_t *sheet, uint8_t *plan_in, uint64_t *state)
+{
+    for (unsigned rows = 0; rows <= PLANNER_MOST_ROWS; rows++)
+        for (unsigned vehicles = 0; vehicles < 2; vehicles++) {
+            size_t len = plain_sheet(sheet, rows, vehicles, rows % 2);
+            deal_plan(plan_in, sheet, rows > 0 ? rows - 1 : 0, 1, state);
+            expect_limit(with_plan(sheet, len, plan_in, rows / 2), PLANNER_ACCEPTED);
+        }
+}
+
+/* Random bytes as plans in; most have more rounds than rows, so some are given fewer. */
+static void limit_random(uint8_t *sheet, uint8_t *plan_in, uint64_t *state)
+{
+    for (int turn = 0; turn < 4000; turn++) {
+        unsigned rows = below(state, 12);
+        size_t len = plain_sheet(sheet, rows, 1 + below(state, 3), 0);
+        for (size_t i = 0; i < PLANNER_PLAN_BYTES(rows); i++)
+            plan_in[i] = (uint8_t)(next_random(state) >> 56);
+        if (turn % 2)
+            put(plan_in + AT_ROUNDS, below(state, rows + 1), 2);
+        limit(with_plan(sheet, len, plan_in, below(state, 4)));
+    }
+}
+
+/* Plans dealt for accepted sheets with every mark, of which those of several depots are refused. */
+static void limit_dealt(uint8_t *sheet, uint8_t *plan_in, uint64_t *state)
+{
+    for (int turn = 0; turn < 6000; turn++) {
+        struct shape shape = {1 + below(state, turn % 100 == 0 ? PLANNER_MOST_ROWS : 14), 1, 1 + below(state, 5),
+                              below(state, 5), below(state, 2), 15, 1};
+        shape.depots = turn % 20 == 0 && shape.rows > 1 ? 2 : 1;
+        size_t len = draw_sheet(sheet, shape, state);
+        deal_plan(plan_in, sheet, below(state, shape.rows + 1), turn % 4 == 0, state);
+        expect_limit(with_plan(sheet, len, plan_in, below(state, shape.rows + 1)),
+                     shape.depots > 1 ? PLANNER_SEVERAL_DEPOTS : PLANNER_ACCEPTED);
+    }
+}
+
+static void lend_to_limiter(uint8_t *sheet)
+{
+    static uint8_t plan_in[MOST_PLAN];
+    uint64_t state = UINT64_C(0x9e3779b97f4a7c15);
+    size_t len = plain_sheet(sheet, 4, 2, 1);
+    deal_plan(plan_in, sheet, 3, 1, &state);
+    struct limiting l = with_plan(sheet, len, plan_in, 1);
+    lending = "plans of every length, to the limiter";
+    limit_plans(l);
+    lending = "a sheet cut short, to the limiter";
+    limit_cut(l);
+    lending = "a plan in with a damaged byte";
+    limit_damaged(l, plan_in);
+    lending = "plans in of every number of rows";
+    limit_sizes(sheet, plan_in, &state);
+    lending = "random plans in";
+    limit_random(sheet, plan_in, &state);
+    lending = "plans dealt at random";
+    limit_dealt(sheet, plan_in, &state);
+}
+
 int main(void)
 {
     static uint8_t sheet[MOST_SHEET];
@@ -147,6 +275,7 @@ int main(void)
     lend_random(sheet);
     lending = "accepted sheets";
     lend_planned(sheet);
-    printf("guard: %lu calls, %lu sheets planned at both ends\n", calls, planned);
+    lend_to_limiter(sheet);
+    printf("guard: %lu calls, %lu sheets planned and %lu plans limited at both ends\n", calls, planned, limited);
     return 0;
 }

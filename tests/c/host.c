@@ -1,6 +1,7 @@
 /*
- * A host in C: builds sheet A of document 01, has it planned and prints the rounds
- * in plain words, then damages it in the way of each refusal's example.
+ * A host in C: builds sheet A of document 01, has it planned and its plans limited,
+ * prints the rounds in plain words, then damages it in the way of each refusal's
+ * example.
  */
 #include <stdint.h>
 #include <stdio.h>
@@ -133,6 +134,8 @@ static const char *words(uint32_t answer)
     case PLANNER_BAD_MATRIX: return "refused 6, a distance or time out of range";
     case PLANNER_BAD_VEHICLE: return "refused 7, a vehicle out of range";
     case PLANNER_NO_VEHICLE: return "refused 8, no vehicle";
+    case PLANNER_SEVERAL_DEPOTS: return "refused 9, several depots";
+    case PLANNER_BAD_PLAN: return "refused 10, no plan of this sheet";
     }
     return "an answer that is no refusal";
 }
@@ -149,9 +152,14 @@ static void ask(const char *what, const struct sheet *s)
     ask_with_plan(what, s, 0);
 }
 
+static size_t stop_at(unsigned stop)
+{
+    return PLANNER_PLAN_HEADER_BYTES + PLANNER_PLAN_ROUND_BYTES * ROWS + PLANNER_PLAN_STOP_BYTES * stop;
+}
+
 static const uint8_t *stop_record(const uint8_t *plan, unsigned stop)
 {
-    return plan + PLANNER_PLAN_HEADER_BYTES + PLANNER_PLAN_ROUND_BYTES * ROWS + PLANNER_PLAN_STOP_BYTES * stop;
+    return plan + stop_at(stop);
 }
 
 static unsigned next_stop(const uint8_t *plan, unsigned stop)
@@ -185,20 +193,42 @@ static void print_plan(const uint8_t *plan)
         printf("    stop %u is set aside\n", stop);
 }
 
-/* Has the sheet planned; a refused call leaves the buffer as it was. */
-static void plan_it(const char *what, const struct sheet *s)
+struct plan {
+    uint8_t bytes[PLANNER_PLAN_BYTES(ROWS)];
+};
+
+static struct plan untouched(void)
 {
-    uint8_t plan[PLANNER_PLAN_BYTES(ROWS)];
-    memset(plan, 0xa5, sizeof plan);
-    uint32_t answer = plan_rounds(s->bytes, s->len, plan, sizeof plan);
+    struct plan plan;
+    memset(plan.bytes, 0xa5, sizeof plan.bytes);
+    return plan;
+}
+
+/* A refused call leaves the buffer as it was. */
+static void print_answer(const char *what, uint32_t answer, const struct plan *plan)
+{
     printf("%s: %s\n", what, words(answer));
     if (answer == PLANNER_ACCEPTED) {
-        print_plan(plan);
+        print_plan(plan->bytes);
         return;
     }
-    for (size_t i = 0; i < sizeof plan; i++)
-        if (plan[i] != 0xa5)
+    for (size_t i = 0; i < sizeof plan->bytes; i++)
+        if (plan->bytes[i] != 0xa5)
             printf("  byte %zu was changed\n", i);
+}
+
+static struct plan plan_it(const char *what, const struct sheet *s)
+{
+    struct plan plan = untouched();
+    print_answer(what, plan_rounds(s->bytes, s->len, plan.bytes, sizeof plan.bytes), &plan);
+    return plan;
+}
+
+static void limit_it(const char *what, const struct sheet *s, const struct plan *in, uint32_t greatest)
+{
+    struct plan out = untouched();
+    uint32_t answer = limit_rounds(s->bytes, s->len, in->bytes, sizeof in->bytes, greatest, out.bytes, sizeof out.bytes);
+    print_answer(what, answer, &out);
 }
 
 int main(void)
@@ -213,9 +243,19 @@ int main(void)
 
     s = sheet_a();
     put_i32(vehicle(&s, 0) + AT_CAPACITY, 0);
-    plan_it("sheet A, savings, capacity 0", &s);
+    struct plan apart = plan_it("sheet A, savings, capacity 0", &s);
+    limit_it("the same within 1 round, capacity 0", &s, &apart, 1);
     s.bytes[AT_METHOD] = PLANNER_INSERTION;
     plan_it("sheet A, insertion, capacity 0", &s);
+
+    s = sheet_a();
+    limit_it("two rounds of sheet A within 2", &s, &apart, 2);
+    limit_it("two rounds of sheet A within 1", &s, &apart, 1);
+    limit_it("two rounds of sheet A within 0", &s, &apart, 0);
+    put_u16(apart.bytes + stop_at(2) + AT_NEXT, 2);
+    limit_it("two rounds of sheet A, next of 2 is 2", &s, &apart, 1);
+    put_i32(row(&s, 1) + AT_MARKS, PLANNER_DEPOT);
+    limit_it("sheet A with 2 depots, within 1 round", &s, &apart, 1);
 
     s = sheet_a();
     s.bytes[AT_METHOD] = PLANNER_NN_TW;

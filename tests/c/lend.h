@@ -1,8 +1,9 @@
 /*
- * Lends sheets and plans to the planner up against pages that nobody may touch, so
- * that one byte read or written outside them ends the run: first with such a page
- * right after the last byte of each, then right before the first. The sheet is lent
- * by a view of its pages that can't be written, so a write there ends the run too.
+ * Lends sheets and plans to the planner and the limiter up against pages that nobody
+ * may touch, so that one byte read or written outside them ends the run: first with
+ * such a page right after the last byte of each, then right before the first. The
+ * sheet and the plan in are lent by a view of their pages that can't be written, so a
+ * write there ends the run too.
  *
  * Define _GNU_SOURCE before the first header of a program that includes this one.
  */
@@ -33,9 +34,16 @@ struct room {
 
 /* Rooms whose bytes are all `around`, but for what is lent at one end of them. */
 struct place {
-    struct room sheets, plans;
+    struct room sheets, plans_in, plans;
     int at_front;
     int around;
+};
+
+/* One call of the limiter. */
+struct limiting {
+    const uint8_t *sheet, *plan_in;
+    size_t len, plan_in_len, plan_out_len;
+    uint32_t greatest;
 };
 
 static struct place at_back, at_front;
@@ -44,7 +52,7 @@ static unsigned long calls;
 static inline void stopped(int signal_number)
 {
     end(signal_number == SIGSEGV || signal_number == SIGBUS
-            ? "a byte that was not lent was touched, or the sheet was written"
+            ? "a byte that was not lent was touched, or one written that is only read"
             : "the call was stopped by a signal");
 }
 
@@ -89,6 +97,7 @@ static inline struct place open_place(int front, int around)
 {
     struct place place;
     place.sheets = open_room(MOST_SHEET, PROT_READ, around);
+    place.plans_in = open_room(MOST_PLAN, PROT_READ, around);
     place.plans = open_room(MOST_PLAN, PROT_READ | PROT_WRITE, around);
     place.at_front = front;
     place.around = around;
@@ -108,41 +117,100 @@ static inline int all_are(const uint8_t *at, size_t len, int value)
     return len == 0 || (at[0] == (uint8_t)value && memcmp(at, at + 1, len - 1) == 0);
 }
 
-/* The answer to a copy of the sheet; what stands in the plan then is copied out. */
+/* Where so many bytes stand in a room. */
+static inline size_t end_of(const struct place *place, const struct room *room, size_t len)
+{
+    return place->at_front ? 0 : room->len - len;
+}
+
+/* A copy of bytes that are only read. */
+static inline const uint8_t *lend_copy(const struct place *place, const struct room *room, const uint8_t *bytes, size_t len)
+{
+    size_t at = end_of(place, room, len);
+    memcpy(room->own + at, bytes, len);
+    return room->lent + at;
+}
+
+static inline void take_back(const struct place *place, const struct room *room, const uint8_t *bytes, size_t len)
+{
+    uint8_t *own = room->own + end_of(place, room, len);
+    if (memcmp(own, bytes, len) != 0)
+        end("the sheet or the plan in was changed");
+    memset(own, place->around, len);
+}
+
+static inline uint8_t *lend_plan(const struct place *place, size_t len)
+{
+    memset(place->plans.own, place->around, place->plans.len);
+    calls++;
+    return place->plans.lent + end_of(place, &place->plans, len);
+}
+
+/* What stands in the plan after the answer is copied out. */
+static inline void take_plan(const struct place *place, uint32_t answer, uint8_t *out, size_t len)
+{
+    const struct room *plans = &place->plans;
+    size_t at = end_of(place, plans, len), after = at + len;
+    if (answer != PLANNER_ACCEPTED && !all_are(plans->own + at, len, place->around))
+        end("a refused call changed the plan");
+    if (!all_are(plans->own, at, place->around) || !all_are(plans->own + after, plans->len - after, place->around))
+        end("a byte outside the plan was changed");
+    memcpy(out, plans->own + at, len);
+}
+
+/* The planner's answer to a copy of the sheet. */
 static inline uint32_t lend(const struct place *place, const uint8_t *sheet, size_t len, size_t plan_len, uint8_t *out)
 {
-    const struct room *sheets = &place->sheets, *plans = &place->plans;
-    size_t at = place->at_front ? 0 : sheets->len - len;
-    size_t plan_at = place->at_front ? 0 : plans->len - plan_len, plan_end = plan_at + plan_len;
-    memcpy(sheets->own + at, sheet, len);
-    memset(plans->own, place->around, plans->len);
-    calls++;
-    uint32_t answer = plan_rounds(sheets->lent + at, len, plans->lent + plan_at, plan_len);
-    if (check_sheet(sheets->lent + at, len, plan_len) != answer)
+    const uint8_t *lent = lend_copy(place, &place->sheets, sheet, len);
+    uint32_t answer = plan_rounds(lent, len, lend_plan(place, plan_len), plan_len);
+    if (check_sheet(lent, len, plan_len) != answer)
         end("check_sheet says otherwise");
-    if (memcmp(sheets->own + at, sheet, len) != 0)
-        end("the sheet was changed");
-    if (answer != PLANNER_ACCEPTED && !all_are(plans->own + plan_at, plan_len, place->around))
-        end("a refused call changed the plan");
-    if (!all_are(plans->own, plan_at, place->around)
-        || !all_are(plans->own + plan_end, plans->len - plan_end, place->around))
-        end("a byte outside the plan was changed");
-    memcpy(out, plans->own + plan_at, plan_len);
-    memset(sheets->own + at, place->around, len);
+    take_back(place, &place->sheets, sheet, len);
+    take_plan(place, answer, out, plan_len);
     return answer;
 }
+
+/* The limiter's answer to copies of sheet and plan in. */
+static inline uint32_t lend_limiting(const struct place *place, struct limiting l, uint8_t *out)
+{
+    const uint8_t *sheet = lend_copy(place, &place->sheets, l.sheet, l.len);
+    const uint8_t *plan_in = lend_copy(place, &place->plans_in, l.plan_in, l.plan_in_len);
+    uint8_t *plan_out = lend_plan(place, l.plan_out_len);
+    uint32_t answer = limit_rounds(sheet, l.len, plan_in, l.plan_in_len, l.greatest, plan_out, l.plan_out_len);
+    take_back(place, &place->sheets, l.sheet, l.len);
+    take_back(place, &place->plans_in, l.plan_in, l.plan_in_len);
+    take_plan(place, answer, out, l.plan_out_len);
+    return answer;
+}
+
+/* Two answers that have to be one, and so have the plans. */
+static inline void same(uint32_t answer, const uint8_t *plan, uint32_t other_answer, const uint8_t *other, size_t len)
+{
+    if (other_answer != answer)
+        end("the answer depends on the bytes around");
+    if (answer == PLANNER_ACCEPTED && memcmp(plan, other, len) != 0)
+        end("the plan depends on the bytes around, or on those it is written over");
+}
+
+static uint8_t other_plan[MOST_PLAN];
 
 /* The answer, which is the same at either end, and so is the plan, of MOST_PLAN bytes of room. */
 static inline uint32_t ask_with_plan(const uint8_t *sheet, size_t len, uint8_t *plan, size_t plan_len)
 {
-    static uint8_t other[MOST_PLAN];
     uint32_t answer = lend(&at_back, sheet, len, plan_len, plan);
-    if (lend(&at_front, sheet, len, plan_len, other) != answer)
-        end("the answer depends on the bytes around");
+    same(answer, plan, lend(&at_front, sheet, len, plan_len, other_plan), other_plan, plan_len);
     if (answer > PLANNER_NO_VEHICLE)
         end("an answer that is no refusal");
-    if (answer == PLANNER_ACCEPTED && memcmp(plan, other, plan_len) != 0)
-        end("the plan depends on the bytes around, or on those it is written over");
+    return answer;
+}
+
+/* The same of the limiter. */
+static inline uint32_t ask_limiter(struct limiting l, uint8_t *plan_out)
+{
+    uint32_t answer = lend_limiting(&at_back, l, plan_out);
+    same(answer, plan_out, lend_limiting(&at_front, l, other_plan), other_plan, l.plan_out_len);
+    if (answer > PLANNER_BAD_PLAN)
+        end("an answer that is no refusal");
     return answer;
 }
 

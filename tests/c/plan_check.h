@@ -2,21 +2,17 @@
  * A plan held to what document 01 says of its bytes, from the sheet and the plan
  * alone: every stop once, ids of vehicles, loads as running sums, the figures of
  * each round as they are walked with the rest where the plan has it, and zero bytes
- * everywhere else. Not whether another plan would have been right.
+ * everywhere else; a plan out of the limiter also to its plan in. Not whether another
+ * plan would have been right.
  */
 #ifndef PLAN_CHECK_H
 #define PLAN_CHECK_H
 
-#include "sheets.h"
+#include "plans.h"
 
-enum { AT_ROUNDS = 0, AT_ASIDE = 2, AT_PLAN_ROWS = 4, AT_PLAN_SPARE = 6, AT_COST = 8 };
-enum { AT_LOAD = 4, AT_FIRST = 8, AT_REST_PLACE = 10, AT_ROUND_SPARE = 12, AT_DISTANCE = 16, AT_DURATION = 24 };
-enum { AT_LATENESS = 32, AT_LATENESS_COST = 40, AT_REST_START = 48 };
-enum { AT_NEXT = 0, AT_STOP_SPARE = 2, AT_LOAD_AFTER = 4, AT_ARRIVAL = 8, AT_DEPARTURE = 16 };
-
-/* An accepted sheet, its plan, and the stops met in its chains so far. */
+/* An accepted sheet, its plan, the plan in where that is a plan out, and the stops met in its chains so far. */
 struct reading {
-    uint8_t *sheet, *plan;
+    uint8_t *sheet, *plan, *plan_in;
     unsigned rows, depots, vehicles, method, stops, aside;
     uint8_t met[PLANNER_MOST_ROWS];
     double cost;
@@ -38,14 +34,14 @@ static inline unsigned depots_of(uint8_t *sheet)
     return depots > 1 ? depots : 1;
 }
 
-static inline uint8_t *round_record(uint8_t *plan, unsigned k)
-{
-    return plan + PLANNER_PLAN_HEADER_BYTES + PLANNER_PLAN_ROUND_BYTES * k;
-}
-
 static inline uint8_t *stop_record(const struct reading *r, unsigned stop)
 {
-    return round_record(r->plan, r->rows) + PLANNER_PLAN_STOP_BYTES * stop;
+    return stop_of(r->plan, r->rows, stop);
+}
+
+static inline unsigned next_of(const struct reading *r, uint8_t *plan, unsigned stop)
+{
+    return (unsigned)get(stop_of(plan, r->rows, stop) + AT_NEXT, 2);
 }
 
 static inline double leg_of(const struct reading *r, unsigned from, unsigned to)
@@ -140,6 +136,27 @@ static inline const char *rest_fault(const struct walked *w)
     return NULL;
 }
 
+/* Whether the plan in has the round as it is. */
+static inline int was_so(const struct reading *r, const uint8_t *round)
+{
+    for (unsigned k = 0; k < get(r->plan_in + AT_ROUNDS, 2); k++) {
+        const uint8_t *before = round_record(r->plan_in, k);
+        unsigned stop = (unsigned)get(round + AT_FIRST, 2), had = (unsigned)get(before + AT_FIRST, 2);
+        for (; stop == had && stop != 0; stop = next_of(r, r->plan, stop))
+            had = next_of(r, r->plan_in, stop);
+        if (get(round, 4) == get(before, 4) && stop == had)
+            return 1;
+    }
+    return 0;
+}
+
+static inline int may_be_over(const struct reading *r, const struct walked *w)
+{
+    if (r->plan_in != NULL)
+        return was_so(r, w->round);
+    return r->method == PLANNER_SAVINGS && w->place == 1;
+}
+
 /* The end of a round, back at its depot. */
 static inline const char *home_fault(struct reading *r, struct walked *w, unsigned depot)
 {
@@ -154,7 +171,7 @@ static inline const char *home_fault(struct reading *r, struct walked *w, unsign
         return "a round's duration";
     if (!holds(w->round + AT_LATENESS, w->lateness) || !holds(w->round + AT_LATENESS_COST, w->lateness_cost))
         return "a round's lateness";
-    if (w->load > get(w->vehicle + AT_CAPACITY, 4) && (r->method != PLANNER_SAVINGS || w->place > 1))
+    if (w->load > get(w->vehicle + AT_CAPACITY, 4) && !may_be_over(r, w))
         return "a load above capacity";
     r->cost += get_f64(w->vehicle + AT_FIXED) + get_f64(w->vehicle + AT_RATE) * (distance + w->lateness_cost);
     return rest_fault(w);
@@ -169,9 +186,11 @@ static inline uint8_t *vehicle_by_id(const struct reading *r, uint64_t id)
     return NULL;
 }
 
-/* A nearest neighbour's vehicle drives once; the other methods' is the first of its depot. */
+/* A nearest neighbour's vehicle drives once; the other methods' is the first of its depot; a plan in's is any. */
 static inline int may_drive(const struct reading *r, unsigned k, const uint8_t *vehicle)
 {
+    if (r->plan_in != NULL)
+        return 1;
     if (needs_vehicle(r->method)) {
         uint8_t *first = vehicle_of(r->sheet, 0);
         while (get(first + AT_DEPOT, 4) != get(vehicle + AT_DEPOT, 4))
@@ -193,9 +212,9 @@ static inline const char *round_fault(struct reading *r, unsigned k)
         return "a round's vehicle";
     unsigned depot = (unsigned)get(w.vehicle + AT_DEPOT, 4), stop = (unsigned)get(w.round + AT_FIRST, 2);
     w.last = depot;
-    if (stop == 0)
+    if (stop == 0 && (r->plan_in == NULL || !was_so(r, w.round)))
         return "an empty round";
-    for (; stop != 0; stop = (unsigned)get(stop_record(r, stop) + AT_NEXT, 2)) {
+    for (; stop != 0; stop = next_of(r, r->plan, stop)) {
         const char *fault = meet(r, stop);
         if (fault == NULL)
             fault = walk_to(r, &w, stop);
@@ -205,12 +224,12 @@ static inline const char *round_fault(struct reading *r, unsigned k)
     return home_fault(r, &w, depot);
 }
 
-/* Plain nearest neighbour sets aside ascending, and so does every method with several depots. */
+/* Plain nearest neighbour sets aside ascending, and so do every method with several depots and the limiter. */
 static inline const char *aside_fault(struct reading *r)
 {
-    int ascending = r->depots > 1 || r->method == PLANNER_NEAREST_NEIGHBOR;
+    int ascending = r->plan_in != NULL || r->depots > 1 || r->method == PLANNER_NEAREST_NEIGHBOR;
     unsigned last = 0, stop = (unsigned)get(r->plan + AT_ASIDE, 2);
-    for (; stop != 0; stop = (unsigned)get(stop_record(r, stop) + AT_NEXT, 2)) {
+    for (; stop != 0; stop = next_of(r, r->plan, stop)) {
         const char *fault = meet(r, stop);
         if (fault != NULL)
             return fault;
@@ -224,16 +243,22 @@ static inline const char *aside_fault(struct reading *r)
     return NULL;
 }
 
-/* What is wrong with the plan of an accepted sheet, NULL if nothing is; `r` tells of it then. */
-static inline const char *plan_fault(struct reading *r, uint8_t *sheet, uint8_t *plan)
+/* A reading of a sheet that begins. */
+static inline void begin(struct reading *r, uint8_t *sheet, uint8_t *plan, uint8_t *plan_in)
 {
     memset(r, 0, sizeof *r);
     r->sheet = sheet;
     r->plan = plan;
+    r->plan_in = plan_in;
     r->rows = (unsigned)get(sheet + AT_ROWS, 2);
     r->vehicles = (unsigned)get(sheet + AT_VEHICLES, 2);
     r->method = sheet[AT_METHOD];
     r->depots = depots_of(sheet);
+}
+
+static inline const char *whole_fault(struct reading *r)
+{
+    uint8_t *plan = r->plan;
     unsigned rounds = (unsigned)get(plan + AT_ROUNDS, 2);
     const char *fault = NULL;
     if (rounds > r->rows || get(plan + AT_PLAN_ROWS, 2) != r->rows || !none_set(plan + AT_PLAN_SPARE, 2))
@@ -252,6 +277,63 @@ static inline const char *plan_fault(struct reading *r, uint8_t *sheet, uint8_t 
         if (!none_set(stop_record(r, depot), PLANNER_PLAN_STOP_BYTES))
             return "a depot's record";
     return get_f64(plan + AT_COST) == r->cost ? NULL : "the cost";
+}
+
+/* What is wrong with the plan of an accepted sheet, NULL if nothing is; `r` tells of it then. */
+static inline const char *plan_fault(struct reading *r, uint8_t *sheet, uint8_t *plan)
+{
+    begin(r, sheet, plan, NULL);
+    return whole_fault(r);
+}
+
+/* Whether a chain leads to stops only, none of them met before. */
+static inline int chain_is_good(struct reading *r, unsigned stop)
+{
+    for (; stop != 0; stop = next_of(r, r->plan, stop))
+        if (meet(r, stop) != NULL)
+            return 0;
+    return 1;
+}
+
+/* Whether the limiter can take a plan in, of an accepted sheet of one depot. */
+static inline int plan_in_is_good(struct reading *r, uint8_t *sheet, uint8_t *plan_in)
+{
+    begin(r, sheet, plan_in, NULL);
+    unsigned rounds = (unsigned)get(plan_in + AT_ROUNDS, 2);
+    if (rounds > r->rows)
+        return 0;
+    for (unsigned k = 0; k < rounds; k++) {
+        const uint8_t *round = round_record(plan_in, k);
+        if (vehicle_by_id(r, get(round, 4)) == NULL || !chain_is_good(r, (unsigned)get(round + AT_FIRST, 2)))
+            return 0;
+    }
+    return chain_is_good(r, (unsigned)get(plan_in + AT_ASIDE, 2)) && (r->rows == 0 || r->stops == r->rows - 1);
+}
+
+static inline int is_aside(const struct reading *r, uint8_t *plan, unsigned sought)
+{
+    unsigned stop = (unsigned)get(plan + AT_ASIDE, 2);
+    while (stop != 0 && stop != sought)
+        stop = next_of(r, plan, stop);
+    return stop != 0;
+}
+
+/* The same of a plan out and its plan in, which can be taken. */
+static inline const char *limit_fault(struct reading *r, uint8_t *sheet, uint8_t *plan_in, uint32_t greatest, uint8_t *plan_out)
+{
+    begin(r, sheet, plan_out, plan_in);
+    unsigned rounds = (unsigned)get(plan_out + AT_ROUNDS, 2), before = (unsigned)get(plan_in + AT_ROUNDS, 2);
+    const char *fault = whole_fault(r);
+    if (fault != NULL)
+        return fault;
+    if (rounds != (before < greatest ? before : greatest))
+        return "the number of rounds";
+    if (rounds == 0 && !holds(plan_out + AT_COST, -0.0))
+        return "the cost of no round";
+    for (unsigned stop = 1; stop < r->rows; stop++)
+        if (is_aside(r, plan_in, stop) && !is_aside(r, plan_out, stop))
+            return "a stop that was set aside";
+    return NULL;
 }
 
 #endif

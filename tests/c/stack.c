@@ -1,8 +1,8 @@
 /*
  * How much stack a call takes: each is made on a stack that was filled with a pattern,
  * and the lowest word that is another afterwards tells. In bytes, the caller's own
- * frame included; over several sheets of the most rows for each method, or for the
- * sheets in files.
+ * frame included; over several sheets of the most rows for each method and for the
+ * limiter, or for the sheets in files.
  *
  *   stack MOST [FILE..]    the exit status is 1 where a call takes more than MOST
  */
@@ -12,14 +12,15 @@
 #include <stdlib.h>
 #include <ucontext.h>
 
-#include "sheets.h"
+#include "plans.h"
 
 enum { STACK_WORDS = 1 << 17, KINDS = 16, METHODS = PLANNER_SWEEP + 1 };
 static const uint64_t patterns[] = {UINT64_C(0xa5c396e17b2d4f08), UINT64_C(0x5a3c691e84d2b0f7)};
 
 static uint8_t sheet[PLANNER_SHEET_BYTES(PLANNER_MOST_ROWS, PLANNER_MOST_VEHICLES, 1)];
-static uint8_t plan[PLANNER_PLAN_BYTES(PLANNER_MOST_ROWS)];
+static uint8_t plan[PLANNER_PLAN_BYTES(PLANNER_MOST_ROWS)], plan_in[sizeof plan];
 static size_t len;
+static int limiting;
 static uint32_t answer;
 static uint64_t stack[STACK_WORDS];
 static const uint8_t *top;
@@ -29,7 +30,10 @@ static void call(void)
 {
     size_t plan_len = PLANNER_PLAN_BYTES(get(sheet + AT_ROWS, 2));
     top = __builtin_frame_address(0);
-    answer = plan_rounds(sheet, len, plan, plan_len < sizeof plan ? plan_len : sizeof plan);
+    if (limiting)
+        answer = limit_rounds(sheet, len, plan_in, plan_len, 1, plan, plan_len);
+    else
+        answer = plan_rounds(sheet, len, plan, plan_len < sizeof plan ? plan_len : sizeof plan);
 }
 
 /* The bytes below the frame of `call` that hold the pattern no longer. */
@@ -87,6 +91,23 @@ static size_t taken_by(unsigned method)
     return most;
 }
 
+/* From lone rounds and from a few to one; the kinds of one depot. */
+static size_t taken_by_limiter(void)
+{
+    uint64_t state = UINT64_C(0x9e3779b97f4a7c15);
+    size_t most = 0;
+    limiting = 1;
+    for (unsigned kind = 1; kind < KINDS; kind += 2) {
+        draw_kind(PLANNER_NEAREST_NEIGHBOR, kind, &state);
+        deal_plan(plan_in, sheet, PLANNER_MOST_ROWS - 1, 1, &state);
+        most = larger(most, taken());
+        deal_plan(plan_in, sheet, 4, 0, &state);
+        most = larger(most, taken());
+    }
+    limiting = 0;
+    return most;
+}
+
 static size_t taken_by_file(const char *name)
 {
     FILE *file = fopen(name, "rb");
@@ -119,6 +140,8 @@ int main(int argc, char **argv)
     }
     for (unsigned method = 0; method < METHODS && argc == 2; method++)
         over |= tell(names[method], taken_by(method), allowed);
+    if (argc == 2)
+        over |= tell("limiter", taken_by_limiter(), allowed);
     for (int i = 2; i < argc; i++)
         over |= tell(argv[i], taken_by_file(argv[i]), allowed);
     return over;

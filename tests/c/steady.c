@@ -1,11 +1,12 @@
 /*
- * Calls the planner over and over in one process, and looks ten times at the memory
- * that the process holds and at the time that a call takes.
+ * Calls the planner and the limiter over and over in one process, and looks ten times at
+ * the memory that the process holds and at the time that a call takes.
  *
  *   steady CALLS
  *
- * The sheets are of all methods and sizes and are asked in turn; every pass over them
- * must give the answers and plans of the first. The exit status is 1 where one does
+ * The sheets are of all methods and sizes and are asked in turn, each with its plan to be
+ * brought within half of its rounds; every pass over them must give the answers and plans
+ * of the first. The exit status is 1 where one does
  * not, where the process holds more than a few pages more than at the first look, or
  * where a call of the last tenth takes above 1.5 times as long as one of the first, by
  * the clock and by a fixed piece of work that is timed beside the calls: other work on
@@ -19,19 +20,19 @@
 #include <time.h>
 #include <unistd.h>
 
-#include "sheets.h"
+#include "plans.h"
 
 static const unsigned sizes[] = {0, 1, 2, 10, 30, PLANNER_MOST_ROWS};
 static const unsigned depots[] = {1, 3};
 enum { SIZES = sizeof sizes / sizeof sizes[0], DEPOTS = 2, WIDTHS = 2, METHODS = PLANNER_SWEEP + 1 };
-enum { SHEETS = METHODS * SIZES * DEPOTS * WIDTHS, LOOKS = 10, MOST_GROWTH = 16 };
+enum { SHEETS = METHODS * SIZES * DEPOTS * WIDTHS, CALLS = 2 * SHEETS, LOOKS = 10, MOST_GROWTH = 16 };
 static const double MOST_SLOWER = 1.5;
 
-/* A sheet with what the first call said of it. */
+/* A sheet with what the first calls said of it and of its plan. */
 struct asked {
-    uint8_t *sheet, *plan;
+    uint8_t *sheet, *plan, *limited;
     size_t len, plan_len;
-    uint32_t answer;
+    uint32_t answer, greatest, limit_answer;
 };
 
 static struct asked all[SHEETS];
@@ -51,10 +52,15 @@ static void end(const char *what)
 
 static void *room(size_t bytes)
 {
-    void *at = malloc(bytes);
+    void *at = calloc(bytes, 1);
     if (at == NULL)
         end("no memory for the sheets");
     return at;
+}
+
+static uint32_t limit(const struct asked *a, uint8_t *plan_out)
+{
+    return limit_rounds(a->sheet, a->len, a->plan, a->plan_len, a->greatest, plan_out, a->plan_len);
 }
 
 /* Sheet k of the set: tight rounds or wide ones. */
@@ -73,19 +79,30 @@ static void draw_asked(struct asked *a, unsigned k, uint64_t *state)
     a->len = draw_sheet(a->sheet, shape, state);
     a->plan_len = PLANNER_PLAN_BYTES(shape.rows);
     a->plan = room(a->plan_len);
-    memset(a->plan, 0, a->plan_len);
     a->answer = plan_rounds(a->sheet, a->len, a->plan, a->plan_len);
+    a->limited = room(a->plan_len);
+    a->greatest = (uint32_t)get(a->plan + AT_ROUNDS, 2) / 2;
+    a->limit_answer = limit(a, a->limited);
+}
+
+static void held_to_first(uint32_t answer, uint32_t first, const uint8_t *plan, const uint8_t *first_plan, size_t len)
+{
+    if (answer != first)
+        end("another answer than on the first call");
+    if (memcmp(plan, first_plan, len) != 0)
+        end("another plan than on the first call");
 }
 
 static void pass(void)
 {
     static uint8_t plan[PLANNER_PLAN_BYTES(PLANNER_MOST_ROWS)];
-    for (unsigned k = 0; k < SHEETS; k++) {
-        memset(plan, 0, all[k].plan_len);
-        if (plan_rounds(all[k].sheet, all[k].len, plan, all[k].plan_len) != all[k].answer)
-            end("another answer than on the first call");
-        if (memcmp(plan, all[k].plan, all[k].plan_len) != 0)
-            end("another plan than on the first call");
+    for (const struct asked *a = all; a < all + SHEETS; a++) {
+        memset(plan, 0, a->plan_len);
+        uint32_t answer = plan_rounds(a->sheet, a->len, plan, a->plan_len);
+        held_to_first(answer, a->answer, plan, a->plan, a->plan_len);
+        memset(plan, 0, a->plan_len);
+        answer = limit(a, plan);
+        held_to_first(answer, a->limit_answer, plan, a->limited, a->plan_len);
     }
 }
 
@@ -136,7 +153,7 @@ static struct look look_after(unsigned long passes)
         double passed = seconds();
         if (!(work() >= 0.0))
             end("the sheets have changed");
-        look.call += 1e6 * (passed - began) / ((double)passes * SHEETS);
+        look.call += 1e6 * (passed - began) / ((double)passes * CALLS);
         look.work += 1e6 * (seconds() - passed) / (double)passes;
     }
     look.held = held();
@@ -152,8 +169,8 @@ static void tell(unsigned long calls, struct look look)
 int main(int argc, char **argv)
 {
     uint64_t state = UINT64_C(0x9e3779b97f4a7c15);
-    unsigned long calls = argc == 2 ? strtoul(argv[1], NULL, 10) : 0, planned = 0;
-    unsigned long passes = (calls + LOOKS * SHEETS - 1) / (LOOKS * SHEETS);
+    unsigned long calls = argc == 2 ? strtoul(argv[1], NULL, 10) : 0, planned = 0, limited = 0;
+    unsigned long passes = (calls + LOOKS * CALLS - 1) / (LOOKS * CALLS);
     struct look first, last;
     if (calls == 0) {
         fprintf(stderr, "usage: steady CALLS\n");
@@ -162,15 +179,16 @@ int main(int argc, char **argv)
     for (unsigned k = 0; k < SHEETS; k++) {
         draw_asked(&all[k], k, &state);
         planned += all[k].answer == PLANNER_ACCEPTED;
+        limited += all[k].limit_answer == PLANNER_ACCEPTED;
     }
-    printf("steady: %d sheets in turn, %lu of them planned\n", SHEETS, planned);
+    printf("steady: %d sheets in turn, %lu of them planned and %lu limited\n", SHEETS, planned, limited);
     /* What is loaded at its first use is so before the first look that counts. */
     first = last = look_after(1);
     tell(0, last);
     for (unsigned long i = 1; i <= LOOKS; i++) {
         last = look_after(passes);
         first = i == 1 ? last : first;
-        tell(i * passes * SHEETS, last);
+        tell(i * passes * CALLS, last);
         if (last.held > first.held + MOST_GROWTH)
             end("the process holds more and more");
     }

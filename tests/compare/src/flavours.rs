@@ -18,7 +18,7 @@ use crate::sheet::{INSERTION, SAVINGS, SWEEP};
 const SMALL: usize = 7;
 const LARGE: usize = 19;
 /// A plan buffer of a wrong length is kept below this.
-const MOST_LENT: usize = 1 << 17;
+pub const MOST_LENT: usize = 1 << 17;
 
 /// One call of the planner.
 pub struct Drawn {
@@ -257,21 +257,20 @@ pub fn share(methods: &[u8], flavour: usize) -> usize {
 
 /// The sheet of a number, of one of these methods if its header is not damaged.
 pub fn drawn(methods: &[u8], seed: u64, number: usize) -> Drawn {
-    let mixed = Random::new(seed ^ (number as u64).wrapping_mul(0xd134_2543_de82_ef95)).bits();
-    let random = &mut Random::new(mixed);
-    let shares = (0..FLAVOURS.len()).map(|flavour| share(methods, flavour));
-    let shares: Vec<usize> = shares.collect();
-    let mut left = random.below(shares.iter().sum());
-    let mut flavour = 0;
-    while left >= shares[flavour] {
-        left -= shares[flavour];
-        flavour += 1;
-    }
+    let random = &mut Random::numbered(seed, number);
+    let flavour = random.by_share((0..FLAVOURS.len()).map(|flavour| share(methods, flavour)));
     if flavour == REFUSED {
         return refused(methods, random);
     }
     let sheet = sheet(methods, flavour, random);
     Drawn { flavour, sheet: sheet.encode(), plan_len: plan_len(sheet.rows.len()) }
+}
+
+/// A sheet that is not meant to be refused.
+pub fn any_sheet(methods: &[u8], random: &mut Random) -> Sheet {
+    let kept = |flavour| if flavour == REFUSED { 0 } else { share(methods, flavour) };
+    let flavour = random.by_share((0..FLAVOURS.len()).map(kept));
+    sheet(methods, flavour, random)
 }
 
 /// A sheet whose rounds have to be lawful.

@@ -7,13 +7,13 @@ use crate::sheet::{DEPOT, MAX_DISTANCE, MAX_DURATION, PENALTY, REST, WINDOW};
 
 /// Every way through a series of choices in turn; each choice is a digit of a counter.
 #[derive(Default)]
-struct Choices {
+pub struct Choices {
     digits: Vec<(usize, usize)>,
     next: usize,
 }
 
 impl Choices {
-    fn below(&mut self, n: usize) -> usize {
+    pub fn below(&mut self, n: usize) -> usize {
         if self.next == self.digits.len() {
             self.digits.push((0, n));
         }
@@ -22,7 +22,7 @@ impl Choices {
     }
 
     /// Counts on; false after the last way.
-    fn advance(&mut self) -> bool {
+    pub fn advance(&mut self) -> bool {
         self.next = 0;
         while let Some((digit, n)) = self.digits.pop() {
             if digit + 1 < n {
@@ -97,7 +97,8 @@ fn tiny_vehicle(choices: &mut Choices, k: usize) -> Vehicle {
     }
 }
 
-fn entries(rows: usize, mut entry: impl FnMut(usize, usize) -> f64) -> Vec<f64> {
+/// A table of legs.
+pub fn entries(rows: usize, mut entry: impl FnMut(usize, usize) -> f64) -> Vec<f64> {
     (0..rows * rows).map(|k| entry(k / rows, k % rows)).collect()
 }
 

@@ -19,14 +19,14 @@ const WALKS: WalkKinds = WalkKinds {
 
 /// A stop at a place of a round, within capacity.
 pub struct Place {
-    stop: usize,
-    at: usize,
-    passes: bool,
+    pub stop: usize,
+    pub at: usize,
+    pub passes: bool,
     /// Not below going alone, where windows are soft.
     dear: bool,
-    cost: f64,
+    pub cost: f64,
     /// Summed otherwise; of soft windows, the cost of the whole round.
-    other_cost: f64,
+    pub other_cost: f64,
     pub trial: Trial,
 }
 
@@ -72,7 +72,8 @@ fn farthest(table: &Table, left: &[usize]) -> Option<usize> {
     left.iter().copied().find(|&stop| far(stop) == most)
 }
 
-fn places(table: &Table, round: &[usize], left: &[usize]) -> Vec<Place> {
+/// Every place in a round of every stop left that capacity allows.
+pub fn places(table: &Table, round: &[usize], left: &[usize]) -> Vec<Place> {
     let within =
         |stop: usize| load(table, round) + load(table, &[stop]) <= driver(table).capacity();
     let fitting = left.iter().copied().filter(|&stop| within(stop));

@@ -6,14 +6,18 @@
 //!     compare rounds COUNT SEED      the port's evaluation on COUNT rounds
 //!     compare plans COUNT SEED       the planner's plans of COUNT sheets
 //!     compare plan NUMBER SEED       one sheet of these again, both plans shown
+//!     compare limits COUNT SEED      the limiter's plans out of COUNT calls, and of all tiny plans
+//!     compare limit NUMBER SEED      one call of these again, both plans shown
 //!     compare checked COUNT SEED     the checker of demand 3 on COUNT plans of the Rust's
 //!     compare bench                  the port's route_feasible against the Rust's, timed
 //!     compare bench instructions     the same, counted by valgrind
 //!     compare bench SIDE CASE RUNS   one side of one case alone, for a profiler
 //!     compare bench plans ..         the planner against the Rust, in the same three ways
+//!     compare bench limits ..        the limiter against the Rust, likewise
 //!     compare slowest METHOD SECONDS SEED FILE   a sheet that takes the planner long
 //!     compare freeze COUNT SEED DIR  writes DIR/stdin and DIR/stdout, a sample to keep
 //!     compare freeze plans COUNT SEED DIR   the same, of plans
+//!     compare freeze limits COUNT SEED DIR  the same, of the limiter's calls
 //!     compare example DIR            writes DIR/sheet and DIR/plan, to be drawn
 //!
 //! build.rs says where the sources and the planner's library are looked for. The exit status is
@@ -23,13 +27,16 @@
 
 mod angles;
 mod bench;
+mod bench_limits;
 mod bench_plans;
+mod bench_sides;
 mod checked;
 mod damage;
 mod example;
 mod fit;
 mod flavours;
 mod freeze;
+mod freeze_limits;
 mod freeze_plans;
 mod generate;
 mod greedy;
@@ -37,21 +44,28 @@ mod inserts;
 mod joins;
 mod kinds;
 mod lawful;
+mod limit_calls;
+mod limiting;
+mod limits;
 mod listing;
 mod plan;
+mod plan_damage;
 mod planner;
 mod plans;
 mod points;
+mod promises;
 mod random;
 mod reference;
 mod refusal;
 mod refusals;
 mod rounds;
+mod sample;
 mod selftest;
 mod sheet;
 mod slow_starts;
 mod slowest;
 mod stream;
+mod tiny_plans;
 mod trial;
 mod tried;
 mod vary;
@@ -60,9 +74,13 @@ use std::io;
 use std::path::Path;
 use std::process::ExitCode;
 
+use bench_limits::Limiting;
+use bench_plans::Planning;
+
 const USAGE: &str = "usage: compare selftest | refusals COUNT SEED | rounds COUNT SEED | \
                      plans COUNT SEED | plan NUMBER SEED | checked COUNT SEED | \
-                     bench [plans] [instructions | SIDE CASE RUNS] | freeze [plans] COUNT SEED DIR | example DIR | \
+                     limits COUNT SEED | limit NUMBER SEED | \
+                     bench [plans | limits] [instructions | SIDE CASE RUNS] | freeze [plans | limits] COUNT SEED DIR | example DIR | \
                      slowest METHOD SECONDS SEED FILE";
 
 fn main() -> ExitCode {
@@ -70,16 +88,22 @@ fn main() -> ExitCode {
     let words: Vec<&str> = words.iter().map(String::as_str).collect();
     let done = match words[..] {
         ["selftest"] => Some(selftest::run()),
-        ["bench", "plans", ref words @ ..] => bench_plans::run(words),
+        ["bench", "plans", ref words @ ..] => bench_sides::run::<Planning>(words),
+        ["bench", "limits", ref words @ ..] => bench_sides::run::<Limiting>(words),
         ["bench", ref words @ ..] => bench::run(words),
         ["slowest", method, seconds, seed, file] => slowest::run(method, seconds, seed, file),
         ["refusals", count, seed] => numbers(count, seed).map(|(c, s)| refusals::run(c, s)),
         ["rounds", count, seed] => numbers(count, seed).map(|(c, s)| rounds::run(c, s)),
         ["plans", count, seed] => numbers(count, seed).map(|(c, s)| plans::run(c, s)),
         ["plan", number, seed] => numbers(number, seed).map(|(n, s)| plans::show(n, s)),
+        ["limits", count, seed] => numbers(count, seed).map(|(c, s)| limits::run(c, s)),
+        ["limit", number, seed] => numbers(number, seed).map(|(n, s)| limits::show(n, s)),
         ["checked", count, seed] => numbers(count, seed).map(|(c, s)| checked::run(c, s)),
         ["freeze", "plans", count, seed, folder] => {
             numbers(count, seed).map(|(c, s)| written(folder, |to| freeze_plans::run(c, s, to)))
+        }
+        ["freeze", "limits", count, seed, folder] => {
+            numbers(count, seed).map(|(c, s)| written(folder, |to| freeze_limits::run(c, s, to)))
         }
         ["freeze", count, seed, folder] => {
             numbers(count, seed).map(|(c, s)| written(folder, |to| freeze::run(c, s, to)))

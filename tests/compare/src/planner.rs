@@ -5,6 +5,15 @@
 extern "C" {
     fn check_sheet(sheet: *const u8, sheet_len: usize, plan_len: usize) -> u32;
     fn plan_rounds(sheet: *const u8, sheet_len: usize, plan: *mut u8, plan_len: usize) -> u32;
+    fn limit_rounds(
+        sheet: *const u8,
+        sheet_len: usize,
+        plan_in: *const u8,
+        plan_in_len: usize,
+        greatest: u32,
+        plan_out: *mut u8,
+        plan_out_len: usize,
+    ) -> u32;
 }
 
 /// Refusals 1 to 8, 0 for an accepted sheet. The sheet is lent from memory of exactly its size.
@@ -23,6 +32,17 @@ pub fn plan(sheet: &[u8], plan: &mut [u8]) -> u32 {
     unsafe { plan_rounds(sheet.as_ptr(), sheet.len(), plan.as_mut_ptr(), plan.len()) }
 }
 
+/// A plan brought within `greatest` rounds, written into `plan_out`, and 0; or a refusal.
+#[cfg(planner)]
+pub fn limit(sheet: &[u8], plan_in: &[u8], greatest: u32, plan_out: &mut [u8]) -> u32 {
+    let (out, out_len) = (plan_out.as_mut_ptr(), plan_out.len());
+    // SAFETY: as above.
+    unsafe {
+        let (plan_in, len) = (plan_in.as_ptr(), plan_in.len());
+        limit_rounds(sheet.as_ptr(), sheet.len(), plan_in, len, greatest, out, out_len)
+    }
+}
+
 #[cfg(not(planner))]
 pub fn check(_sheet: &[u8], _plan_len: usize) -> u32 {
     no_planner()
@@ -30,6 +50,11 @@ pub fn check(_sheet: &[u8], _plan_len: usize) -> u32 {
 
 #[cfg(not(planner))]
 pub fn plan(_sheet: &[u8], _plan: &mut [u8]) -> u32 {
+    no_planner()
+}
+
+#[cfg(not(planner))]
+pub fn limit(_sheet: &[u8], _plan_in: &[u8], _greatest: u32, _plan_out: &mut [u8]) -> u32 {
     no_planner()
 }
 

@@ -23,7 +23,7 @@ const MANY: usize = 100_000;
 const MOST_SHOWN: usize = 4000;
 
 /// A plan buffer before the call.
-fn pattern(len: usize) -> Box<[u8]> {
+pub fn pattern(len: usize) -> Box<[u8]> {
     (0..len).map(|k| (k as u8).wrapping_mul(37) ^ 0xa5).collect()
 }
 
@@ -61,8 +61,8 @@ pub fn show(number: usize, seed: u64) -> ExitCode {
     let expected = expected(&drawn);
     let said = answer(&drawn);
     println!("{}", about(&drawn, seed, number));
-    println!("{}", decoded(&drawn, "Rust", &expected.right));
-    println!("{}", decoded(&drawn, "planner", &said));
+    println!("{}", decoded(&drawn.sheet, "Rust", &expected.right));
+    println!("{}", decoded(&drawn.sheet, "planner", &said));
     ExitCode::from(u8::from(expected.verdict(&said).is_err()))
 }
 
@@ -172,8 +172,8 @@ impl Tally {
         self.differences[drawn.flavour] += 1;
         if self.differences.iter().sum::<usize>() <= SHOWN {
             println!("difference: {what}; {}", about(drawn, self.seed, number));
-            println!("{}", decoded(drawn, "Rust", right));
-            println!("{}", decoded(drawn, "planner", said));
+            println!("{}", decoded(&drawn.sheet, "Rust", right));
+            println!("{}", decoded(&drawn.sheet, "planner", said));
         }
     }
 
@@ -214,7 +214,7 @@ impl Tally {
 }
 
 /// Where two answers part.
-fn apart(said: &Result<Vec<u8>, u32>, right: &Result<Vec<u8>, u32>) -> Option<String> {
+pub fn apart(said: &Result<Vec<u8>, u32>, right: &Result<Vec<u8>, u32>) -> Option<String> {
     match (said, right) {
         _ if said == right => None,
         (Ok(said), Ok(right)) => {
@@ -227,24 +227,30 @@ fn apart(said: &Result<Vec<u8>, u32>, right: &Result<Vec<u8>, u32>) -> Option<St
 
 fn about(drawn: &Drawn, seed: u64, number: usize) -> String {
     let Drawn { flavour, sheet, plan_len } = drawn;
-    let hex: String = sheet.iter().take(MOST_SHOWN).map(|byte| format!("{byte:02x}")).collect();
-    let more = if sheet.len() > MOST_SHOWN { ".." } else { "" };
     let method = sheet.get(4).map_or("none".into(), |method| method.to_string());
     format!(
         "seed {seed}, sheet {number}, flavour {}, method {method}, plan of {plan_len} bytes, \
-         sheet {hex}{more}",
-        FLAVOURS[*flavour]
+         sheet {}",
+        FLAVOURS[*flavour],
+        hexadecimal(sheet)
     )
 }
 
+/// Bytes as they are shown, long ones cut.
+pub fn hexadecimal(bytes: &[u8]) -> String {
+    let hex = bytes.iter().take(MOST_SHOWN).map(|byte| format!("{byte:02x}"));
+    hex.chain((bytes.len() > MOST_SHOWN).then(|| "..".into())).collect()
+}
+
 /// An answer as the listing shows it, and the cost.
-fn decoded(drawn: &Drawn, who: &str, answer: &Result<Vec<u8>, u32>) -> String {
+pub fn decoded(sheet: &[u8], who: &str, answer: &Result<Vec<u8>, u32>) -> String {
     match answer {
+        Err(97) => format!("{who}: the plan in was changed"),
         Err(98) => format!("{who}: the sheet was changed"),
         Err(99) => format!("{who}: refused, but the plan buffer was changed"),
         Err(number) => format!("{who}: refused {number}"),
         Ok(plan) => {
-            let read = accepted(OFFERED, &drawn.sheet, &[plan.len()]).ok();
+            let read = accepted(OFFERED, sheet, &[plan.len()]).ok();
             let text = read.and_then(|sheet: Sheet| lines(plan, &sheet));
             let text = text.unwrap_or_else(|| "no plan of this sheet\n".into());
             let cost = plan.get(8..16).map_or(&[][..], |cost| cost);

@@ -7,6 +7,12 @@ impl Random {
         Random(seed)
     }
 
+    /// That of one number among those of a seed.
+    pub fn numbered(seed: u64, number: usize) -> Random {
+        let mixed = Random::new(seed ^ (number as u64).wrapping_mul(0xd134_2543_de82_ef95)).bits();
+        Random::new(mixed)
+    }
+
     pub fn bits(&mut self) -> u64 {
         self.0 = self.0.wrapping_add(0x9e37_79b9_7f4a_7c15);
         let mut z = self.0;
@@ -27,6 +33,19 @@ impl Random {
     /// From 0 up to, not including, 1.
     pub fn unit(&mut self) -> f64 {
         (self.bits() >> 11) as f64 / (1u64 << 53) as f64
+    }
+
+    /// An index, each as likely as its share.
+    pub fn by_share(&mut self, shares: impl Iterator<Item = usize> + Clone) -> usize {
+        let mut left = self.below(shares.clone().sum());
+        let past = |&share: &usize| left.checked_sub(share).inspect(|&less| left = less).is_some();
+        shares.take_while(past).count()
+    }
+
+    pub fn shuffle<T>(&mut self, all: &mut [T]) {
+        for k in (1..all.len()).rev() {
+            all.swap(k, self.below(k + 1));
+        }
     }
 
     pub fn pick<T: Copy>(&mut self, from: &[T]) -> T {

@@ -81,6 +81,17 @@ impl Problem {
         Table { method, customers, distances, vehicles }
     }
 
+    /// The same with one vehicle alone.
+    pub fn table_of(&self, vehicle: usize) -> Table<'_> {
+        Table { vehicles: &self.vehicles[vehicle..=vehicle], ..self.table() }
+    }
+
+    /// The index of the vehicle with an id that the sheet has.
+    pub fn driver_of(&self, id: u32) -> usize {
+        let found = self.vehicles.iter().position(|vehicle| vehicle.id() == id as usize);
+        found.expect("an id of the sheet's")
+    }
+
     pub fn solution(&self) -> Solution {
         self.solution_by(|table| table.solution())
     }
@@ -106,14 +117,10 @@ impl Problem {
         route_eval(stops, driver.depot_id(), &self.distances, &self.customers, limits)
     }
 
-    fn limited(&self, chains: Chains, greatest: usize) -> Solution {
+    pub fn limited(&self, chains: Chains, greatest: usize) -> Solution {
         let Problem { customers, distances, vehicles, .. } = self;
-        let index = |id: u32| {
-            let found = vehicles.iter().position(|vehicle| vehicle.id() == id as usize);
-            found.expect("refused as 10")
-        };
         let (ids, routes): (Vec<u32>, Vec<Vec<usize>>) = chains.rounds.into_iter().unzip();
-        let driven = ids.into_iter().map(index).collect();
+        let driven = ids.into_iter().map(|id| self.driver_of(id)).collect();
         let limited = limit_routes(routes, driven, vehicles, greatest, distances, customers);
 
         let mut solution = Solution::new();
@@ -124,7 +131,7 @@ impl Problem {
         let mut aside = [chains.aside, limited.unserved].concat();
         aside.sort_unstable();
         aside.into_iter().for_each(|stop| solution.add_unassigned(stop));
-        solution.price(|route| &vehicles[index(route.vehicle_id() as u32)]);
+        solution.price(|route| &vehicles[self.driver_of(route.vehicle_id() as u32)]);
         solution
     }
 }

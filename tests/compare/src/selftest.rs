@@ -9,7 +9,8 @@ use crate::lawful::{judge, Claims};
 use crate::listing::listing;
 use crate::plan::{chains, encode_chains, plan_len, round_at, stop_at, Chains};
 use crate::plans::{Exact, Expected};
-use crate::reference::{limit, plan};
+use crate::promises;
+use crate::reference::{limit, plan, Problem};
 use crate::refusal::{accepted, limiter_accepted, refusal, METHODS, OFFERED};
 use crate::sheet::{field, Row, Sheet, Vehicle};
 use crate::sheet::{DEPOT, INSERTION, MAX_DISTANCE, NEAREST, NN_TW, REST, SAVINGS, SWEEP, WINDOW};
@@ -45,6 +46,7 @@ pub fn run() -> ExitCode {
     offered(&mut tally);
     turned_back_by_limiter(&mut tally);
     limited(&mut tally);
+    promised(&mut tally);
     costs(&mut tally);
     judged(&mut tally);
     directions(&mut tally);
@@ -251,6 +253,38 @@ fn limited(tally: &mut Tally) {
     tally.expect("no round left", stands(&none, &sheet), (vec![], vec![1, 2]));
     let aside = planned(&with_max_distance(SAVINGS, 19.0));
     tally.expect("set aside before", limit(&bytes, &aside, 1), Ok(aside.clone()));
+}
+
+/// What a plan out has to keep, of plans in of sheet A where no round may be above 23.
+fn promised(tally: &mut Tally) {
+    let sheet = with_max_distance(SAVINGS, 23.0);
+    let problem = Problem::taken(&sheet);
+    let plan = |rounds: Rounds, aside: &[usize]| Chains {
+        rounds: rounds.iter().map(|stops| (7, stops.to_vec())).collect(),
+        aside: aside.to_vec(),
+    };
+    let (apart, one, none) = (plan(&[&[1], &[2]], &[]), plan(&[&[2]], &[1]), plan(&[], &[1, 2]));
+    let joined = plan(&[&[1, 2]], &[]);
+    let cases: [(&Chains, u32, &Chains, Option<&str>); 8] = [
+        (&apart, 2, &apart, None),
+        (&apart, 1, &one, None),
+        (&joined, 1, &joined, None),
+        (&apart, 1, &apart, Some("a number of rounds")),
+        (&apart, 1, &joined, Some("a round")),
+        (&one, 1, &plan(&[&[1, 2]], &[]), Some("a stop set aside before")),
+        (&joined, 1, &one, Some("a round that is none of the plan in")),
+        (&apart, 0, &plan(&[], &[2, 1]), Some("the order of the stops set aside")),
+    ];
+    for (before, greatest, after, broken) in cases {
+        let mut plan_out = encode_chains(3, after);
+        plan_out[15] = if after.rounds.is_empty() { 0x80 } else { 0 };
+        let got = promises::broken(&sheet, &problem, before, greatest, &plan_out);
+        tally.expect("promised", got, broken);
+    }
+    let unpriced = promises::broken(&sheet, &problem, &none, 1, &encode_chains(3, &none));
+    tally.expect("no round, cost 0", unpriced, Some("the cost of no round"));
+    let lost = promises::broken(&sheet, &problem, &one, 1, &encode_chains(3, &plan(&[&[2]], &[])));
+    tally.expect("a stop lost", lost, Some("a stop not once"));
 }
 
 /// The cost of a plan without rounds: a sum of none is -0.0, but a depot alone is not priced.

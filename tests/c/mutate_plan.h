@@ -1,0 +1,96 @@
+/*
+ * Plans for the limiter to take, and mutations of them that know their form: links,
+ * the number of rounds, ids, and what is not read.
+ */
+#ifndef MUTATE_PLAN_H
+#define MUTATE_PLAN_H
+
+#include "mutate.h"
+
+/* A plan in for the sheet that it was made for, and the rest of a call. */
+struct plan_in {
+    uint8_t bytes[MOST_PLAN];
+    size_t len, plan_out_len;
+    uint32_t greatest;
+};
+
+/* Where any link stands: of a round, of the stops set aside, of a row. */
+static inline uint8_t *any_link(uint8_t *plan, unsigned rows)
+{
+    unsigned any = draw(rows);
+    switch (draw(4)) {
+    case 0: return round_record(plan, any) + AT_FIRST;
+    case 1: return plan + AT_ASIDE;
+    default: return stop_of(plan, rows, any) + AT_NEXT;
+    }
+}
+
+/* To a stop, to itself, to none, or beyond; or two that change places. */
+static inline void change_link(uint8_t *plan, unsigned rows)
+{
+    uint8_t *link = any_link(plan, rows), *other = any_link(plan, rows);
+    uint64_t had = get(link, 2);
+    const uint64_t to[] = {0, draw(rows), draw(rows), rows, rows + 1, had ^ 0x100, had ^ 0x8000, 0xffff};
+    if (one_in(2)) {
+        put(link, get(other, 2), 2);
+        put(other, had, 2);
+    } else {
+        put(link, PICK(to), 2);
+    }
+}
+
+static inline void change_round_count(uint8_t *plan, unsigned rows)
+{
+    uint64_t had = get(plan + AT_ROUNDS, 2);
+    const uint64_t to[] = {0, had + 1, had - (had > 0), rows, rows + 1, draw(rows + 2), had ^ 0x100, 0xffff};
+    put(plan + AT_ROUNDS, PICK(to), 2);
+}
+
+static inline void change_round_id(struct sheet *s, uint8_t *plan, unsigned rows)
+{
+    uint8_t *id = round_record(plan, draw(rows));
+    if (vehicles_in(s) > 0 && !one_in(3))
+        put(id, get(vehicle_of(s->bytes, draw(vehicles_in(s))) + AT_ID, 4), 4);
+    else
+        put(id, get(id, 4) ^ UINT64_C(1) << draw(32), 4);
+}
+
+/* Noise behind a plan's links, so that what is not read differs. */
+static inline void deal_on_noise(struct sheet *s, uint8_t *plan)
+{
+    for (size_t i = 0; i < PLANNER_PLAN_BYTES(rows_in(s)); i++)
+        plan[i] = (uint8_t)next_random(&state);
+    deal_plan(plan, s->bytes, draw(rows_in(s) + 1), one_in(4), &state);
+}
+
+static inline void mutate_plan(struct sheet *s, uint8_t *plan)
+{
+    unsigned rows = rows_in(s);
+    switch (rows > 0 ? draw(6) : 5) {
+    case 0:
+    case 1: change_link(plan, rows); break;
+    case 2: change_round_count(plan, rows); break;
+    case 3: change_round_id(s, plan, rows); break;
+    default: plan[draw((unsigned)PLANNER_PLAN_BYTES(rows))] = (uint8_t)next_random(&state); break;
+    }
+}
+
+/* For a sheet whose fields can be found: its own plan if it has one, or one dealt, at times mutated. */
+static inline void make_plan_in(struct plan_in *p, struct sheet *s, const uint8_t *own)
+{
+    size_t exact = PLANNER_PLAN_BYTES(rows_in(s));
+    const uint64_t lens[] = {exact - 1, exact + 1, 0, exact - 16, draw(MOST_PLAN + 1)};
+    if (own != NULL && one_in(2))
+        memcpy(p->bytes, own, exact);
+    else
+        deal_on_noise(s, p->bytes);
+    while (one_in(2))
+        mutate_plan(s, p->bytes);
+    unsigned rounds = (unsigned)get(p->bytes + AT_ROUNDS, 2);
+    const uint64_t wide[] = {UINT64_C(0x100), UINT64_C(0x10000), UINT64_C(0x80000000), UINT64_C(0xffffffff)};
+    p->greatest = (uint32_t)(one_in(12) ? PICK(wide) | draw(4) : draw(rounds % 128 + 2));
+    p->len = one_in(40) ? (size_t)PICK(lens) : exact;
+    p->plan_out_len = one_in(40) ? (size_t)PICK(lens) : exact;
+}
+
+#endif
