@@ -1,4 +1,6 @@
 // The cheapest insertion of the stops pending, over every round and place.
+mod places;
+
 use evaluation::limits;
 use fleet::Pick;
 use plan::terms::Terms;
@@ -107,7 +109,7 @@ fn try_walks(
         choice: best,
         at: end,
     };
-    let done = judging::try_places(sheet, terms, prices, route, row, trial, tried, i);
+    let done = places::try_places(sheet, terms, prices, route, row, trial, tried, i);
     done.choice
 }
 

@@ -13,12 +13,12 @@ use Rattle.plan.specs.Outcome.{Outcome}
 use Rattle.plan.specs.Read.{isStop, one, count, outcomeRight}
 use Rattle.plan.specs.Once.{count-append}
 use Rattle.multi_depot.specs.ByDepot.{isIn}
-use Rattle.multi_depot.specs.Each.{stops-count}
+use Rattle.multi_depot.specs.Each.{count-chains, stops-count}
 use Rattle.multi_depot.specs.Ascending.{those-ascending}
 use Rattle.solomon_i1.specs.Later.{Ascending}
 use Rattle.fleet.specs.Limit.{refitOn, dropped, dropRound, limitOn, softIn, limitRoutes}
 use Rattle.fleet.specs.Steps.{limit-on-kept}
-use Rattle.fleet.specs.Placed.{count-aside, outcome-once}
+use Rattle.fleet.specs.Placed.{outcome-once}
 
 drop-aside : (s : List ℕ) (soft : Bool) (o : Outcome) (x : ℕ) → count x (o .aside) ≤ count x (dropRound s soft o .aside)
 unfolding dropRound
@@ -37,7 +37,7 @@ module _ (s : List ℕ) (greatest : ℕ) (o : Outcome) where
       let l = limitOn s (softIn s o) greatest (length (o .rounds)) o in
       let m = limit-on-kept s (softIn s o) greatest (λ (q : Outcome). count x (o .aside) ≤ count x (q .aside)) (λ q f u. omega (arith, u, drop-aside s (softIn s o) q x)) (length (o .rounds)) o (omega arith) in
       stops-count s (λ c. isIn c (l .aside)) x
-      ∙ counted (isStop s x) (isIn x (l .aside)) (omega (arith, outcome-once s o t x, count-aside x (o .rounds) (o .aside))) (lt-ltb 0 (count x (l .aside)) (omega (arith, m, h)))
+      ∙ counted (isStop s x) (isIn x (l .aside)) (omega (arith, outcome-once s o t x, count-chains x (o .rounds) (o .aside))) (lt-ltb 0 (count x (l .aside)) (omega (arith, m, h)))
 
   pub aside-ascends : Ascending (limitRoutes s greatest o .aside)
   unfolding limitRoutes

@@ -16,11 +16,11 @@ use Rattle.sheet.specs.Depots.{depotsOf}
 use Rattle.plan.specs.Outcome.{Round, Outcome}
 use Rattle.plan.specs.Read.{idsKnown, chains, stopsOf, isStop, linksRight, one, count, eachOnce, outcomeRight}
 use Rattle.plan.specs.Once.{count-append}
-use Rattle.plan.specs.LaidLaws.{chains-aside, chains-append}
+use Rattle.plan.specs.LaidLaws.{chains-append}
 use Rattle.plan.specs.Every.{Every}
 use Rattle.plan.specs.Moved.{inserted, without-count, inserted-count}
 use Rattle.multi_depot.specs.ByDepot.{isIn}
-use Rattle.multi_depot.specs.Each.{stops-count, stop-counted, links-of}
+use Rattle.multi_depot.specs.Each.{count-chains, stops-count, stop-counted, links-of}
 use Rattle.solomon_i1.specs.Later.{roundAt}
 use Rattle.fleet.specs.Limit.{victimOf, withoutRound, putIn, Refit, refitOn, dropped, dropRound, limitOn, ascending, softIn, limitRoutes}
 use Rattle.fleet.specs.Bounds.{victim-among}
@@ -28,11 +28,8 @@ use Rattle.fleet.specs.Steps.{refit-on-kept, limit-on-kept}
 use Rattle.fleet.specs.Kept.{limit-every}
 
 -- ---- a stop, counted over the rounds and those set aside
-pub count-aside : (x : ℕ) (rs : List Round) (aside : List ℕ) → count x (chains rs aside) ≡ count x (chains rs []) + count x aside
-count-aside x rs aside = ap (count x) (chains-aside rs aside) ∙ count-append x (chains rs []) aside
-
 chains-count : (x : ℕ) (rs : List Round) (stops aside : List ℕ) → count x (chains rs (stops ++ aside)) ≡ count x stops + count x (chains rs aside)
-chains-count x rs stops aside = omega (arith, count-aside x rs (stops ++ aside), count-append x stops aside, count-aside x rs aside)
+chains-count x rs stops aside = omega (arith, count-chains x rs (stops ++ aside), count-append x stops aside, count-chains x rs aside)
 
 put-count : (x i k row : ℕ) (rs : List Round) (aside : List ℕ) → i < length rs → count x (chains (putIn i k row rs) aside) ≡ one (eqb x row) + count x (chains rs aside)
 unfolding chains putIn
@@ -126,9 +123,9 @@ unfolding limitRoutes
 limit-once s greatest o f x =
     let l = limitOn s (softIn s o) greatest (length (o .rounds)) o in
     let e = limit-on-count s (softIn s o) x greatest (length (o .rounds)) o in
-    count-aside x (l .rounds) (ascending s (l .aside))
+    count-chains x (l .rounds) (ascending s (l .aside))
     ∙ ap (λ (n : ℕ). count x (chains (l .rounds) []) + n) (stops-count s (λ c. isIn c (l .aside)) x)
-    ∙ settles (isStop s x) (count x (chains (l .rounds) [])) (count x (l .aside)) (sym (count-aside x (l .rounds) (l .aside)) ∙ e ∙ f x)
+    ∙ settles (isStop s x) (count x (chains (l .rounds) [])) (count x (l .aside)) (sym (count-chains x (l .rounds) (l .aside)) ∙ e ∙ f x)
 
 -- ---- every vehicle known
 abbrev Known : List ℕ → Round → Type 0

@@ -65,7 +65,7 @@ stops-count s p x = those-count p (rowsOf s - depotsOf s) (depotsOf s) x ∙ go 
     go false t e f = refl
 
 -- ---- the depots, one after another
-count-chains : (x : ℕ) (rs : List Round) (aside : List ℕ) → count x (chains rs aside) ≡ count x (chains rs []) + count x aside
+pub count-chains : (x : ℕ) (rs : List Round) (aside : List ℕ) → count x (chains rs aside) ≡ count x (chains rs []) + count x aside
 count-chains x rs aside = ap (count x) (chains-aside rs aside) ∙ count-append x (chains rs []) aside
 
 joined-count : (o p : Outcome) (x : ℕ) → count x (stopsOf (joined o p)) ≡ count x (stopsOf o) + count x (stopsOf p)

@@ -124,7 +124,7 @@ rounds-in stops ends vehicles (r ∷ rs) start k e v t =
     let q = drop-drop (length (r .stops)) start stops in
     rw (h .0, w .0, d, p .0, rounds-in stops ends vehicles rs (start + length (r .stops)) (k + 1) (h .1) (w .1) (rw q at (p .1)))
 
-ends-last : (rs : List Round) (start m : ℕ) → length rs ≡ suc m → getD (endsFrom start rs) m 0 ≡ start + routedIn rs
+pub ends-last : (rs : List Round) (start m : ℕ) → length rs ≡ suc m → getD (endsFrom start rs) m 0 ≡ start + routedIn rs
 unfolding endsFrom routedIn
 ends-last [] start m e = absurd (omega arith)
 ends-last (r ∷ []) start zero e = omega arith
@@ -158,10 +158,10 @@ links-at s (x ∷ xs) zero t h = ltb→lt x (rowsOf s) (and-r (leb (depotsOf s) 
 links-at s (x ∷ xs) (suc k) t h = links-at s xs k (and-r (isStop s x) (linksRight s xs) t) (omega arith)
 
 -- a table that starts so is long enough
-long-enough : (l xs : List ℕ) (n : ℕ) → take n l ≡ xs → length xs ≡ n → n ≤ length l
+pub long-enough : (l xs : List ℕ) (n : ℕ) → take n l ≡ xs → length xs ≡ n → n ≤ length l
 long-enough l xs n e h = omega (arith, ap length e, length-take n l)
 
-none-routed : (rs : List Round) → length rs ≡ 0 → routedIn rs ≡ 0
+pub none-routed : (rs : List Round) → length rs ≡ 0 → routedIn rs ≡ 0
 unfolding routedIn
 none-routed [] e = refl
 none-routed (r ∷ rs) e = absurd (omega arith)

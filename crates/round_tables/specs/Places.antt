@@ -1,16 +1,17 @@
 -- Where a round stands in the tables of an outcome, and when tables are an outcome's. Assumes nothing.
-use mathlib.Core.Path.{_≡_, refl, sym, ap, _∙_}
+use mathlib.Core.Path.{_≡_, sym, ap, _∙_}
 use Prim.Native.Nat.{ℕ, zero, suc, _+_, _-_, _≤_, _<_}
 use native.Mathlib.Nat.{zero-add}
 use native.Mathlib.Omega.{arith}
 use mathlib.Core.List.{List, [], _∷_, _++_}
-use lib.ListN.{length, getD, take, drop, length-append, length-take, length-drop}
+use lib.ListN.{length, getD, take, drop, length-append, length-drop}
 use lib.Seq.{length-take-le, take-take, take-add, take-at, drop-at, drop-append-add, getD-at, getD-take, split-at}
 use Rattle.plan.specs.Outcome.{Round, Outcome, startIn}
 use Rattle.plan.specs.Read.{chains}
 use Rattle.plan.specs.Laid.{endsFrom, vehiclesFrom, routedIn}
 use Rattle.plan.specs.LaidLaws.{chains-aside, chains-append, length-routed, length-ends, length-vehicles, routed-append, ends-append, vehicles-append}
 use Rattle.plan.specs.Members.{part}
+use Rattle.plan.specs.Holds.{ends-last, none-routed, long-enough}
 use Rattle.solomon_i1.specs.Later.{roundAt}
 use Rattle.round_tables.specs.Asked.{Tabled}
 
@@ -38,25 +39,9 @@ module _ (t xs : List ℕ) (y : ℕ) (ys : List ℕ) (k n : ℕ) (e : take n t �
   parts-behind = let u = parts-long in part-behind t (k + 1) n (omega arith) h ∙ ap (drop (k + 1)) e ∙ rw (← l) (drop-append-add xs (y ∷ ys) 1)
 
 -- ---- where rounds end
-ends-last : (rs : List Round) (start m : ℕ) → length rs ≡ suc m → getD (endsFrom start rs) m 0 ≡ start + routedIn rs
-unfolding endsFrom routedIn
-ends-last [] start m e = absurd (omega arith)
-ends-last (r ∷ []) start zero e = omega arith
-ends-last (r ∷ []) start (suc m) e = absurd (omega arith)
-ends-last (r ∷ q ∷ rs) start zero e = absurd (omega arith)
-ends-last (r ∷ q ∷ rs) start (suc m) e = ends-last (q ∷ rs) (start + length (r .stops)) m (omega arith) ∙ omega arith
-
-none-routed : (rs : List Round) → length rs ≡ 0 → routedIn rs ≡ 0
-unfolding routedIn
-none-routed [] e = refl
-none-routed (r ∷ rs) e = absurd (omega arith)
-
 start-upto : (ends : List ℕ) (rs : List Round) (k : ℕ) → length rs ≡ k → take k ends ≡ endsFrom 0 rs → startIn ends k ≡ routedIn rs
 start-upto ends rs zero l e = sym (none-routed rs l)
 start-upto ends rs (suc m) l e = sym (getD-take (suc m) ends m 0 (omega arith)) ∙ ap (λ (t : List ℕ). getD t m 0) e ∙ ends-last rs 0 m l ∙ omega arith
-
-long-enough : (t xs : List ℕ) (n : ℕ) → take n t ≡ xs → length xs ≡ n → n ≤ length t
-long-enough t xs n e h = omega (arith, ap length e, length-take n t)
 
 -- ---- one round of an outcome's tables
 module _ (stops ends vehicles : List ℕ) (n total : ℕ) (o : Outcome) (held : Tabled stops ends vehicles n total o) where

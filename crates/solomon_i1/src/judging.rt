@@ -217,7 +217,7 @@ fn rebuilt(tried: Tried) -> Tried
 }
 
 // From before the first stop to after the last.
-pub fn try_places(
+fn try_places(
     sheet: &[u8],
     terms: Terms,
     prices: Prices,

@@ -1,0 +1,13 @@
+-- `cheapest::places::rebuilt` meets its contract. Assumes nothing.
+use borrow.Author.Needs.{needs}
+use Rattle.cheapest.proofs.places.rebuilt.Statement.{statement}
+use Rattle.cheapest.proofs.places.rebuilt.Tie as tie
+
+rebuilt-requires : tie.Need-rebuilt-requires
+rebuilt-requires c κs = search needs
+
+returns : tie.Need-returns
+returns c = rw (c .rebuilt .ensures)
+
+pub rebuilt-spec : {M : Type 1} → statement M
+rebuilt-spec = tie.close (tie.spec rebuilt-requires returns)
