@@ -151,3 +151,9 @@ module _ (s : List ℕ) (w : Windows) (v : ℕ) (route : List ℕ) (row : ℕ) (
       taken room f x g =
           let standing = not-false (not (w .soft) || passes s v route) (sym stood ∙ f) in
           g ∙ ap (λ (y : Terms). tryPlaces s y route i row c (suc (length route)) 0) told ∙ places-so room (λ p. rw p at standing) i c (suc (length route)) 0 (omega arith) ∙ rw (within, standing)
+
+    -- where no check is asked, no window is soft
+    pub free : load + demand ≤ t .capacity → length route < 101 → t .soft ≡ false → (x : Choice) → x ≡ tryPlaces s t route i row c (suc (length route)) 0 → x ≡ into
+    free h room hard x g =
+        let none : nought ≡ softCost s t route = rw hard in
+        taken h nought none room (number-below 0 nought (zero-upto 0)) x g

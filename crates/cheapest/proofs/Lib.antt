@@ -3,3 +3,5 @@ pub mod Judged
 pub mod Rounds
 pub mod Pending
 pub mod Unwon
+pub mod Prefix
+pub mod Freely

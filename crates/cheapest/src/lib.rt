@@ -92,6 +92,9 @@ fn try_walks(
     if terms.capacity < judging::load_of(sheet, route) + customer::demand(sheet, row as usize) {
         return best;
     }
+    if !terms.constrained {
+        return places::try_free(sheet, terms, route, row, best, i);
+    }
     // With soft windows a round that is not allowed as it stands costs without end, and takes no stop.
     let endless = f64::from_bits(0x7ff0_0000_0000_0000);
     let round = judging::soft_cost(sheet, terms, route);

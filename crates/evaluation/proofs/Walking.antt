@@ -29,7 +29,7 @@ pub record Walking (s route : List ℕ) (depot : ℕ) (l : Label) (distance : Fl
   pub same : walkOf s depot route ≡ walkFrom s depot (Done l) distance prev (drop i route)
 
 -- a label that is gone stays gone
-gone : (s : List ℕ) (depot : ℕ) (distance : Float) (prev : ℕ) (rows : List ℕ) → walkFrom s depot Refused distance prev rows ≡ Unlawful
+pub gone : (s : List ℕ) (depot : ℕ) (distance : Float) (prev : ℕ) (rows : List ℕ) → walkFrom s depot Refused distance prev rows ≡ Unlawful
 unfolding walkFrom stepOf unrested
 gone s depot distance prev [] = refl
 gone s depot distance prev (row ∷ rows) = gone s depot (distance ⊕ distanceOf s prev row) row rows

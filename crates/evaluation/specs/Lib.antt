@@ -6,6 +6,7 @@ pub mod Clock
 pub mod Walk
 pub mod Limits
 pub mod Feasible
+pub mod Ahead
 pub mod Longer
 pub mod Checks
 pub mod Bounds

@@ -1,4 +1,5 @@
 // What a round is worth: its times, its lateness and its rest, and whether its vehicle allows it.
+pub mod ahead;
 pub mod checks;
 pub mod clock;
 pub mod label;

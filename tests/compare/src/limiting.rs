@@ -8,11 +8,14 @@ use crate::fit::Round;
 use crate::inserts::{places, Place};
 use crate::kinds::{Kind, Seen};
 use crate::plan::{round_at, stop_at, Chains};
-use crate::reference::Problem;
-use crate::trial::{driver, load, passes, priced, WalkKinds};
+use crate::reference::{Problem, Table};
+use crate::trial::{driver, lateness, load, passes, priced, WalkKinds};
 
 /// Plans of more rows are not followed: every place of every stop is looked at again.
 pub const MOST_ROWS: usize = 24;
+
+/// From so many stops on the port keeps the walk up to some stop, and tries later places from there.
+const KEPT: usize = 5;
 
 const WALKS: WalkKinds = WalkKinds {
     refused: [Kind::MoveLate, Kind::MoveRest, Kind::MoveFar, Kind::MoveLong],
@@ -228,7 +231,21 @@ impl Seen {
             self.mark(Kind::MoveBarred, !open && place.passes);
             let mends = *open && place.passes && !passes(&table, &round.stops);
             self.mark(Kind::MoveMends, mends);
+            if place.at >= KEPT && driver(&table).rest().is_none() {
+                self.behind(problem, &table, *open, place);
+            }
         }
+    }
+
+    /// A place behind stops that are walked once for it and others.
+    fn behind(&mut self, problem: &Problem, table: &Table, open: bool, place: &Place) {
+        let before = lateness(table, &place.trial.stops[..place.at]);
+        let windows = has_time_windows(&problem.customers);
+        self.mark(Kind::MoveOn, windows && open && place.passes);
+        self.mark(Kind::MoveOnLate, open && place.passes && before.is_some_and(|cost| cost > 0.0));
+        let missed = lateness(table, &place.trial.stops).is_none();
+        self.mark(Kind::MoveOnMissed, missed && before.is_some());
+        self.mark(Kind::MoveOnLost, before.is_none());
     }
 
     fn moved(&mut self, problem: &Problem, rounds: &[Round], moves: &[Move], taken: &Move) {

@@ -51,6 +51,11 @@ pub fn priced(table: &Table, stops: &[usize]) -> f64 {
     eval.map_or(f64::INFINITY, |eval| eval.priced_distance())
 }
 
+/// What a round's lateness costs, limits apart; `None` where a hard window is missed.
+pub fn lateness(table: &Table, stops: &[usize]) -> Option<f64> {
+    eval(table, stops, &RouteLimits::NONE).map(|eval| eval.lateness_cost)
+}
+
 pub fn load(table: &Table, stops: &[usize]) -> i32 {
     stops.iter().map(|&stop| table.customers[stop].demand()).sum()
 }
