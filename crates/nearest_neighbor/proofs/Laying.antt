@@ -8,7 +8,7 @@ use mathlib.Core.List.{List, [], _∷_, _++_, append-nil}
 use lib.ListN.{length, getD, take, drop, length-append, length-drop}
 use lib.Seq.{length-take-le, drop-cons, drop-length, append-snoc}
 use Rattle.wire.specs.Bytes.{write}
-use Rattle.wire.specs.Laws.{length-write, write-write}
+use Rattle.wire.specs.Laws.{length-write}
 use Rattle.wire.specs.Overwrite.{write-same, part-write, write-over}
 use Rattle.sheet.specs.Fields.{rowsOf, vehiclesOf}
 use Rattle.plan.specs.declared.tables.Filled.{Filled}
@@ -17,14 +17,12 @@ use Rattle.plan.specs.Read.{chains}
 use Rattle.plan.specs.Every.{Every, every-of, every-at}
 use Rattle.plan.specs.Members.{part, Members, Fleet}
 use Rattle.plan.specs.Laid.{endsFrom, vehiclesFrom, routedIn, filledBy, Laid, Room}
-use Rattle.plan.specs.LaidLaws.{chains-aside, chains-append, length-chains, length-ends, length-vehicles, routed-append, ends-append, vehicles-append}
+use Rattle.plan.specs.Entered.{enters-one}
+use Rattle.plan.specs.LaidLaws.{chains-aside, chains-append, length-chains, length-ends, length-vehicles, routed-append}
 use Rattle.nearest_neighbor.specs.declared.greedy.Heuristic.{Heuristic}
 use Rattle.nearest_neighbor.specs.Greedy.{Grown, roundOf, withStops, after, greedy}
 use Rattle.nearest_neighbor.specs.Ride.{ruleOf}
 use Rattle.nearest_neighbor.proofs.Leaving.{joins, round-long, round-every}
-
-filled : {a b c d : ℕ} → a ≡ c → b ≡ d → _≡_ {A = Filled} (record { rounds = a; routed = b }) (record { rounds = c; routed = d })
-filled e f = rw (e, f)
 
 -- rounds before an outcome's
 abbrev pub joined : List Round → Outcome → Outcome
@@ -192,21 +190,13 @@ module _ (s : List ℕ) (depot : ℕ) (h : Heuristic) (fleet stops₀ ends₀ ve
           omega (arith, vehicles-long, rounds-at, g .each, g .all, g .room .rounds, g .room .driven, long, some),
         )
 
-        -- a table with an entry more
-        entered : (t₀ t u xs : List ℕ) (x n : ℕ) → t ≡ write t₀ n xs → n + length xs < length t₀ → u ≡ write t (n + length xs) (x ∷ []) → u ≡ write t₀ n (xs ++ (x ∷ []))
-        entered t₀ t u xs x n e l q = q ∙ ap (λ (y : List ℕ). write y (n + length xs) (x ∷ [])) e ∙ write-write t₀ n xs (omega arith) (x ∷ []) (omega arith)
-
         pub closed : (ends′ vehicles′ : List ℕ) (at : ℕ) (f′ : Filled) → at ≡ f .routed + length (grown .stops) → f′ ≡ record { rounds = f .rounds + 1; routed = at } → ends′ ≡ write ends (f .rounds) (at ∷ []) → vehicles′ ≡ write vehicles (f .rounds) (index ∷ [])
             → Laying s depot h fleet stops₀ ends₀ vehicles₀ f₀ total stops′ ends′ vehicles′ f′ (k + 1) end
         unfolding endsFrom vehiclesFrom routedIn chains
         closed ends′ vehicles′ at f′ e u p q =
             let more : routedIn (g .done ++ (round ∷ [])) ≡ routedIn (g .done) + length (grown .stops) = routed-append (g .done) (round ∷ []) ∙ omega arith in
             let many : length (g .done ++ (round ∷ [])) ≡ length (g .done) + 1 = length-append (g .done) (round ∷ []) in
-            let le = length-ends (f₀ .routed) (g .done) in
-            let lv = length-vehicles (g .done) in
-            let ne : f .rounds ≡ f₀ .rounds + length (endsFrom (f₀ .routed) (g .done)) = omega (arith, rounds-at, le) in
-            let nv : f .rounds ≡ f₀ .rounds + length (vehiclesFrom (g .done)) = omega (arith, rounds-at, lv) in
-            let at′ : at ≡ f₀ .routed + routedIn (g .done) + length (grown .stops) = omega (arith, e, start-at) in
+            let one = enters-one ends₀ vehicles₀ f₀ (g .done) ends vehicles f (record { ended = g .laid .ended; driven = g .laid .driven; count = g .count }) round ends′ vehicles′ f′ at (omega (arith, ends-long, roomy .0)) (omega (arith, vehicles-long, roomy .1)) e u p q in
             record {
               members = g .members;
               room = g .room;
@@ -217,14 +207,10 @@ module _ (s : List ℕ) (depot : ℕ) (h : Heuristic) (fleet stops₀ ends₀ ve
               left = grown .left;
               laid = record {
                 stopped = stopped-on ∙ ap (write stops₀ (f₀ .routed)) (sym (chains-append (g .done) (round ∷ []) (grown .left) ∙ chains-aside (g .done) (grown .stops ++ grown .left)));
-                ended =
-                    entered ends₀ ends ends′ (endsFrom (f₀ .routed) (g .done)) at (f₀ .rounds) (g .laid .ended) (omega (arith, ne, ends-long, roomy .0)) (p ∙ ap (λ (n : ℕ). write ends n (at ∷ [])) ne)
-                    ∙ ap (write ends₀ (f₀ .rounds)) (ap (λ (n : ℕ). endsFrom (f₀ .routed) (g .done) ++ (n ∷ [])) at′ ∙ sym (ends-append (f₀ .routed) (g .done) (round ∷ [])));
-                driven =
-                    entered vehicles₀ vehicles vehicles′ (vehiclesFrom (g .done)) index (f₀ .rounds) (g .laid .driven) (omega (arith, nv, vehicles-long, roomy .1)) (q ∙ ap (λ (n : ℕ). write vehicles n (index ∷ [])) nv)
-                    ∙ ap (write vehicles₀ (f₀ .rounds)) (sym (vehicles-append (g .done) (round ∷ [])));
+                ended = one .ended;
+                driven = one .driven;
               };
-              count = u ∙ filled (omega (arith, rounds-at, many)) (omega (arith, at′, more));
+              count = one .count;
               all = omega (arith, g .all, long, more);
               each = omega (arith, g .each, more, many, some);
               rows = round-every (λ (i : ℕ). i < rowsOf s) (ruleOf s depot h index) depot (g .left) (g .rows);

@@ -1,27 +1,21 @@
 -- Tables in which an outcome is laid down go on: stops set aside change their order, or the first of them become a round. Assumes nothing.
-use mathlib.Core.Path.{_≡_, sym, ap, _∙_}
+use mathlib.Core.Path.{_≡_, refl, sym, ap, _∙_}
 use Prim.Native.Nat.{ℕ, _+_, _≤_, _<_}
 use native.Mathlib.Omega.{arith}
 use mathlib.Core.List.{List, [], _∷_, _++_, append-assoc}
 use lib.ListN.{length, take, drop, length-append}
 use Rattle.wire.specs.Bytes.{write}
-use Rattle.wire.specs.Laws.{length-write, write-write}
+use Rattle.wire.specs.Laws.{length-write}
 use Rattle.wire.specs.Overwrite.{part-write, write-over}
 use Rattle.plan.specs.declared.tables.Filled.{Filled}
 use Rattle.plan.specs.Outcome.{Round, Outcome}
 use Rattle.plan.specs.Read.{chains}
 use Rattle.plan.specs.Laid.{endsFrom, vehiclesFrom, routedIn, filledBy, Laid}
-use Rattle.plan.specs.LaidLaws.{chains-aside, chains-append, length-chains, length-ends, length-vehicles, routed-append, ends-append, vehicles-append}
+use Rattle.plan.specs.LaidLaws.{chains-aside, chains-append, length-chains, length-ends, length-vehicles}
+use Rattle.plan.specs.Entered.{one-counted, enters-one}
 
 abbrev outcome : List Round → List ℕ → Outcome
 outcome done aside = record { rounds = done; aside = aside }
-
-filled : {a b c d : ℕ} → a ≡ c → b ≡ d → _≡_ {A = Filled} (record { rounds = a; routed = b }) (record { rounds = c; routed = d })
-filled e f = rw (e, f)
-
--- a table with an entry more
-entered : (t₀ t u xs : List ℕ) (x n : ℕ) → t ≡ write t₀ n xs → n + length xs < length t₀ → u ≡ write t (n + length xs) (x ∷ []) → u ≡ write t₀ n (xs ++ (x ∷ []))
-entered t₀ t u xs x n e l q = q ∙ ap (λ (y : List ℕ). write y (n + length xs) (x ∷ [])) e ∙ write-write t₀ n xs (omega arith) (x ∷ []) (omega arith)
 
 module _ (stops₀ ends₀ vehicles₀ : List ℕ) (f₀ : Filled) (done : List Round) (aside stops ends vehicles : List ℕ) (laid : Laid stops₀ ends₀ vehicles₀ f₀ (outcome done aside) stops ends vehicles) where
   abbrev routed : List ℕ
@@ -75,29 +69,16 @@ module _ (stops₀ ends₀ vehicles₀ : List ℕ) (f₀ : Filled) (done : List 
 -- the first of them a round
 module _ (stops₀ ends₀ vehicles₀ : List ℕ) (f₀ : Filled) (done : List Round) (r : Round) (aside stops ends vehicles : List ℕ) (f : Filled) (laid : Laid stops₀ ends₀ vehicles₀ f₀ (outcome done (r .stops ++ aside)) stops ends vehicles) (count : f ≡ filledBy f₀ done)
     (end : ℕ) (e : end ≡ f .routed + length (r .stops)) where
-  routed-so : f .routed ≡ f₀ .routed + routedIn done
-  routed-so = ap (λ (x : Filled). x .routed) count
-
-  rounds-so : f .rounds ≡ f₀ .rounds + length done
-  rounds-so = ap (λ (x : Filled). x .rounds) count
-
   pub round-counted : record { rounds = f .rounds + 1; routed = end } ≡ filledBy f₀ (done ++ (r ∷ []))
-  unfolding routedIn
-  round-counted = filled (omega (arith, rounds-so, length-append done (r ∷ []))) (omega (arith, e, routed-so, routed-append done (r ∷ [])))
+  round-counted = one-counted f₀ done f r end count e
 
   pub round-laid : (ends′ vehicles′ : List ℕ) → f .rounds < length ends₀ → f .rounds < length vehicles₀ → ends′ ≡ write ends (f .rounds) (end ∷ []) → vehicles′ ≡ write vehicles (f .rounds) (r .vehicle ∷ [])
       → Laid stops₀ ends₀ vehicles₀ f₀ (outcome (done ++ (r ∷ [])) aside) stops ends′ vehicles′
-  unfolding endsFrom vehiclesFrom chains
+  unfolding chains
   round-laid ends′ vehicles′ h k p q =
-      let ne : f .rounds ≡ f₀ .rounds + length (endsFrom (f₀ .routed) done) = omega (arith, rounds-so, length-ends (f₀ .routed) done) in
-      let nv : f .rounds ≡ f₀ .rounds + length (vehiclesFrom done) = omega (arith, rounds-so, length-vehicles done) in
-      let at : end ≡ f₀ .routed + routedIn done + length (r .stops) = omega (arith, e, routed-so) in
+      let one = enters-one ends₀ vehicles₀ f₀ done ends vehicles f (record { ended = laid .ended; driven = laid .driven; count = count }) r ends′ vehicles′ (record { rounds = f .rounds + 1; routed = end }) end h k e refl p q in
       record {
         stopped = laid .stopped ∙ ap (write stops₀ (f₀ .routed)) (sym (chains-append done (r ∷ []) aside));
-        ended =
-            entered ends₀ ends ends′ (endsFrom (f₀ .routed) done) end (f₀ .rounds) (laid .ended) (omega (arith, ne)) (p ∙ ap (λ (n : ℕ). write ends n (end ∷ [])) ne)
-            ∙ ap (write ends₀ (f₀ .rounds)) (ap (λ (n : ℕ). endsFrom (f₀ .routed) done ++ (n ∷ [])) at ∙ sym (ends-append (f₀ .routed) done (r ∷ [])));
-        driven =
-            entered vehicles₀ vehicles vehicles′ (vehiclesFrom done) (r .vehicle) (f₀ .rounds) (laid .driven) (omega (arith, nv)) (q ∙ ap (λ (n : ℕ). write vehicles n (r .vehicle ∷ [])) nv)
-            ∙ ap (write vehicles₀ (f₀ .rounds)) (sym (vehicles-append done (r ∷ [])));
+        ended = one .ended;
+        driven = one .driven;
       }

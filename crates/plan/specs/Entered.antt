@@ -31,8 +31,16 @@ enters-none ends vehicles f h l = record {
 entry : (t₀ t u xs : List ℕ) (x n at : ℕ) → t ≡ write t₀ n xs → at ≡ n + length xs → at < length t₀ → u ≡ write t at (x ∷ []) → u ≡ write t₀ n (xs ++ (x ∷ []))
 entry t₀ t u xs x n at e m l q = q ∙ ap (λ (k : ℕ). write t k (x ∷ [])) m ∙ ap (λ (y : List ℕ). write y (n + length xs) (x ∷ [])) e ∙ write-write t₀ n xs (omega arith) (x ∷ []) (omega arith)
 
-so-filled : {a b c d : ℕ} → a ≡ c → b ≡ d → _≡_ {A = Filled} (record { rounds = a; routed = b }) (record { rounds = c; routed = d })
-so-filled e f = rw (e, f)
+filled : {a b c d : ℕ} → a ≡ c → b ≡ d → _≡_ {A = Filled} (record { rounds = a; routed = b }) (record { rounds = c; routed = d })
+filled e f = rw (e, f)
+
+-- how far the tables are filled with a round more
+pub one-counted : (f₀ : Filled) (done : List Round) (f : Filled) (r : Round) (end : ℕ) → f ≡ filledBy f₀ done → end ≡ f .routed + length (r .stops) → record { rounds = f .rounds + 1; routed = end } ≡ filledBy f₀ (done ++ (r ∷ []))
+unfolding routedIn
+one-counted f₀ done f r end count e =
+    let rounds = ap (λ (x : Filled). x .rounds) count in
+    let routed = ap (λ (x : Filled). x .routed) count in
+    filled (omega (arith, rounds, length-append done (r ∷ []))) (omega (arith, e, routed, routed-append done (r ∷ [])))
 
 module _ (ends₀ vehicles₀ : List ℕ) (f₀ : Filled) (done : List Round) (ends vehicles : List ℕ) (f : Filled) (g : Entered ends₀ vehicles₀ f₀ done ends vehicles f) where
   pub rounds-at : f .rounds ≡ f₀ .rounds + length done
@@ -51,7 +59,7 @@ module _ (ends₀ vehicles₀ : List ℕ) (f₀ : Filled) (done : List Round) (e
   pub enters-one : (r : Round) (ends′ vehicles′ : List ℕ) (f′ : Filled) (end : ℕ) → f .rounds < length ends₀ → f .rounds < length vehicles₀ → end ≡ f .routed + length (r .stops)
       → f′ ≡ record { rounds = f .rounds + 1; routed = end } → ends′ ≡ write ends (f .rounds) (end ∷ []) → vehicles′ ≡ write vehicles (f .rounds) (r .vehicle ∷ [])
       → Entered ends₀ vehicles₀ f₀ (done ++ (r ∷ [])) ends′ vehicles′ f′
-  unfolding endsFrom vehiclesFrom routedIn
+  unfolding endsFrom vehiclesFrom
   enters-one r ends′ vehicles′ f′ end h l e u p q =
       let at : end ≡ f₀ .routed + routedIn done + length (r .stops) = omega (arith, e, routed-at) in
       record {
@@ -61,5 +69,5 @@ module _ (ends₀ vehicles₀ : List ℕ) (f₀ : Filled) (done : List Round) (e
         driven =
             entry vehicles₀ vehicles vehicles′ (vehiclesFrom done) (r .vehicle) (f₀ .rounds) (f .rounds) (g .driven) (omega (arith, rounds-at, length-vehicles done)) l q
             ∙ ap (write vehicles₀ (f₀ .rounds)) (sym (vehicles-append done (r ∷ [])));
-        count = u ∙ so-filled (omega (arith, rounds-at, length-append done (r ∷ []))) (omega (arith, at, routed-append done (r ∷ [])));
+        count = u ∙ one-counted f₀ done f r end (g .count) e;
       }

@@ -17,9 +17,9 @@ pub mod TablesBack
 pub mod Members
 pub mod Laid
 pub mod LaidLaws
+pub mod Entered
 pub mod Closing
 pub mod Same
 pub mod Moved
 pub mod Holds
 pub mod Terms
-pub mod Entered

@@ -66,7 +66,7 @@ module _ (s : List ℕ) (depot : ℕ) (limits : RouteLimits) (free : T (isUnlimi
       (walk-kept atDepot nought depot route e)
 
 -- ---- what it means that no check is needed
-neither : (a b : Bool) → (a || b) ≡ false → (a ≡ false) × (b ≡ false)
+pub neither : (a b : Bool) → (a || b) ≡ false → (a ≡ false) × (b ≡ false)
 neither true b e = absurd (true≢false e)
 neither false b e = (refl, e)
 

@@ -4,7 +4,7 @@ use Prim.Native.Nat.{ℕ, zero, suc, _+_, _*_, _-_, _≤_, _<_}
 use native.Mathlib.Nat.{add-zero}
 use native.Mathlib.Omega.{arith}
 use mathlib.Core.List.{List, [], _∷_, _++_, append-nil}
-use lib.ListN.{length, getD, take, drop, length-append, length-drop, drop-of-length-le}
+use lib.ListN.{length, getD, take, drop, length-drop, drop-of-length-le}
 use lib.Seq.{length-take-le, take-all, drop-drop}
 use Rattle.wire.specs.Bytes.{write}
 use Rattle.wire.specs.Laws.{length-write, write-write}
@@ -13,7 +13,8 @@ use Rattle.plan.specs.declared.tables.Filled.{Filled}
 use Rattle.plan.specs.Outcome.{Round, Outcome}
 use Rattle.plan.specs.Read.{chains}
 use Rattle.plan.specs.Laid.{endsFrom, vehiclesFrom, routedIn, filledBy, Laid}
-use Rattle.plan.specs.LaidLaws.{chains-aside, chains-append, length-routed, length-ends, length-vehicles, routed-append, ends-append, vehicles-append}
+use Rattle.plan.specs.Entered.{enters-one}
+use Rattle.plan.specs.LaidLaws.{chains-aside, chains-append, length-routed, length-ends, length-vehicles}
 use Rattle.savings.specs.Savings.{roundsOf}
 use Rattle.slots.specs.Slots.{slotAt, slotsFrom, slotsIn, stopsIn, Laying}
 use Rattle.slots.specs.SlotsLaws.{slots-more}
@@ -83,13 +84,6 @@ pub record Filling (n : ℕ) (cells lens : List ℕ) (v : ℕ) (stops₀ ends₀
   pub within : k ≤ n
   pub laid : Laid stops₀ ends₀ vehicles₀ f₀ (laidSo (roundsOf v (slotsIn k cells lens)) []) stops ends vehicles
   pub count : f ≡ filledBy f₀ (roundsOf v (slotsIn k cells lens))
-
--- a table with an entry more
-entered : (t₀ t u xs : List ℕ) (x n : ℕ) → t ≡ write t₀ n xs → n + length xs < length t₀ → u ≡ write t (n + length xs) (x ∷ []) → u ≡ write t₀ n (xs ++ (x ∷ []))
-entered t₀ t u xs x n e l q = q ∙ ap (λ (y : List ℕ). write y (n + length xs) (x ∷ [])) e ∙ write-write t₀ n xs (omega arith) (x ∷ []) (omega arith)
-
-filled : {a b c d : ℕ} → a ≡ c → b ≡ d → _≡_ {A = Filled} (record { rounds = a; routed = b }) (record { rounds = c; routed = d })
-filled e f = rw (e, f)
 
 -- nothing at first
 pub begins : (n : ℕ) (cells lens : List ℕ) (v : ℕ) (stops ends vehicles : List ℕ) (f : Filled) → Laying n cells lens stops ends vehicles f → Filling n cells lens v stops ends vehicles f stops ends vehicles f 0
@@ -221,13 +215,8 @@ module _ {n : ℕ} {cells lens : List ℕ} {v : ℕ} {stops₀ ends₀ vehicles�
           → Filling n cells lens v stops₀ ends₀ vehicles₀ f₀ stops′ ends′ vehicles′ f′ (k + 1)
       unfolding endsFrom vehiclesFrom routedIn chains
       closed stops′ ends′ vehicles′ f′ p u q r =
-          let at = f .routed + many in
-          let longer : routedIn (done ++ (round ∷ [])) ≡ before + many = routed-append done (round ∷ []) ∙ omega (arith, rounds-routed v (slotsIn k cells lens), long-route) in
-          let one-more : length (done ++ (round ∷ [])) ≡ length done + 1 = length-append done (round ∷ []) in
           let ns : f .routed ≡ f₀ .routed + length (chains done []) = omega (arith, start-at, long-routed) in
-          let ne : f .rounds ≡ f₀ .rounds + length (endsFrom (f₀ .routed) done) = omega (arith, rounds-at, length-ends (f₀ .routed) done) in
-          let nv : f .rounds ≡ f₀ .rounds + length (vehiclesFrom done) = omega (arith, rounds-at, length-vehicles done) in
-          let end : at ≡ f₀ .routed + routedIn done + length route = omega (arith, start-at, rounds-routed v (slotsIn k cells lens), long-route) in
+          let one = enters-one ends₀ vehicles₀ f₀ done ends vehicles f (record { ended = g .laid .ended; driven = g .laid .driven; count = g .count }) round ends′ vehicles′ f′ (f .routed + many) (omega (arith, ends-long, close-room .0 .0)) (omega (arith, vehicles-long, close-room .0 .1)) (omega (arith, long-route)) u q r in
           record {
             room = g .room;
             within = omega arith;
@@ -238,14 +227,10 @@ module _ {n : ℕ} {cells lens : List ℕ} {v : ℕ} {stops₀ ends₀ vehicles�
                   ∙ ap (λ (l : List ℕ). write l (f₀ .routed + length (chains done [])) route) (g .laid .stopped)
                   ∙ write-write stops₀ (f₀ .routed) (chains done []) (omega (arith, long-routed, below, g .room .stopped)) route (omega (arith, long-routed, long-route, up-to, g .room .stopped))
                   ∙ ap (write stops₀ (f₀ .routed)) (sym (chains-append done (round ∷ []) [] ∙ chains-aside done (route ++ []) ∙ ap (λ (l : List ℕ). chains done [] ++ l) (append-nil route)));
-              ended =
-                  entered ends₀ ends ends′ (endsFrom (f₀ .routed) done) at (f₀ .rounds) (g .laid .ended) (omega (arith, ne, ends-long, close-room .0 .0)) (q ∙ ap (λ (m : ℕ). write ends m (at ∷ [])) ne)
-                  ∙ ap (write ends₀ (f₀ .rounds)) (ap (λ (m : ℕ). endsFrom (f₀ .routed) done ++ (m ∷ [])) end ∙ sym (ends-append (f₀ .routed) done (round ∷ [])));
-              driven =
-                  entered vehicles₀ vehicles vehicles′ (vehiclesFrom done) v (f₀ .rounds) (g .laid .driven) (omega (arith, nv, vehicles-long, close-room .0 .1)) (r ∙ ap (λ (m : ℕ). write vehicles m (v ∷ [])) nv)
-                  ∙ ap (write vehicles₀ (f₀ .rounds)) (sym (vehicles-append done (round ∷ [])));
+              ended = one .ended;
+              driven = one .driven;
             });
-            count = rw added (u ∙ filled (omega (arith, rounds-at, one-more)) (omega (arith, start-at, longer)));
+            count = rw added (one .count);
           }
 
       -- as the code copies it

@@ -1,22 +1,18 @@
 -- Where no round needs a check, no window is soft, and a walk would pass every round of the members. Assumes nothing.
 use mathlib.Core.Path.{_≡_, refl}
 use Prim.Native.Nat.{ℕ}
-use mathlib.Core.Bool.{Bool, true, false, not, _||_, true≢false}
+use mathlib.Core.Bool.{true, false, not}
 use mathlib.Core.List.{List, [], _∷_}
 use Rattle.sheet.specs.Values.{vehicleOf}
 use Rattle.sheet.specs.declared.customer.Gate.{Gate}
 use Rattle.sheet.specs.declared.customer.Gate.the-variants.{Open, Hard, Soft}
 use Rattle.evaluation.specs.Limits.{limitsOf, isUnlimited}
 use Rattle.evaluation.specs.Checks.{windowed, rowWindowed, someWindowed, hasTimeWindows, hasSoftWindows, routeChecksNeeded}
-use Rattle.plan.specs.Unchecked.{unchecked-free, unchecked-windowless}
+use Rattle.plan.specs.Unchecked.{neither, unchecked-free, unchecked-windowless}
 use Rattle.plan.specs.Terms.{termsOf}
 use Rattle.solomon_i1.specs.Trial.{Unwalked}
 
 -- ---- without a window there is no soft one
-neither : (a b : Bool) → (a || b) ≡ false → (a ≡ false) × (b ≡ false)
-neither true b e = absurd (true≢false e)
-neither false b e = (refl, e)
-
 not-soft : (g : Gate) → windowed false g ≡ false → windowed true g ≡ false
 not-soft Open e = refl
 not-soft (Hard w) e = refl

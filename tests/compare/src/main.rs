@@ -14,7 +14,8 @@
 //!     compare bench SIDE CASE RUNS   one side of one case alone, for a profiler
 //!     compare bench plans ..         the planner against the Rust, in the same three ways
 //!     compare bench limits ..        the limiter against the Rust, likewise
-//!     compare slowest METHOD SECONDS SEED FILE   a sheet that takes the planner long
+//!     compare slowest METHOD SECONDS SEED FILE   a sheet that takes the planner long; for
+//!                                                METHOD `limiter`, a call of that
 //!     compare freeze COUNT SEED DIR  writes DIR/stdin and DIR/stdout, a sample to keep
 //!     compare freeze plans COUNT SEED DIR   the same, of plans
 //!     compare freeze limits COUNT SEED DIR  the same, of the limiter's calls
@@ -62,6 +63,7 @@ mod rounds;
 mod sample;
 mod selftest;
 mod sheet;
+mod slow_limits;
 mod slow_starts;
 mod slowest;
 mod stream;
