@@ -12,9 +12,9 @@ use Rattle.sheet.specs.Depots.{depotsOf}
 use Rattle.plan.specs.Outcome.{Outcome}
 use Rattle.plan.specs.Read.{isStop, one, count, outcomeRight}
 use Rattle.plan.specs.Once.{count-append}
-use Rattle.multi_depot.specs.ByDepot.{isIn}
-use Rattle.multi_depot.specs.Each.{count-chains, stops-count}
-use Rattle.multi_depot.specs.Ascending.{those-ascending}
+use Rattle.offers.specs.ByDepot.{isIn}
+use Rattle.offers.specs.Each.{count-chains, stops-count}
+use Rattle.offers.specs.Ascending.{those-ascending}
 use Rattle.solomon_i1.specs.Later.{Ascending}
 use Rattle.fleet.specs.Limit.{refitOn, dropped, dropRound, limitOn, softIn, limitRoutes}
 use Rattle.fleet.specs.Steps.{limit-on-kept}

@@ -20,7 +20,7 @@ use Rattle.plan.specs.Read.{chains, count}
 use Rattle.plan.specs.Every.{loadOf}
 use Rattle.plan.specs.SheetA.{one, four, ten, f64s, header, row, none, vehicle, table, sheetA}
 use Rattle.solomon_i1.specs.Cases.{carrying}
-use Rattle.multi_depot.specs.Those.{those}
+use Rattle.offers.specs.Those.{those}
 use Rattle.fleet.specs.Cheapest.{judgeAt, placesFrom, takes, inRound, insertionFrom, pickFrom}
 use Rattle.fleet.specs.Limit.{leastFrom, victimOf, putIn, refit, refitOn, dropRound, limitOn, limitRoutes}
 

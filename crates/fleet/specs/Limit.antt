@@ -9,7 +9,7 @@ use Rattle.plan.specs.Outcome.{Round, Outcome}
 use Rattle.plan.specs.Read.{stopsOf}
 use Rattle.plan.specs.Every.{loadOf}
 use Rattle.plan.specs.Moved.{without, inserted}
-use Rattle.multi_depot.specs.ByDepot.{stopsWith, isIn}
+use Rattle.offers.specs.ByDepot.{stopsWith, isIn}
 use Rattle.fleet.specs.Cheapest.{pickOf}
 use Rattle.fleet.specs.declared.Pick.{Pick}
 use Rattle.fleet.specs.declared.Pick.the-variants.{Nothing, Put}

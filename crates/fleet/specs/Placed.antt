@@ -19,8 +19,8 @@ use Rattle.plan.specs.Once.{count-append}
 use Rattle.plan.specs.LaidLaws.{chains-append}
 use Rattle.plan.specs.Every.{Every}
 use Rattle.plan.specs.Moved.{inserted, without-count, inserted-count}
-use Rattle.multi_depot.specs.ByDepot.{isIn}
-use Rattle.multi_depot.specs.Each.{count-chains, stops-count, stop-counted, links-of}
+use Rattle.offers.specs.ByDepot.{isIn}
+use Rattle.offers.specs.Each.{count-chains, stops-count, stop-counted, links-of}
 use Rattle.solomon_i1.specs.Later.{roundAt}
 use Rattle.fleet.specs.Limit.{victimOf, withoutRound, putIn, Refit, refitOn, dropped, dropRound, limitOn, ascending, softIn, limitRoutes}
 use Rattle.fleet.specs.Bounds.{victim-among}

@@ -13,11 +13,12 @@ use Rattle.sheet.specs.Depots.{depotsOf}
 use Rattle.plan.specs.Read.{isStop, one, count}
 use Rattle.plan.specs.Once.{count-append}
 use Rattle.plan.specs.Holds.{empty}
-use Rattle.multi_depot.specs.Those.{those-few, those-alike}
-use Rattle.multi_depot.specs.ByDepot.{isNobody, nextDepot, membersOf, plannedOf, plannedUpto, planned, isIn, movesTo, offeredFrom, offered}
-use Rattle.multi_depot.specs.Each.{stops-count}
-use Rattle.multi_depot.specs.Asked.{Marks, Cleared, Remarked, Alike, Next, markedBy}
-use Rattle.multi_depot.proofs.Planning.{aside-members}
+use Rattle.offers.specs.Those.{those-few, those-alike}
+use Rattle.offers.specs.ByDepot.{isNobody, nextDepot, membersOf, plannedOf, plannedUpto, planned, isIn, movesTo, offeredFrom, offered}
+use Rattle.offers.specs.Each.{stops-count}
+use Rattle.offers.specs.Asked.{Marks, Cleared, Alike, markedBy, Next}
+use Rattle.offers.proofs.Plans.{aside-members}
+use Rattle.multi_depot.specs.Asked.{Remarked}
 
 -- ---- a row is turned down by its own depot alone
 -- a depot's stops set aside

@@ -21,14 +21,15 @@ use Rattle.plan.specs.Same.{same-length}
 use Rattle.plan.specs.Members.{part}
 use Rattle.plan.specs.LaidLaws.{length-chains}
 use Rattle.plan.specs.Holds.{Held, empty, holds-none, holds-behind, held-outcome, held-tables}
-use Rattle.multi_depot.specs.Those.{those-all, those-alike}
-use Rattle.multi_depot.specs.ByDepot.{isNobody, stopsWith, allStops, membersOf, plannedOf, planned, leftOut, offered, moved, settledIn, firstAt, settledAt, gathered, byDepot, outcomeOf}
-use Rattle.multi_depot.specs.Settled.{attemptsLeft, length-offered, unmoved, offer-falls, settles, moves-on, length-first, enough}
-use Rattle.multi_depot.specs.Each.{gathered-once, all-once}
-use Rattle.multi_depot.specs.Rounds.{outcome-right, rounds-few}
-use Rattle.multi_depot.specs.Asked.{Marks, setAside, Lent, Desk, Next, Planned, Untouched, Told}
-use Rattle.multi_depot.specs.Marked.{turned}
-use Rattle.multi_depot.proofs.Sharing.{Shared, part-there, length-planned}
+use Rattle.offers.specs.Those.{those-all, those-alike}
+use Rattle.offers.specs.ByDepot.{isNobody, stopsWith, allStops, membersOf, plannedOf, planned, leftOut, offered, moved, settledIn, firstAt, settledAt, gathered, byDepot, outcomeOf}
+use Rattle.offers.specs.Settled.{attemptsLeft, length-offered, unmoved, offer-falls, settles, moves-on, length-first, enough}
+use Rattle.offers.specs.Each.{gathered-once, all-once}
+use Rattle.offers.specs.Rounds.{outcome-right, rounds-few}
+use Rattle.offers.specs.Asked.{Marks, setAside, Lent, Next, Planned}
+use Rattle.offers.specs.Marked.{turned}
+use Rattle.offers.proofs.Sharing.{Shared, part-there, length-planned}
+use Rattle.multi_depot.specs.Asked.{Desk, Untouched, Told}
 
 -- so many rounds of offers are enough, and settle the stops as they are to be
 pub record Settling (s at : List ℕ) : Type 0 where

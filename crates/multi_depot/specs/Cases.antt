@@ -14,8 +14,8 @@ use Rattle.plan.specs.Read.{count}
 use Rattle.plan.specs.SheetA.{one, three, four, ten, f64s, header, row, none, vehicle}
 use Rattle.nearest_neighbor.specs.Greedy.{choose, grow, growOn, greedy}
 use Rattle.nearest_neighbor.specs.Nearest.{nearestOffer, nearestOnward, nearestNeighbor, windowOffer, windowOnward, nearestNeighborTw}
-use Rattle.multi_depot.specs.Those.{those}
-use Rattle.multi_depot.specs.ByDepot.{fleetOf, manned, sooner, askedAfter, nearestFrom, nextDepot, membersOf, constructOf, plannedOf, plannedUpto, movesTo, offeredFrom, offered, moved, settledIn, firstFrom, firstAt, settledAt, gathered, byDepot, outcomeOf}
+use Rattle.offers.specs.Those.{those}
+use Rattle.offers.specs.ByDepot.{fleetOf, manned, sooner, askedAfter, nearestFrom, nextDepot, membersOf, constructOf, plannedOf, plannedUpto, movesTo, offeredFrom, offered, moved, settledIn, firstFrom, firstAt, settledAt, gathered, byDepot, outcomeOf}
 
 abbrev rows : List ℕ
 rows = row 0 0 1 none ++ (row 0 0 1 none ++ (row 0 2 0 none ++ row 0 2 0 none))

@@ -1,4 +1,6 @@
 // Several depots: each stop goes to the nearest that has a vehicle, and where it is turned down to the next.
+use offers::members;
+use offers::planning;
 use plan::tables::Filled;
 use sheet::customer;
 ghost use mathlib.Core.Path.{_≡_};
@@ -6,167 +8,11 @@ ghost use mathlib.Core.Bool.{false};
 ghost use Prim.Native.Nat.{_-_, _≤_, _<_};
 ghost use lib.ListN.{length};
 ghost use Rattle.sheet.specs.Depots.{depotsOf};
-ghost use Rattle.sheet.specs.Fields.{rowsOf, methodOf};
-ghost use Rattle.plan.specs.Laid.{Laid, filledBy};
-ghost use Rattle.plan.specs.Members.{part};
+ghost use Rattle.sheet.specs.Fields.{rowsOf};
 ghost use Rattle.plan.specs.Holds.{Held};
-ghost use Rattle.multi_depot.specs.ByDepot.{membersOf, plannedOf, planned, offered, firstAt, settledAt, byDepot, outcomeOf, allStops};
-ghost use Rattle.multi_depot.specs.Asked.{Marks, Lent, Desk, Ready, Next, Added, Planned, Remarked, Untouched, Told, constructAt};
-
-mod depots;
-pub mod members;
-pub mod offers;
-
-// Savings with the depot's first vehicle; without one every stop is set aside, as it stands. Chosen by `plan_depot` and by
-// `one_depot` each: a function with two callers is not inlined, so no other method has the frame of the savings' tables.
-fn by_savings(
-    sheet: &[u8],
-    depot: usize,
-    fleet: &mut [u16],
-    stops: &mut [u16],
-    ends: &mut [u16],
-    vehicles: &mut [u16],
-    filled: Filled,
-    total: usize,
-) -> Filled
-    requires { ⌜ Ready (now sheet) depot (now fleet) (now stops) (now ends) (now vehicles) filled total ⌝ }
-    requires { ⌜ methodOf (now sheet) ≡ 0 ⌝ }
-    ensures { λ r. ⌜ r ≡ filledBy filled (constructAt (now (sheet .entry)) depot (part (now (stops .entry)) (filled .routed) total) .rounds) ⌝ }
-    ensures { λ _. ⌜ Laid (now (stops .entry)) (now (ends .entry)) (now (vehicles .entry)) filled (constructAt (now (sheet .entry)) depot (part (now (stops .entry)) (filled .routed) total)) (now (stops .exit)) (now (ends .exit)) (now (vehicles .exit)) ⌝ }
-{
-    if members::fleet_of(sheet, depot, fleet) == 0 {
-        return filled;
-    }
-    clarke_wright::clarke_wright_savings(
-        sheet,
-        depot,
-        fleet[0],
-        stops,
-        ends,
-        vehicles,
-        filled,
-        total,
-    )
-}
-
-// Every other constructor by the method's number: the nearest neighbours with the depot's vehicles, insertion and sweep with
-// the first.
-fn construct(
-    sheet: &[u8],
-    depot: usize,
-    fleet: &mut [u16],
-    stops: &mut [u16],
-    ends: &mut [u16],
-    vehicles: &mut [u16],
-    filled: Filled,
-    total: usize,
-) -> Filled
-    requires { ⌜ Ready (now sheet) depot (now fleet) (now stops) (now ends) (now vehicles) filled total ⌝ }
-    requires { ⌜ (methodOf (now sheet) ≡ 0 → ⊥) ⌝ }
-    ensures { λ r. ⌜ r ≡ filledBy filled (constructAt (now (sheet .entry)) depot (part (now (stops .entry)) (filled .routed) total) .rounds) ⌝ }
-    ensures { λ _. ⌜ Laid (now (stops .entry)) (now (ends .entry)) (now (vehicles .entry)) filled (constructAt (now (sheet .entry)) depot (part (now (stops .entry)) (filled .routed) total)) (now (stops .exit)) (now (ends .exit)) (now (vehicles .exit)) ⌝ }
-{
-    let n = members::fleet_of(sheet, depot, fleet);
-    let method = sheet::method(sheet);
-    if method == 2 {
-        return nearest_neighbor::nearest_neighbor(
-            sheet,
-            depot,
-            &fleet[0..n],
-            stops,
-            ends,
-            vehicles,
-            filled,
-            total,
-        );
-    }
-    if method == 3 {
-        return nearest_neighbor::nearest_neighbor_tw(
-            sheet,
-            depot,
-            &fleet[0..n],
-            stops,
-            ends,
-            vehicles,
-            filled,
-            total,
-        );
-    }
-    if n == 0 {
-        return filled;
-    }
-    if method == 1 {
-        return solomon_i1::solomon_i1(sheet, depot, fleet[0], stops, ends, vehicles, filled, total);
-    }
-    sweep::sweep(sheet, depot, fleet[0], stops, ends, vehicles, filled, total)
-}
-
-// A depot with its members, which no other has; without any it is not planned. The stops that it turns down are marked.
-fn plan_depot(
-    sheet: &[u8],
-    at: &[u16],
-    marks: &mut [u16],
-    fleet: &mut [u16],
-    stops: &mut [u16],
-    ends: &mut [u16],
-    vehicles: &mut [u16],
-    depot: usize,
-    filled: Filled,
-) -> Filled
-    requires { ⌜ Lent (now sheet) (now at) (now fleet) (now stops) (now ends) (now vehicles) ⌝ }
-    requires { ⌜ Next (now sheet) (now at) depot filled × (rowsOf (now sheet) ≤ length (now marks)) ⌝ }
-    ensures { λ r. ⌜ Added (now (marks .entry)) (now (stops .entry)) (now (ends .entry)) (now (vehicles .entry)) filled (plannedOf (now (sheet .entry)) depot (membersOf (now (sheet .entry)) (now (at .entry)) depot)) (now (marks .exit)) (now (stops .exit)) (now (ends .exit)) (now (vehicles .exit)) r ⌝ }
-{
-    let from = filled.routed;
-    let total = members::members_of(sheet, at, depot, stops, from);
-    if total == from {
-        return filled;
-    }
-    if sheet::method(sheet) == 0 {
-        let saved = by_savings(sheet, depot, fleet, stops, ends, vehicles, filled, total);
-        offers::mark(marks, stops, saved.routed, total);
-        return saved;
-    }
-    let done = construct(sheet, depot, fleet, stops, ends, vehicles, filled, total);
-    offers::mark(marks, stops, done.routed, total);
-    done
-}
-
-// Every depot in order.
-fn plan_depots(
-    sheet: &[u8],
-    depots: usize,
-    at: &[u16],
-    marks: &mut [u16],
-    fleet: &mut [u16],
-    stops: &mut [u16],
-    ends: &mut [u16],
-    vehicles: &mut [u16],
-) -> Filled
-    requires { ⌜ Lent (now sheet) (now at) (now fleet) (now stops) (now ends) (now vehicles) ⌝ }
-    requires { ⌜ (depots ≡ depotsOf (now sheet)) × (rowsOf (now sheet) ≤ length (now marks)) ⌝ }
-    ensures { λ r. ⌜ Planned (now (sheet .entry)) (now (marks .exit)) (now (stops .exit)) (now (ends .exit)) (now (vehicles .exit)) r (planned (now (sheet .entry)) (now (at .entry))) ⌝ }
-{
-    offers::fill(marks, 0);
-    let mut filled = Filled {
-        rounds: 0,
-        routed: 0,
-    };
-    for depot in 0..depots {
-        filled = plan_depot(
-            sheet,
-            at,
-            marks,
-            fleet,
-            stops,
-            ends,
-            vehicles,
-            depot,
-            filled,
-        );
-    }
-    filled
-}
+ghost use Rattle.offers.specs.ByDepot.{plannedOf, planned, offered, firstAt, settledAt, byDepot, outcomeOf, allStops};
+ghost use Rattle.offers.specs.Asked.{Marks, Lent};
+ghost use Rattle.multi_depot.specs.Asked.{Desk, Remarked, Untouched, Told};
 
 // A depot planned anew, from the start of the tables on: only its marks are needed.
 fn remark(
@@ -188,7 +34,7 @@ fn remark(
         rounds: 0,
         routed: 0,
     };
-    plan_depot(
+    planning::plan_depot(
         sheet,
         at,
         marks,
@@ -286,7 +132,7 @@ fn by_depot(
     let rows = at.len();
     let mut before = [0u16; 101];
     offers::first_at(sheet, depots, at);
-    let filled = plan_depots(sheet, depots, at, marks, fleet, stops, ends, vehicles);
+    let filled = planning::plan_depots(sheet, depots, at, marks, fleet, stops, ends, vehicles);
     if !settle(
         sheet,
         depots,
@@ -301,7 +147,7 @@ fn by_depot(
         members::lay_aside(sheet, at, marks, stops, filled.routed);
         return filled;
     }
-    let last = plan_depots(sheet, depots, at, marks, fleet, stops, ends, vehicles);
+    let last = planning::plan_depots(sheet, depots, at, marks, fleet, stops, ends, vehicles);
     members::lay_aside(sheet, at, marks, stops, last.routed);
     last
 }
@@ -328,9 +174,9 @@ fn one_depot(
         return filled;
     }
     if sheet::method(sheet) == 0 {
-        return by_savings(sheet, 0, fleet, stops, ends, vehicles, filled, total);
+        return planning::by_savings(sheet, 0, fleet, stops, ends, vehicles, filled, total);
     }
-    construct(sheet, 0, fleet, stops, ends, vehicles, filled, total)
+    planning::construct(sheet, 0, fleet, stops, ends, vehicles, filled, total)
 }
 
 // The sheet's outcome in the tables that are lent: its rounds, and behind them the stops set aside. `at` and `marks` are for

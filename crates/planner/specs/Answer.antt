@@ -15,7 +15,7 @@ use Rattle.plan.specs.Every.{Every}
 use Rattle.lawful.specs.Whole.{Whole}
 use Rattle.lawful.specs.Lawful.{lawful, keepsCapacity, alone, fits, someSeedFirst}
 use Rattle.solomon_i1.specs.Later.{roundAt}
-use Rattle.multi_depot.specs.ByDepot.{fleetOf, outcomeOf}
+use Rattle.offers.specs.ByDepot.{fleetOf, outcomeOf}
 
 -- ---- the answer
 -- with one depot and no stop the Rust returns before it prices

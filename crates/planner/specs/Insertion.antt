@@ -33,11 +33,11 @@ use Rattle.solomon_i1.specs.Insertion.{planOn, solomonI1}
 use Rattle.solomon_i1.specs.Alone.{NotAlone, insertion-alone}
 use Rattle.solomon_i1.specs.Later.{ClosedTo, seedsFirst, roundAt, ClosedHigher, ClosedAside}
 use Rattle.solomon_i1.specs.Closed.{aside-in, round-in, insertion-closed-higher, insertion-closed-aside}
-use Rattle.multi_depot.specs.Those.{those-all, those-count, those-at}
-use Rattle.multi_depot.specs.Ascending.{those-ascending}
-use Rattle.multi_depot.specs.ByDepot.{fleetOf, allStops, withVehicle, withFirst, constructOf, plannedOf, byDepot, outcomeOf}
-use Rattle.multi_depot.specs.Each.{once, stop-counted}
-use Rattle.multi_depot.specs.Rounds.{stops-link, RoundOfSheet, rounds-known}
+use Rattle.offers.specs.Those.{those-all, those-count, those-at}
+use Rattle.offers.specs.Ascending.{those-ascending}
+use Rattle.offers.specs.ByDepot.{fleetOf, allStops, withVehicle, withFirst, constructOf, plannedOf, byDepot, outcomeOf}
+use Rattle.offers.specs.Each.{once, stop-counted}
+use Rattle.offers.specs.Rounds.{stops-link, RoundOfSheet, rounds-known}
 use Rattle.planner.specs.Answer.{planFor, firstVehicle, Later, higher, set-aside, FitsNowhere, ClosedRounds}
 use Rattle.planner.specs.Promised.{plan-back, Right, all-right, load-same}
 

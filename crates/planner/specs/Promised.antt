@@ -36,10 +36,10 @@ use Rattle.solomon_i1.specs.Insertion.{solomonI1}
 use Rattle.solomon_i1.specs.Feasible.{insertion-feasible}
 use Rattle.sweep.specs.Sweep.{sweep}
 use Rattle.sweep.specs.Feasible.{sweep-feasible}
-use Rattle.multi_depot.specs.Those.{those-all}
-use Rattle.multi_depot.specs.ByDepot.{fleetOf, allStops, withVehicle, withFirst, constructOf, outcomeOf}
-use Rattle.multi_depot.specs.Each.{all-once, once, links-right}
-use Rattle.multi_depot.specs.Rounds.{RoundFrom, constructs-from, rounds-every, outcome-right, rounds-few}
+use Rattle.offers.specs.Those.{those-all}
+use Rattle.offers.specs.ByDepot.{fleetOf, allStops, withVehicle, withFirst, constructOf, outcomeOf}
+use Rattle.offers.specs.Each.{all-once, once, links-right}
+use Rattle.offers.specs.Rounds.{RoundFrom, constructs-from, rounds-every, outcome-right, rounds-few}
 use Rattle.planner.specs.Answer.{planFor, toldBy, answerOf, numberOf, Answered, capacityKept, Standing, LawfulRound}
 
 -- the number is the refusal's, or 0

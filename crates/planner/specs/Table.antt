@@ -37,8 +37,8 @@ use Rattle.solomon_i1.specs.Insertion.{farthestFrom, judge, tryPlaces, tryStops
 use Rattle.solomon_i1.specs.Cases.{due, carrying}
 use Rattle.sweep.specs.Angle.{directionOf, partOf, turnsLeft, below, before}
 use Rattle.sweep.specs.Sweep.{fits, hopeless, closes, stepped, sweptFrom, sweptBy, sweep}
-use Rattle.multi_depot.specs.Those.{those}
-use Rattle.multi_depot.specs.ByDepot.{fleetOf, withVehicle, constructOf, plannedOf, outcomeOf}
+use Rattle.offers.specs.Those.{those}
+use Rattle.offers.specs.ByDepot.{fleetOf, withVehicle, constructOf, plannedOf, outcomeOf}
 use Rattle.planner.specs.Answer.{planned, priced, planFor, answerOf}
 
 -- ---- numbers as f64

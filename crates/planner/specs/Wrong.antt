@@ -16,8 +16,8 @@ use Rattle.plan.specs.Read.{roundsAt, asideAt, idAt, firstAt, nextAt, chainFrom
 use Rattle.plan.specs.SheetA.{sheetA}
 use Rattle.lawful.specs.Whole.{isWhole, WholeRow, WholeVehicle, Whole}
 use Rattle.lawful.specs.Lawful.{stopN, walkN, travelN, somePlace, lawful, loadN, keepsCapacity, makesRound}
-use Rattle.multi_depot.specs.Those.{those}
-use Rattle.multi_depot.specs.ByDepot.{fleetOf}
+use Rattle.offers.specs.Those.{those}
+use Rattle.offers.specs.ByDepot.{fleetOf}
 use Rattle.planner.specs.Answer.{Alone, higher, Closed}
 use Rattle.planner.specs.Table.{oneAndTwo, bothAside}
 

@@ -1,0 +1,10 @@
+pub mod Manning
+pub mod Asking
+pub mod Gathering
+pub mod Marking
+pub mod Clearing
+pub mod Firsts
+pub mod Moving
+pub mod Fleets
+pub mod Sharing
+pub mod Plans
