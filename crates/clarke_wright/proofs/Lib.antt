@@ -1,2 +1,3 @@
 pub mod Merges
 pub mod Planned
+pub mod Tables

@@ -17,7 +17,7 @@ use Rattle.slots.specs.SlotsLaws.{route-few}
 use Rattle.slots.proofs.Rounds.{laidSo}
 
 -- how many members there are
-members-long : {s : List ℕ} {depot : ℕ} {stops : List ℕ} {start total : ℕ} → Members s depot stops start total → length (part stops start total) ≡ total - start
+pub members-long : {s : List ℕ} {depot : ℕ} {stops : List ℕ} {start total : ℕ} → Members s depot stops start total → length (part stops start total) ≡ total - start
 members-long {stops = stops} {start = start} {total = total} ok = length-take-le (total - start) (drop start stops) (omega (arith, length-drop start stops, ok .within, ok .from))
 
 module _ {s : List ℕ} {depot : ℕ} {stops ends vehicles : List ℕ} {f : Filled} {total : ℕ} (ok : Members s depot stops (f .routed) total) (room : Room ends vehicles f total) (t : Terms) {cells lens loads slots : List ℕ}
@@ -35,7 +35,7 @@ module _ {s : List ℕ} {depot : ℕ} {stops ends vehicles : List ℕ} {f : Fill
   pub laying : Laying (total - f .routed) cells lens stops ends vehicles f
   laying = record {
     most = omega (arith, ok .most);
-    celled = g .room .celled;
+    celled = omega (arith, members-long ok, g .room .celled);
     measured = omega (arith, ok .most, g .room .measured);
     long = λ k h. omega (arith, g .long k (omega (arith, members-long ok, h)), route-few (slotsIn (length members) cells lens) k, g .routes .few);
     rounds = room .rounds;

@@ -5,7 +5,7 @@ use savings::terms::Terms;
 use slots::laying;
 use slots::starting;
 ghost use mathlib.Core.Path.{_≡_};
-ghost use Prim.Native.Nat.{ℕ, _≤_, _<_};
+ghost use Prim.Native.Nat.{ℕ, _-_, _*_, _≤_, _<_};
 ghost use lib.ListN.{length, take};
 ghost use Rattle.sheet.specs.Fields.{vehiclesOf};
 ghost use Rattle.evaluation.specs.Routed.{Routed};
@@ -34,7 +34,7 @@ fn merge_members(
 ) -> usize
     requires { ⌜ Routed (now sheet) (terms .depot) (now members) ⌝ }
     requires { ⌜ ((x : ℕ) → count x (now members) ≤ 1) ⌝ }
-    requires { ⌜ Space (now from) (now to) (now values) (now entries) 10201 ⌝ }
+    requires { ⌜ Space (now from) (now to) (now values) (now entries) (length (now members) * length (now members)) ⌝ }
     requires { ⌜ Roomy (length (now members)) (now cells) (now lens) (now loads) (now slots) ⌝ }
     requires { ⌜ (101 ≤ length (now trial)) × (101 ≤ length (now aside)) ⌝ }
     ensures { λ r. ⌜ r ≡ length (asideOf (now (sheet .entry)) terms (now (members .entry))) ⌝ }
@@ -85,8 +85,8 @@ fn plan_by(
     requires { ⌜ Room (now ends) (now vehicles) filled total ⌝ }
     requires { ⌜ vehicle < vehiclesOf (now sheet) ⌝ }
     requires { ⌜ ((x : ℕ) → count x (part (now stops) (filled .routed) total) ≤ 1) ⌝ }
-    requires { ⌜ Space (now from) (now to) (now values) (now entries) 10201 ⌝ }
-    requires { ⌜ Roomy 101 (now cells) (now lens) (now loads) (now slots) ⌝ }
+    requires { ⌜ Space (now from) (now to) (now values) (now entries) ((total - filled .routed) * (total - filled .routed)) ⌝ }
+    requires { ⌜ Roomy (total - filled .routed) (now cells) (now lens) (now loads) (now slots) ⌝ }
     requires { ⌜ (101 ≤ length (now trial)) × (101 ≤ length (now aside)) ⌝ }
     ensures { λ r. ⌜ r ≡ filledBy filled (clarkeWright (now (sheet .entry)) depot vehicle (part (now (stops .entry)) (filled .routed) total) .rounds) ⌝ }
     ensures { λ _. ⌜ Laid (now (stops .entry)) (now (ends .entry)) (now (vehicles .entry)) filled (clarkeWright (now (sheet .entry)) depot vehicle (part (now (stops .entry)) (filled .routed) total)) (now (stops .exit)) (now (ends .exit)) (now (vehicles .exit)) ⌝ }
@@ -145,7 +145,58 @@ pub fn clarke_wright_savings(
     let mut to = [0u16; 10201];
     let mut values = [0.0; 10201];
     let mut entries = [0u16; 10201];
-    let mut cells = [0u16; 10302];
+    let mut cells = [0u16; 10201];
+    let mut lens = [0u16; 101];
+    let mut loads = [0u32; 101];
+    let mut slots = [0u16; 101];
+    let mut trial = [0u16; 101];
+    let mut aside = [0u16; 101];
+    plan_by(
+        sheet,
+        depot,
+        vehicle,
+        stops,
+        ends,
+        vehicles,
+        filled,
+        total,
+        &mut from,
+        &mut to,
+        &mut values,
+        &mut entries,
+        &mut cells,
+        &mut lens,
+        &mut loads,
+        &mut slots,
+        &mut trial,
+        &mut aside,
+    )
+}
+
+// The same of at most 24 members, whose tables are a tenth as large: to set up the others takes longer than such a plan.
+pub fn clarke_wright_few(
+    sheet: &[u8],
+    depot: usize,
+    vehicle: u16,
+    stops: &mut [u16],
+    ends: &mut [u16],
+    vehicles: &mut [u16],
+    filled: Filled,
+    total: usize,
+) -> Filled
+    requires { ⌜ Members (now sheet) depot (now stops) (filled .routed) total ⌝ }
+    requires { ⌜ Room (now ends) (now vehicles) filled total ⌝ }
+    requires { ⌜ vehicle < vehiclesOf (now sheet) ⌝ }
+    requires { ⌜ ((x : ℕ) → count x (part (now stops) (filled .routed) total) ≤ 1) ⌝ }
+    requires { ⌜ total - filled .routed ≤ 24 ⌝ }
+    ensures { λ r. ⌜ r ≡ filledBy filled (clarkeWright (now (sheet .entry)) depot vehicle (part (now (stops .entry)) (filled .routed) total) .rounds) ⌝ }
+    ensures { λ _. ⌜ Laid (now (stops .entry)) (now (ends .entry)) (now (vehicles .entry)) filled (clarkeWright (now (sheet .entry)) depot vehicle (part (now (stops .entry)) (filled .routed) total)) (now (stops .exit)) (now (ends .exit)) (now (vehicles .exit)) ⌝ }
+{
+    let mut from = [0u16; 576];
+    let mut to = [0u16; 576];
+    let mut values = [0.0; 576];
+    let mut entries = [0u16; 576];
+    let mut cells = [0u16; 2424];
     let mut lens = [0u16; 101];
     let mut loads = [0u32; 101];
     let mut slots = [0u16; 101];

@@ -20,7 +20,7 @@ use Rattle.savings.specs.declared.terms.Terms.{Terms}
 use Rattle.savings.specs.Savings.{routeAt, slotOf, firstIs, lastIs, Merge, apart, joined, joining, onlyIf, mayJoin, passesSo, passes, passing, mergeOf, after}
 use Rattle.savings.specs.Joined.{Slots, Stops}
 use Rattle.slots.specs.Slots.{slotAt, slotsIn, stopsIn, Roomy, Slotted, endToEnd, Taken}
-use Rattle.slots.specs.SlotsLaws.{length-slots, slots-at, slots-past, route-few}
+use Rattle.slots.specs.SlotsLaws.{length-slots, slots-at, slots-past, route-few, roomy-within}
 use Rattle.slots.proofs.Slotting.{took-over}
 use Rattle.merging.specs.declared.Way.{Way}
 use Rattle.merging.specs.declared.Way.the-variants.{Apart, Join}
@@ -144,7 +144,8 @@ pub record Fitting (cells lens loads : List ℕ) (into from : ℕ) : Type 0 wher
   pub into-in : into < 101
   pub from-in : from < 101
   pub measured : 101 ≤ length lens
-  pub celled : 10302 ≤ length cells
+  pub into-celled : into * 101 + 101 ≤ length cells
+  pub from-celled : from * 101 + 101 ≤ length cells
   pub loaded : 101 ≤ length loads
   pub into-long : getD lens into 0 ≤ 101
   pub from-long : getD lens from 0 ≤ 101
@@ -174,7 +175,8 @@ module _ (s : List ℕ) (n : ℕ) (cells lens loads slots : List ℕ) (g : Slott
     into-in = omega (arith, p, g .room .most);
     from-in = omega (arith, q, g .room .most);
     measured = g .room .measured;
-    celled = g .room .celled;
+    into-celled = omega (arith, p, g .room .celled);
+    from-celled = omega (arith, q, g .room .celled);
     loaded = g .room .loaded;
     into-long = short-at a p;
     from-long = short-at b q;
@@ -319,11 +321,8 @@ module _ (s : List ℕ) (n : ℕ) (cells lens loads slots : List ℕ) (g : Slott
       load-fits : getD loads into 0 + getD loads from 0 < 0x1_0000_0000
       load-fits = loads-fit into from (two .differ) into-in from-in
 
-      pub takes-over : Roomy 101 cells lens loads slots × (((into < 101) × (from < 101) × (length stops ≤ 101)) × ((getD lens from 0 ≤ 101) × (((m : ℕ) → m < getD lens from 0 → getD (slotAt cells lens from) m 0 < 101) × (getD loads into 0 + getD loads from 0 < 0x1_0000_0000))))
-      takes-over = (
-        record { most = omega arith; celled = g .room .celled; measured = g .room .measured; loaded = g .room .loaded; known = g .room .known },
-        ((fitting .into-in, fitting .from-in, stops-few), (fitting .from-long, (from-row, load-fits))),
-      )
+      pub takes-over : Roomy (into + 1) cells lens loads slots × (Roomy (from + 1) cells lens loads slots × ((length stops ≤ 101) × ((getD lens from 0 ≤ 101) × (((m : ℕ) → m < getD lens from 0 → getD (slotAt cells lens from) m 0 < 101) × (getD loads into 0 + getD loads from 0 < 0x1_0000_0000)))))
+      takes-over = (roomy-within (omega (arith, into-in)) (g .room), (roomy-within (omega (arith, from-in)) (g .room), (stops-few, (fitting .from-long, (from-row, load-fits)))))
 
       -- ---- whether it passes
       module _ (passed : Bool) (v : passed ≡ passesSo s t (cut cells lens into) (cut cells lens from) stops) where

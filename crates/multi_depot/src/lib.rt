@@ -173,7 +173,7 @@ fn one_depot(
     if total == 0 {
         return filled;
     }
-    if sheet::method(sheet) == 0 {
+    if planning::saves_many(sheet, total) {
         return planning::by_savings(sheet, 0, fleet, stops, ends, vehicles, filled, total);
     }
     planning::construct(sheet, 0, fleet, stops, ends, vehicles, filled, total)

@@ -42,7 +42,21 @@ none-of : (s : List ℕ) (d : ℕ) (members fleet : List ℕ) → length fleet �
 none-of s d members [] e = refl
 none-of s d members (v ∷ fleet) e = absurd (omega arith)
 
--- their table
+-- ---- one vehicle, by the method
+module _ (s : List ℕ) (d : ℕ) (members : List ℕ) (v : ℕ) where
+  pub savings-so : methodOf s ≡ 0 → withVehicle s d members v ≡ clarkeWright s d v members
+  unfolding withVehicle
+  savings-so e = rw (eq-eqb (methodOf s) 0 e)
+
+  pub insertion-so : methodOf s ≡ 1 → withVehicle s d members v ≡ solomonI1 s d v members
+  unfolding withVehicle
+  insertion-so e = rw (ne-eqb (methodOf s) 0 (λ q. omega (arith, e, q)), eq-eqb (methodOf s) 1 e)
+
+  pub sweep-so : (methodOf s ≡ 0 → ⊥) → (methodOf s ≡ 1 → ⊥) → withVehicle s d members v ≡ sweep s d v members
+  unfolding withVehicle
+  sweep-so g h = rw (ne-eqb (methodOf s) 0 g, ne-eqb (methodOf s) 1 h)
+
+-- ---- their table
 module _ {s : List ℕ} {depot : ℕ} {fleet stops ends vehicles : List ℕ} {f : Filled} {total : ℕ} (ready : Ready s depot fleet stops ends vehicles f total)
     {fleet′ : List ℕ} {n : ℕ} (counted : n ≡ length (fleetOf s depot)) (written : fleet′ ≡ write fleet 0 (fleetOf s depot)) where
   fits : 0 + length (fleetOf s depot) ≤ length fleet
@@ -106,17 +120,5 @@ module _ {s : List ℕ} {depot : ℕ} {fleet stops ends vehicles : List ℕ} {f 
         pub none-so : (f ≡ filledBy f (constructAt s depot members .rounds)) × Laid stops ends vehicles f (constructAt s depot members) stops ends vehicles
         none-so = (none-filled, none-laid)
 
-      with-some : (n ≡ 0 → ⊥) → constructAt s depot members ≡ withVehicle s depot members (getD fleet′ 0 0)
+      pub with-some : (n ≡ 0 → ⊥) → constructAt s depot members ≡ withVehicle s depot members (getD fleet′ 0 0)
       with-some some = first ∙ first-of s depot members (fleetOf s depot) (λ e. some (counted ∙ e)) ∙ ap (withVehicle s depot members) (sym (front some))
-
-      pub sweep-so : (n ≡ 0 → ⊥) → (method ≡ 0 → ⊥) → (method ≡ 1 → ⊥) → constructAt s depot members ≡ sweep s depot (getD fleet′ 0 0) members
-      unfolding withVehicle
-      sweep-so some g h = with-some some ∙ rw (ne-eqb (methodOf s) 0 (λ q. g (told ∙ q)), ne-eqb (methodOf s) 1 (λ q. h (told ∙ q)))
-
-    pub savings-so : (n ≡ 0 → ⊥) → method ≡ 0 → constructAt s depot members ≡ clarkeWright s depot (getD fleet′ 0 0) members
-    unfolding withVehicle
-    savings-so some e = with-some (λ q. omega (arith, e, q)) (λ q. omega (arith, e, q)) some ∙ rw (eq-eqb (methodOf s) 0 (sym told ∙ e))
-
-    pub insertion-so : (n ≡ 0 → ⊥) → method ≡ 1 → constructAt s depot members ≡ solomonI1 s depot (getD fleet′ 0 0) members
-    unfolding withVehicle
-    insertion-so some e = with-some (λ q. omega (arith, e, q)) (λ q. omega (arith, e, q)) some ∙ rw (ne-eqb (methodOf s) 0 (λ q. omega (arith, told, e, q)), eq-eqb (methodOf s) 1 (sym told ∙ e))

@@ -2,18 +2,20 @@
 use crate::members;
 use plan::tables::Filled;
 ghost use mathlib.Core.Path.{_≡_};
-ghost use Prim.Native.Nat.{_≤_};
+ghost use mathlib.Core.Bool.{true, false};
+ghost use Prim.Native.Nat.{ℕ, _-_, _≤_, _<_};
 ghost use lib.ListN.{length};
 ghost use Rattle.sheet.specs.Depots.{depotsOf};
-ghost use Rattle.sheet.specs.Fields.{rowsOf, methodOf};
-ghost use Rattle.plan.specs.Laid.{Laid, filledBy};
-ghost use Rattle.plan.specs.Members.{part};
-ghost use Rattle.offers.specs.ByDepot.{membersOf, plannedOf, planned};
+ghost use Rattle.sheet.specs.Fields.{rowsOf, vehiclesOf, methodOf};
+ghost use Rattle.plan.specs.Laid.{Laid, Room, filledBy};
+ghost use Rattle.plan.specs.Members.{part, Members};
+ghost use Rattle.plan.specs.Read.{count};
+ghost use Rattle.offers.specs.ByDepot.{withVehicle, membersOf, plannedOf, planned};
 ghost use Rattle.offers.specs.Asked.{Lent, Ready, Next, Added, Planned, constructAt};
 
-// Savings with the depot's first vehicle; without one every stop is set aside, as it stands. Chosen by `plan_depot` and by
-// `multi_depot::one_depot` each: a function with two callers is not inlined, so no other method has the frame of the savings'
-// tables.
+// Savings with the depot's first vehicle, by way of the large tables; without one every stop is set aside, as it stands. Chosen
+// by `plan_depot` and by `multi_depot::one_depot` each: a function with two callers is not inlined, so no other planning has
+// its frame.
 pub fn by_savings(
     sheet: &[u8],
     depot: usize,
@@ -44,8 +46,45 @@ pub fn by_savings(
     )
 }
 
-// Every other constructor by the method's number: the nearest neighbours with the depot's vehicles, insertion and sweep with
-// the first.
+// One vehicle for all rounds: savings of few members, insertion or sweep, by the method's number.
+fn with_vehicle(
+    sheet: &[u8],
+    depot: usize,
+    vehicle: u16,
+    stops: &mut [u16],
+    ends: &mut [u16],
+    vehicles: &mut [u16],
+    filled: Filled,
+    total: usize,
+) -> Filled
+    requires { ⌜ Members (now sheet) depot (now stops) (filled .routed) total ⌝ }
+    requires { ⌜ Room (now ends) (now vehicles) filled total ⌝ }
+    requires { ⌜ vehicle < vehiclesOf (now sheet) ⌝ }
+    requires { ⌜ ((x : ℕ) → count x (part (now stops) (filled .routed) total) ≤ 1) ⌝ }
+    requires { ⌜ (methodOf (now sheet) ≡ 0 → total - filled .routed ≤ 24) ⌝ }
+    ensures { λ r. ⌜ r ≡ filledBy filled (withVehicle (now (sheet .entry)) depot (part (now (stops .entry)) (filled .routed) total) vehicle .rounds) ⌝ }
+    ensures { λ _. ⌜ Laid (now (stops .entry)) (now (ends .entry)) (now (vehicles .entry)) filled (withVehicle (now (sheet .entry)) depot (part (now (stops .entry)) (filled .routed) total) vehicle) (now (stops .exit)) (now (ends .exit)) (now (vehicles .exit)) ⌝ }
+{
+    let method = sheet::method(sheet);
+    if method == 0 {
+        return clarke_wright::clarke_wright_few(
+            sheet,
+            depot,
+            vehicle,
+            stops,
+            ends,
+            vehicles,
+            filled,
+            total,
+        );
+    }
+    if method == 1 {
+        return solomon_i1::solomon_i1(sheet, depot, vehicle, stops, ends, vehicles, filled, total);
+    }
+    sweep::sweep(sheet, depot, vehicle, stops, ends, vehicles, filled, total)
+}
+
+// Every other planning: the nearest neighbours with the depot's vehicles, the other methods with the first.
 pub fn construct(
     sheet: &[u8],
     depot: usize,
@@ -57,7 +96,7 @@ pub fn construct(
     total: usize,
 ) -> Filled
     requires { ⌜ Ready (now sheet) depot (now fleet) (now stops) (now ends) (now vehicles) filled total ⌝ }
-    requires { ⌜ (methodOf (now sheet) ≡ 0 → ⊥) ⌝ }
+    requires { ⌜ (methodOf (now sheet) ≡ 0 → total - filled .routed ≤ 24) ⌝ }
     ensures { λ r. ⌜ r ≡ filledBy filled (constructAt (now (sheet .entry)) depot (part (now (stops .entry)) (filled .routed) total) .rounds) ⌝ }
     ensures { λ _. ⌜ Laid (now (stops .entry)) (now (ends .entry)) (now (vehicles .entry)) filled (constructAt (now (sheet .entry)) depot (part (now (stops .entry)) (filled .routed) total)) (now (stops .exit)) (now (ends .exit)) (now (vehicles .exit)) ⌝ }
 {
@@ -90,10 +129,19 @@ pub fn construct(
     if n == 0 {
         return filled;
     }
-    if method == 1 {
-        return solomon_i1::solomon_i1(sheet, depot, fleet[0], stops, ends, vehicles, filled, total);
+    with_vehicle(sheet, depot, fleet[0], stops, ends, vehicles, filled, total)
+}
+
+// Whether savings are asked of more members than `construct` takes them of.
+pub fn saves_many(sheet: &[u8], members: usize) -> bool
+    requires { ⌜ 16 ≤ length (now sheet) ⌝ }
+    ensures { λ r. ⌜ (r ≡ true → methodOf (now (sheet .entry)) ≡ 0) ⌝ }
+    ensures { λ r. ⌜ (r ≡ false → methodOf (now (sheet .entry)) ≡ 0 → members ≤ 24) ⌝ }
+{
+    if sheet::method(sheet) != 0 {
+        return false;
     }
-    sweep::sweep(sheet, depot, fleet[0], stops, ends, vehicles, filled, total)
+    24 < members
 }
 
 // A depot with its members, which no other has; without any it is not planned. The stops that it turns down are marked.
@@ -117,7 +165,7 @@ pub fn plan_depot(
     if total == from {
         return filled;
     }
-    if sheet::method(sheet) == 0 {
+    if saves_many(sheet, total - from) {
         let saved = by_savings(sheet, depot, fleet, stops, ends, vehicles, filled, total);
         crate::mark(marks, stops, saved.routed, total);
         return saved;

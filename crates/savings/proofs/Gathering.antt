@@ -2,13 +2,14 @@
 use mathlib.Core.Path.{_≡_, refl, sym, ap, _∙_}
 use Prim.Native.Nat.{ℕ, suc, _+_, _*_, _≤_, _<_, zero-le}
 use native.Mathlib.Numerals.{add-one}
-use native.Mathlib.Nat.{add-zero, suc-mul, mul-le-mul}
+use native.Mathlib.Nat.{add-zero, suc-mul, mul-le-mul-right}
 use native.Mathlib.Omega.{arith}
 use mathlib.Core.Bool.{Bool, true, false}
 use mathlib.Core.List.{List, [], _∷_, _++_, append-assoc, append-nil}
 use lib.ListN.{length, getD, take, length-append}
 use lib.Seq.{take-suc, take-all, length-take-le}
 use lib.Ieee.{Float}
+use Rattle.sheet.proofs.Cells.{square}
 use Rattle.savings.specs.declared.terms.Terms.{Terms}
 use Rattle.savings.specs.Savings.{Saving, savingOf, saves, kept, savingsFrom, savingsOf, numbered}
 use Rattle.savings.specs.Ranked.{from-few, savings-few}
@@ -201,19 +202,20 @@ module _
         ∙ of-append s t members (take k members) (member ∷ [])
         ∙ ap (λ (l : List Saving). savingsOf s t members (take k members) ++ l) (append-nil (savingsFrom s t member members))
 
-    -- 101 members save on 101 * 101 legs at most
-    few : length members ≤ 101 → end + length members ≤ 10201
-    few q =
+    -- n members save on n * n legs at most
+    few : end + length members ≤ length members * length members
+    few =
         let l = length-take-le k members (omega (arith, here)) in
         let a : length (savingsOf s t members (take k members)) ≤ k * length members = rw l at (savings-few s t members (take k members)) in
         let b = suc-mul k (length members) in
-        let u : suc k ≤ 101 = omega (arith, here, q) in
-        let d : suc k * length members ≤ 101 * 101 = mul-le-mul u q in
+        let d : suc k * length members ≤ length members * length members = mul-le-mul-right (length members) (omega (arith, here)) in
         omega (arith, a, b, d, g .full)
 
-    pub of-space : length members ≤ 101 → Space from₀ to₀ values₀ entries₀ 10201 → Space from to values entries (end + length members) × (end + length members < 0x10000)
-    of-space q r =
-        (space-left (savingsOf s t members) members from₀ to₀ values₀ entries₀ 0 from to values entries end k last g 10201 r (end + length members) (few q), omega (arith, few q))
+    pub of-space : length members ≤ 101 → Space from₀ to₀ values₀ entries₀ (length members * length members) → Space from to values entries (end + length members) × (end + length members < 0x10000)
+    of-space q r = (
+      space-left (savingsOf s t members) members from₀ to₀ values₀ entries₀ 0 from to values entries end k last g (length members * length members) r (end + length members) few,
+      omega (arith, few, square (length members) q),
+    )
 
     pub of-takes : (from′ to′ : List ℕ) (values′ : List Float) (entries′ : List ℕ) (end′ : ℕ)
         → length from′ ≡ length from → length to′ ≡ length to → length values′ ≡ length values → length entries′ ≡ length entries

@@ -1,7 +1,7 @@
 -- The savings in the tables: what the sort asks of them and leaves. Assumes nothing.
 use mathlib.Core.Path.{_≡_, refl, sym, ap, _∙_}
 use Prim.Native.Nat.{ℕ, zero, suc, _+_, _*_, _≤_}
-use native.Mathlib.Nat.{zero-add, mul-le-mul}
+use native.Mathlib.Nat.{zero-add}
 use native.Mathlib.Omega.{arith}
 use mathlib.Core.List.{List, _++_}
 use lib.ListN.{length, take, length-take, length-map}
@@ -22,10 +22,6 @@ numbered-length : (n k : ℕ) → length (numbered n k) ≡ n
 unfolding numbered
 numbered-length zero k = refl
 numbered-length (suc n) k = ap suc (numbered-length n (k + 1))
-
--- they fit in the tables
-pub savings-fit : (s : List ℕ) (t : Terms) (members : List ℕ) → length members ≤ 101 → length (savingsOf s t members members) ≤ 10201
-savings-fit s t members h = let d : length members * length members ≤ 101 * 101 = mul-le-mul h h in omega (arith, d, savings-few s t members members)
 
 -- ---- the sort
 module _
@@ -68,8 +64,9 @@ module _
     pub placed : Entries (take count values) (take count entries)
     placed = rw (keys, places) (savings-entries savings)
 
-    pub few : length members ≤ 101 → count ≤ 10201
-    few h = omega (arith, n, savings-fit s t members h)
+    -- they fit in the tables
+    pub few : count ≤ length members * length members
+    few = omega (arith, n, savings-few s t members members)
 
     pub in-rank : (front behind : List ℕ) → length front ≡ count → front ≡ sorted (greater (take count values)) (take count entries)
         → take count (front ++ behind) ≡ ranked (savingsOf s t members members)

@@ -5,10 +5,11 @@ use sheet::matrix;
 use terms::Terms;
 ghost use mathlib.Core.Path.{_≡_};
 ghost use mathlib.Core.List.{[], _∷_};
-ghost use Prim.Native.Nat.{_+_, _≤_, _<_};
+ghost use Prim.Native.Nat.{_+_, _*_, _≤_, _<_};
 ghost use lib.ListN.{length, take};
 ghost use Rattle.sheet.specs.Accepted.{Accepted};
-ghost use Rattle.sheet.specs.Fields.{rowsOf};
+ghost use Rattle.sheet.specs.Fields.{rowsOf, tablesAt};
+ghost use Rattle.sheet.specs.Values.{distanceOf};
 ghost use Rattle.evaluation.specs.Routed.{Routed};
 ghost use Rattle.savings.specs.Savings.{paired, valueOf, savingsFrom, savingsOf, ranked};
 ghost use Rattle.savings.specs.Listed.{Space, Pushed, Listed};
@@ -26,16 +27,34 @@ fn is_paired(directed: bool, from: u16, to: u16) -> bool
     !(to < from)
 }
 
-// What the leg between two members saves.
-fn value_of(sheet: &[u8], terms: Terms, from: u16, to: u16) -> f64
+// The distance of a leg, by where the distances start and how many rows they have.
+fn leg_of(sheet: &[u8], tables: usize, rows: usize, from: usize, to: usize) -> f64
     requires { ⌜ Accepted (now sheet) ⌝ }
-    requires { ⌜ (terms .depot < rowsOf (now sheet)) × (from < rowsOf (now sheet)) × (to < rowsOf (now sheet)) ⌝ }
+    requires { ⌜ (tables ≡ tablesAt (now sheet)) × (rows ≡ rowsOf (now sheet)) ⌝ }
+    requires { ⌜ (from < rows) × (to < rows) ⌝ }
+    ensures { λ r. ⌜ r ≡ distanceOf (now (sheet .entry)) from to ⌝ }
+{
+    wire::f64_at(sheet, tables + 8 * (from * rows + to))
+}
+
+// What the leg between two members saves; the leg home is known.
+fn value_of(
+    sheet: &[u8],
+    terms: Terms,
+    tables: usize,
+    rows: usize,
+    home: f64,
+    from: u16,
+    to: u16,
+) -> f64
+    requires { ⌜ Accepted (now sheet) ⌝ }
+    requires { ⌜ (tables ≡ tablesAt (now sheet)) × (rows ≡ rowsOf (now sheet)) ⌝ }
+    requires { ⌜ (terms .depot < rows) × (from < rows) × (to < rows) ⌝ }
+    requires { ⌜ home ≡ distanceOf (now sheet) from (terms .depot) ⌝ }
     ensures { λ r. ⌜ r ≡ valueOf (now (sheet .entry)) terms from to ⌝ }
 {
-    let depot = terms.depot;
-    let home = matrix::distance(sheet, from as usize, depot);
-    let out = matrix::distance(sheet, depot, to as usize);
-    let leg = matrix::distance(sheet, from as usize, to as usize);
+    let out = leg_of(sheet, tables, rows, terms.depot, to as usize);
+    let leg = leg_of(sheet, tables, rows, from as usize, to as usize);
     home + out - leg + terms.fixed
 }
 
@@ -79,13 +98,16 @@ fn savings_from(
     ensures { λ r. ⌜ r ≡ at + length (savingsFrom (now (sheet .entry)) terms start (now (members .entry))) ⌝ }
     ensures { λ _. ⌜ Pushed (now (from .entry)) (now (to .entry)) (now (values .entry)) (now (entries .entry)) at (savingsFrom (now (sheet .entry)) terms start (now (members .entry))) (now (from .exit)) (now (to .exit)) (now (values .exit)) (now (entries .exit)) ⌝ }
 {
+    let tables = matrix::tables(sheet);
+    let rows = sheet::rows(sheet);
+    let home = leg_of(sheet, tables, rows, start as usize, terms.depot);
     let mut end = at;
     for k in 0..members.len() {
         let other = members[k];
         if !is_paired(terms.directed, start, other) {
             continue;
         }
-        let value = value_of(sheet, terms, start, other);
+        let value = value_of(sheet, terms, tables, rows, home, start, other);
         if !(0.0 < value) {
             continue;
         }
@@ -106,7 +128,7 @@ fn savings_of(
     entries: &mut [u16],
 ) -> usize
     requires { ⌜ Routed (now sheet) (terms .depot) (now members) ⌝ }
-    requires { ⌜ Space (now from) (now to) (now values) (now entries) 10201 ⌝ }
+    requires { ⌜ Space (now from) (now to) (now values) (now entries) (length (now members) * length (now members)) ⌝ }
     ensures { λ r. ⌜ r ≡ length (savingsOf (now (sheet .entry)) terms (now (members .entry)) (now (members .entry))) ⌝ }
     ensures { λ _. ⌜ Pushed (now (from .entry)) (now (to .entry)) (now (values .entry)) (now (entries .entry)) 0 (savingsOf (now (sheet .entry)) terms (now (members .entry)) (now (members .entry))) (now (from .exit)) (now (to .exit)) (now (values .exit)) (now (entries .exit)) ⌝ }
 {
@@ -139,8 +161,8 @@ pub fn rank(
     scratch: &mut [u16],
 ) -> usize
     requires { ⌜ Routed (now sheet) (terms .depot) (now members) ⌝ }
-    requires { ⌜ Space (now from) (now to) (now values) (now entries) 10201 ⌝ }
-    requires { ⌜ 10201 ≤ length (now scratch) ⌝ }
+    requires { ⌜ Space (now from) (now to) (now values) (now entries) (length (now members) * length (now members)) ⌝ }
+    requires { ⌜ length (now members) * length (now members) ≤ length (now scratch) ⌝ }
     ensures { λ r. ⌜ r ≡ length (savingsOf (now (sheet .entry)) terms (now (members .entry)) (now (members .entry))) ⌝ }
     ensures { λ _. ⌜ Listed (savingsOf (now (sheet .entry)) terms (now (members .entry)) (now (members .entry))) (now (from .exit)) (now (to .exit)) (now (values .exit)) ⌝ }
     ensures { λ r. ⌜ take r (now (entries .exit)) ≡ ranked (savingsOf (now (sheet .entry)) terms (now (members .entry)) (now (members .entry))) ⌝ }

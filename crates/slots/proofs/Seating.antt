@@ -243,9 +243,6 @@ module _ {s : List ℕ} {t : Terms} {members cells₀ lens₀ loads₀ slots₀ 
     pub row-known : getD members k 0 < rowsOf s
     row-known = g .routed .row k here
 
-    pub roomy : Roomy 101 cells lens loads slots
-    roomy = record { most = omega arith; celled = g .room .celled; measured = g .room .measured; loaded = g .room .loaded; known = g .room .known }
-
     -- it has a round
     module _ (alone : goesAlone s t (getD members k 0) ≡ true) where
       seated-slot : slotAt (set cells (101 * k) newcomer) (set lens k 1) k ≡ newcomer ∷ []
@@ -361,7 +358,7 @@ module _ {s : List ℕ} {t : Terms} {members cells₀ lens₀ loads₀ slots₀ 
 
     pub ends-slotted : Slotted s (length members) cells lens loads slots
     ends-slotted = record {
-      room = record { most = g .routed .few; celled = g .room .celled; measured = g .room .measured; loaded = g .room .loaded; known = g .room .known };
+      room = record { most = g .routed .few; celled = omega (arith, g .all, g .room .celled); measured = g .room .measured; loaded = g .room .loaded; known = g .room .known };
       routes = rw ends-same (record {
         sheet = g .routed .sheet;
         few = omega (arith, starts-many s t members, g .routed .few);

@@ -42,7 +42,7 @@ pub record Routes (s : List ℕ) (routes : List (List ℕ)) : Type 0 where
 -- room for n slots, and for each row's slot
 pub record Roomy (n : ℕ) (cells lens loads slots : List ℕ) : Type 0 where
   pub most : n ≤ 101
-  pub celled : 10302 ≤ length cells
+  pub celled : n * 101 ≤ length cells
   pub measured : 101 ≤ length lens
   pub loaded : 101 ≤ length loads
   pub known : 101 ≤ length slots
@@ -83,7 +83,7 @@ pub record Taken (cells lens loads slots : List ℕ) (into from : ℕ) (stops ce
 -- room for them behind what the tables of a plan hold
 pub record Laying (n : ℕ) (cells lens stops ends vehicles : List ℕ) (f : Filled) : Type 0 where
   pub most : n ≤ 101
-  pub celled : 10302 ≤ length cells
+  pub celled : n * 101 ≤ length cells
   pub measured : n ≤ length lens
   pub long : (k : ℕ) → k < n → getD lens k 0 ≤ 101
   pub rounds : f .rounds ≤ f .routed

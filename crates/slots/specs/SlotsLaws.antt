@@ -7,7 +7,7 @@ use native.Mathlib.Omega.{arith}
 use mathlib.Core.List.{List, [], _∷_, _++_}
 use lib.ListN.{length, List·getD-eq-default}
 use Rattle.savings.specs.Savings.{routeAt}
-use Rattle.slots.specs.Slots.{slotAt, slotsFrom, slotsIn, stopsIn}
+use Rattle.slots.specs.Slots.{slotAt, slotsFrom, slotsIn, stopsIn, Roomy}
 
 length-from : (cells lens : List ℕ) (n k : ℕ) → length (slotsFrom cells lens n k) ≡ n
 unfolding slotsFrom
@@ -58,3 +58,13 @@ unfolding stopsIn
 route-few [] k = omega arith
 route-few (route ∷ routes) zero = omega arith
 route-few (route ∷ routes) (suc k) = let l = route-few routes k in omega arith
+
+-- room for some slots is room for fewer
+pub roomy-within : {m n : ℕ} {cells lens loads slots : List ℕ} → m ≤ n → Roomy n cells lens loads slots → Roomy m cells lens loads slots
+roomy-within h room = record {
+  most = omega (arith, room .most);
+  celled = omega (arith, room .celled);
+  measured = room .measured;
+  loaded = room .loaded;
+  known = room .known;
+}

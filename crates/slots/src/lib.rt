@@ -78,8 +78,9 @@ pub fn take_over(
     from: usize,
     stops: &[u16],
 )
-    requires { ⌜ Roomy 101 (now cells) (now lens) (now loads) (now slots) ⌝ }
-    requires { ⌜ (into < 101) × (from < 101) × (length (now stops) ≤ 101) ⌝ }
+    requires { ⌜ Roomy (into + 1) (now cells) (now lens) (now loads) (now slots) ⌝ }
+    requires { ⌜ Roomy (from + 1) (now cells) (now lens) (now loads) (now slots) ⌝ }
+    requires { ⌜ length (now stops) ≤ 101 ⌝ }
     requires { ⌜ getD (now lens) from 0 ≤ 101 ⌝ }
     requires { ⌜ ((k : ℕ) → k < getD (now lens) from 0 → getD (slotAt (now cells) (now lens) from) k 0 < 101) ⌝ }
     requires { ⌜ getD (now loads) into 0 + getD (now loads) from 0 < 0x1_0000_0000 ⌝ }

@@ -2,7 +2,7 @@
 use savings::terms::Terms;
 use sheet::customer;
 ghost use mathlib.Core.Path.{_≡_};
-ghost use Prim.Native.Nat.{ℕ, _≤_, _<_};
+ghost use Prim.Native.Nat.{ℕ, _+_, _≤_, _<_};
 ghost use lib.ListN.{length, replicate, take};
 ghost use Rattle.sheet.specs.Accepted.{Accepted};
 ghost use Rattle.sheet.specs.Fields.{rowsOf};
@@ -44,8 +44,8 @@ fn seat(
     slots: &mut [u16],
 )
     requires { ⌜ Accepted (now sheet) ⌝ }
-    requires { ⌜ (row < rowsOf (now sheet)) × (slot < 101) ⌝ }
-    requires { ⌜ Roomy 101 (now cells) (now lens) (now loads) (now slots) ⌝ }
+    requires { ⌜ row < rowsOf (now sheet) ⌝ }
+    requires { ⌜ Roomy (slot + 1) (now cells) (now lens) (now loads) (now slots) ⌝ }
     ensures { λ _. ⌜ Seated (now (sheet .entry)) row slot (now (cells .entry)) (now (lens .entry)) (now (loads .entry)) (now (slots .entry)) (now (cells .exit)) (now (lens .exit)) (now (loads .exit)) (now (slots .exit)) ⌝ }
 {
     cells[101 * slot] = row;

@@ -12,7 +12,7 @@ use crate::plans::exact;
 use crate::random::Random;
 use crate::reference::{plan, Problem};
 use crate::refusal::{needs_vehicle, OFFERED};
-use crate::sheet::{Row, Sheet, Vehicle, DEPOT, PENALTY, REST, SAVINGS, WINDOW};
+use crate::sheet::{Row, Sheet, Vehicle, DEPOT, PENALTY, REST, WINDOW};
 
 const ROWS: [usize; 3] = [10, 50, 101];
 const DEPOTS: [usize; 2] = [1, 3];
@@ -37,14 +37,13 @@ pub struct Planning {
 }
 
 /// A method of many vehicles is tried with one depot and three, one of one vehicle with legs that
-/// are alike both ways and with others; savings, which are quick of few rows, not with 10.
+/// are alike both ways and with others.
 fn cases_of(method: u8) -> Vec<Case> {
     let one_vehicle = needs_vehicle(method);
-    let rows = &ROWS[usize::from(method == SAVINGS)..];
     let depots = &DEPOTS[..if one_vehicle { 1 } else { DEPOTS.len() }];
     let legs = &LEGS[..if one_vehicle { LEGS.len() } else { 1 }];
     let mut cases = Vec::new();
-    for &rows in rows {
+    for rows in ROWS {
         for &depots in depots {
             for capacity in CAPACITIES {
                 for &legs in legs {

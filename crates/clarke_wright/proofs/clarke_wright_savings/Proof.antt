@@ -1,6 +1,8 @@
 -- `clarke_wright::clarke_wright_savings` meets its contract. Assumes nothing.
 use native.Mathlib.Omega.{arith}
 use borrow.Author.Needs.{needs}
+use Rattle.slots.specs.SlotsLaws.{roomy-within}
+use Rattle.clarke_wright.proofs.Tables.{space-within}
 use Rattle.clarke_wright.proofs.clarke_wright_savings.Statement.{statement}
 use Rattle.clarke_wright.proofs.clarke_wright_savings.Tie as tie
 
@@ -35,7 +37,26 @@ slice-aggregate-plan-by-10 : tie.Need-slice-aggregate-plan-by-10
 slice-aggregate-plan-by-10 c = search needs
 
 plan-by-requires : tie.Need-plan-by-requires
-plan-by-requires c κs = (c .before .before .before .before .before .before .before .before .before .before .before .before .before .before .before .before .before .pre .0, (c .before .before .before .before .before .before .before .before .before .before .before .before .before .before .before .before .before .pre .1 .0, (c .before .before .before .before .before .before .before .before .before .before .before .before .before .before .before .before .before .pre .1 .1 .0, (c .before .before .before .before .before .before .before .before .before .before .before .before .before .before .before .before .before .pre .1 .1 .1, (record { starts = search needs; ends = search needs; saved = search needs; placed = search needs }, (record { most = omega arith; celled = search needs; measured = omega arith; loaded = omega arith; known = omega arith }, (omega arith, omega arith)))))))
+plan-by-requires c κs =
+    let p = c .before .before .before .before .before .before .before .before .before .before .before .before .before .before .before .before .before .pre in (
+      p .0,
+      (
+        p .1 .0,
+        (
+          p .1 .1 .0,
+          (
+            p .1 .1 .1,
+            (
+              space-within {n = 101} (omega (arith, p .0 .most)) (record { starts = search needs; ends = search needs; saved = search needs; placed = search needs }),
+              (
+                roomy-within {n = 101} (omega (arith, p .0 .most)) (record { most = omega arith; celled = search needs; measured = omega arith; loaded = omega arith; known = omega arith }),
+                (omega arith, omega arith),
+              ),
+            ),
+          ),
+        ),
+      ),
+    )
 
 same-length : tie.Need-same-length
 same-length c = search needs

@@ -1,5 +1,5 @@
 -- `multi_depot::one_depot` meets its contract. Assumes nothing.
-use mathlib.Core.Path.{sym, _∙_}
+use native.Mathlib.Nat.{sub-zero}
 use borrow.Author.Needs.{needs}
 use Rattle.offers.proofs.Sharing.{members-fit, none-shared, ready, shares}
 use Rattle.multi_depot.proofs.Settling.{lent-zeros, next-zeros, one-held}
@@ -28,15 +28,15 @@ returns c =
     let m = c .before .before .before .members-of .ensures in
     one-held p z (none-shared (lent-zeros p z) (next-zeros p z) (m .0) (m .1) (c .if1 .taken))
 
-method-requires : tie.Need-method-requires
-method-requires c κs = search needs
+saves-many-requires : tie.Need-saves-many-requires
+saves-many-requires c κs = search needs
 
 by-savings-requires : tie.Need-by-savings-requires
 by-savings-requires c κs =
     let p = c .before .before .before .before .before .before .before .before .before .before .before .before .before .before .before .before .before .before .before .before .before .before .pre in
     let z = c .before .before .before .before .before .before .before .before .before .before .before .before .before .before .fill .ensures in
     let m = c .before .before .before .before .before .before .before .before .before .members-of .ensures in
-    (ready (lent-zeros p z) (next-zeros p z) (m .0) (m .1) (c .before .before .before .before .before .before .if1 .left), sym (c .before .before .before .before .before .method .ensures) ∙ c .before .before .before .before .if2 .taken)
+    (ready (lent-zeros p z) (next-zeros p z) (m .0) (m .1) (c .before .before .before .before .before .before .if1 .left), c .before .before .before .before .before .saves-many .ensures .0 (c .before .before .before .before .if2 .taken))
 
 same-length-3 : tie.Need-same-length-3
 same-length-3 c = search needs
@@ -66,7 +66,7 @@ construct-requires c κs =
     let p = c .before .before .before .before .before .before .before .before .before .before .before .before .before .before .before .before .before .before .before .before .before .before .pre in
     let z = c .before .before .before .before .before .before .before .before .before .before .before .before .before .before .fill .ensures in
     let m = c .before .before .before .before .before .before .before .before .before .members-of .ensures in
-    (ready (lent-zeros p z) (next-zeros p z) (m .0) (m .1) (c .before .before .before .before .before .before .if1 .left), λ q. c .before .before .before .before .if2 .left (c .before .before .before .before .before .method .ensures ∙ q))
+    (ready (lent-zeros p z) (next-zeros p z) (m .0) (m .1) (c .before .before .before .before .before .before .if1 .left), λ q. rw (sub-zero (c .before .before .before .before .before .before .before .before .before .members-of .result)) (c .before .before .before .before .before .saves-many .ensures .1 (c .before .before .before .before .if2 .left) q))
 
 same-length-8 : tie.Need-same-length-8
 same-length-8 c = search needs
@@ -100,7 +100,7 @@ one-depot-spec =
     same-length
     same-length-2
     returns
-    method-requires
+    saves-many-requires
     by-savings-requires
     same-length-3
     same-length-4

@@ -23,7 +23,7 @@ slice-aggregate-sort-descending-2 : tie.Need-slice-aggregate-sort-descending-2
 slice-aggregate-sort-descending-2 c = let o = c .before .before .before .before .before .before .before .before .before .before .savings-of in sym (length-take-le (o .result) (o .last .1 .1 .1 .1 .1 .1 .0) (entries-hold _ _ _ _ _ _ _ _ _ _ _ _ (o .ensures .0) (o .ensures .1)))
 
 sort-descending-requires : tie.Need-sort-descending-requires
-sort-descending-requires c κs = let p = c .before .before .before .before .before .before .before .before .before .before .before .before .before .before .before .before .before .before .before .before .before .before .before .pre in let o = c .before .before .before .before .before .before .before .before .before .before .before .savings-of in ((numbers _ _ _ _ _ _ _ _ _ _ _ _ (o .ensures .0) (o .ensures .1), placed _ _ _ _ _ _ _ _ _ _ _ _ (o .ensures .0) (o .ensures .1)), omega (arith, length-take-le (o .result) (o .last .1 .1 .1 .1 .1 .1 .0) (entries-hold _ _ _ _ _ _ _ _ _ _ _ _ (o .ensures .0) (o .ensures .1)), few _ _ _ _ _ _ _ _ _ _ _ _ (o .ensures .0) (o .ensures .1) (p .0 .few), p .1 .1))
+sort-descending-requires c κs = let p = c .before .before .before .before .before .before .before .before .before .before .before .before .before .before .before .before .before .before .before .before .before .before .before .pre in let o = c .before .before .before .before .before .before .before .before .before .before .before .savings-of in ((numbers _ _ _ _ _ _ _ _ _ _ _ _ (o .ensures .0) (o .ensures .1), placed _ _ _ _ _ _ _ _ _ _ _ _ (o .ensures .0) (o .ensures .1)), omega (arith, length-take-le (o .result) (o .last .1 .1 .1 .1 .1 .1 .0) (entries-hold _ _ _ _ _ _ _ _ _ _ _ _ (o .ensures .0) (o .ensures .1)), few _ _ _ _ _ _ _ _ _ _ _ _ (o .ensures .0) (o .ensures .1), p .1 .1))
 
 same-length : tie.Need-same-length
 same-length c = search needs

@@ -41,7 +41,7 @@ cast-relabel : tie.Need-cast-relabel
 cast-relabel c = search needs
 
 relabel-requires : tie.Need-relabel-requires
-relabel-requires c κs = let s = c .before .before .before .before .before .before .before .before .before in rows-known (s .args .cells .now) (s .args .lens .now) (s .args .slots .now) (s .args .from) (s .pre .0 .known) (s .pre .1 .1 .1 .0)
+relabel-requires c κs = let s = c .before .before .before .before .before .before .before .before .before in rows-known (s .args .cells .now) (s .args .lens .now) (s .args .slots .now) (s .args .from) (s .pre .0 .known) (s .pre .1 .1 .1 .1 .0)
 
 mul-copy : tie.Need-mul-copy
 mul-copy c = search needs
@@ -71,7 +71,7 @@ mul-lens-2 : tie.Need-mul-lens-2
 mul-lens-2 c = search needs
 
 slice-write-lens-2 : tie.Need-slice-write-lens-2
-slice-write-lens-2 c = let s = c .before .before .before .before .before .before .before .before .before .before .before .before .before .before .before .before in omega (arith, length-set (s .args .lens .now) (s .args .into) (length (s .args .stops .now)), s .pre .0 .measured, s .pre .1 .0 .1)
+slice-write-lens-2 c = let s = c .before .before .before .before .before .before .before .before .before .before .before .before .before .before .before .before in omega (arith, length-set (s .args .lens .now) (s .args .into) (length (s .args .stops .now)), s .pre .1 .0)
 
 mul-loads : tie.Need-mul-loads
 mul-loads c = search needs
@@ -98,7 +98,7 @@ mul-loads-4 : tie.Need-mul-loads-4
 mul-loads-4 c = search needs
 
 slice-write-loads-2 : tie.Need-slice-write-loads-2
-slice-write-loads-2 c = let s = c .before .before .before .before .before .before .before .before .before .before .before .before .before .before .before .before .before .before in let l = s .args .loads .now in omega (arith, length-set l (s .args .into) (getD l (s .args .into) 0 + getD l (s .args .from) 0), s .pre .0 .loaded, s .pre .1 .0 .1)
+slice-write-loads-2 c = let s = c .before .before .before .before .before .before .before .before .before .before .before .before .before .before .before .before .before .before in let l = s .args .loads .now in omega (arith, length-set l (s .args .into) (getD l (s .args .into) 0 + getD l (s .args .from) 0), s .pre .1 .0)
 
 same-length : tie.Need-same-length
 same-length c = search needs
@@ -113,7 +113,7 @@ same-length-4 : tie.Need-same-length-4
 same-length-4 c = search needs
 
 returns : tie.Need-returns
-returns c = let s = c .before .before .before .before .before .before .before .before .before .before .before .before .before .before .before .before .before .before in taken (s .args .cells .now) (s .args .lens .now) (s .args .loads .now) (s .args .slots .now) (s .args .into) (s .args .from) (s .args .stops .now) _ _ (omega (arith, s .pre .0 .celled, s .pre .1 .0)) (c .before .before .before .before .copy .ensures) (c .before .before .before .before .before .before .before .before .relabel .ensures)
+returns c = let s = c .before .before .before .before .before .before .before .before .before .before .before .before .before .before .before .before .before .before in taken (s .args .cells .now) (s .args .lens .now) (s .args .loads .now) (s .args .slots .now) (s .args .into) (s .args .from) (s .args .stops .now) _ _ (omega (arith, s .pre .0, s .pre .1 .1 .0)) (c .before .before .before .before .copy .ensures) (c .before .before .before .before .before .before .before .before .relabel .ensures)
 
 pub take-over-spec : {M : Type 1} → statement M
 take-over-spec =

@@ -1,8 +1,8 @@
 -- `offers::planning::by_savings` meets its contract. Assumes nothing.
-use mathlib.Core.Path.{refl, sym}
+use mathlib.Core.Path.{sym}
 use native.Mathlib.Omega.{arith}
 use borrow.Author.Needs.{needs}
-use Rattle.offers.proofs.Fleets.{first-known, none-so, savings-so}
+use Rattle.offers.proofs.Fleets.{savings-so, first-known, none-so, with-some}
 use Rattle.offers.proofs.planning.by_savings.Statement.{statement}
 use Rattle.offers.proofs.planning.by_savings.Tie as tie
 
@@ -43,7 +43,7 @@ returns-2 : tie.Need-returns-2
 returns-2 c =
     let p = c .before .before .before .before .before .before .before .before .before .before .before .before .before .before .before .before .before .before .before .before .before .pre in
     let g = c .before .before .before .before .before .before .before .before .before .before .before .before .before .before .fleet-of .ensures in
-    rw (savings-so (p .0) (g .0) (g .1) (sym (p .1)) (c .before .before .before .before .before .before .before .before .before .before .before .if1 .left) refl) (c .before .before .before .before .before .before .clarke-wright-savings .ensures)
+    rw (with-some (p .0) (g .0) (g .1) (sym (p .1)) (λ q. omega arith) (λ q. omega arith) (c .before .before .before .before .before .before .before .before .before .before .before .if1 .left), savings-so _ _ _ _ (p .1)) (c .before .before .before .before .before .before .clarke-wright-savings .ensures)
 
 pub by-savings-spec : {M : Type 1} → statement M
 by-savings-spec =

@@ -1,7 +1,6 @@
 -- `offers::planning::construct` meets its contract. Assumes nothing.
-use mathlib.Core.Path.{sym, _∙_}
 use borrow.Author.Needs.{needs}
-use Rattle.offers.proofs.Fleets.{few, known, first-known, nearest-so, window-so, none-so, insertion-so, sweep-so}
+use Rattle.offers.proofs.Fleets.{few, known, first-known, nearest-so, window-so, none-so, with-some}
 use Rattle.offers.proofs.planning.construct.Statement.{statement}
 use Rattle.offers.proofs.planning.construct.Tie as tie
 
@@ -95,14 +94,14 @@ returns-3 c =
     let m = c .before .before .before .method .ensures in
     none-so (p .0) (g .0) (g .1) m (c .before .before .if1 .left) (c .before .if2 .left) (c .if3 .taken)
 
-slice-read-solomon-i1 : tie.Need-slice-read-solomon-i1
-slice-read-solomon-i1 c = search needs
+slice-read-with-vehicle : tie.Need-slice-read-with-vehicle
+slice-read-with-vehicle c = search needs
 
-solomon-i1-requires : tie.Need-solomon-i1-requires
-solomon-i1-requires c κs =
-    let p = c .before .before .before .before .before .before .before .before .before .before .before .before .before .before .before .before .before .before .pre in
-    let g = c .before .before .before .before .before .before .before .before .before .before .before .fleet-of .ensures in
-    (p .0 .members, (p .0 .room, first-known (p .0) (g .0) (g .1) (c .before .before .before .before .before .if3 .left)))
+with-vehicle-requires : tie.Need-with-vehicle-requires
+with-vehicle-requires c κs =
+    let p = c .before .before .before .before .before .before .before .before .before .before .before .before .before .before .before .before .before .pre in
+    let g = c .before .before .before .before .before .before .before .before .before .before .fleet-of .ensures in
+    (p .0 .members, (p .0 .room, (first-known (p .0) (g .0) (g .1) (c .before .before .before .before .if3 .left), (p .0 .once, p .1))))
 
 same-length-10 : tie.Need-same-length-10
 same-length-10 c = search needs
@@ -118,38 +117,10 @@ same-length-13 c = search needs
 
 returns-4 : tie.Need-returns-4
 returns-4 c =
-    let p = c .before .before .before .before .before .before .before .before .before .before .before .before .before .before .before .before .before .before .before .before .before .before .before .before .before .pre in
-    let g = c .before .before .before .before .before .before .before .before .before .before .before .before .before .before .before .before .before .before .fleet-of .ensures in
-    let m = c .before .before .before .before .before .before .before .before .before .before .before .before .before .before .before .method .ensures in
-    rw (insertion-so (p .0) (g .0) (g .1) m (c .before .before .before .before .before .before .before .before .before .before .before .before .if3 .left) (c .before .before .before .before .before .before .before .before .before .before .before .if4 .taken)) (c .before .before .before .before .before .before .solomon-i1 .ensures)
-
-slice-read-sweep : tie.Need-slice-read-sweep
-slice-read-sweep c = search needs
-
-sweep-requires : tie.Need-sweep-requires
-sweep-requires c κs =
-    let p = c .before .before .before .before .before .before .before .before .before .before .before .before .before .before .before .before .before .before .pre in
-    let g = c .before .before .before .before .before .before .before .before .before .before .before .fleet-of .ensures in
-    (p .0 .members, (p .0 .room, first-known (p .0) (g .0) (g .1) (c .before .before .before .before .before .if3 .left)))
-
-same-length-14 : tie.Need-same-length-14
-same-length-14 c = search needs
-
-same-length-15 : tie.Need-same-length-15
-same-length-15 c = search needs
-
-same-length-16 : tie.Need-same-length-16
-same-length-16 c = search needs
-
-same-length-17 : tie.Need-same-length-17
-same-length-17 c = search needs
-
-returns-5 : tie.Need-returns-5
-returns-5 c =
-    let p = c .before .before .before .before .before .before .before .before .before .before .before .before .before .before .before .before .before .before .before .before .before .before .before .before .before .pre in
-    let g = c .before .before .before .before .before .before .before .before .before .before .before .before .before .before .before .before .before .before .fleet-of .ensures in
-    let m = c .before .before .before .before .before .before .before .before .before .before .before .before .before .before .before .method .ensures in
-    rw (sweep-so (p .0) (g .0) (g .1) m (c .before .before .before .before .before .before .before .before .before .before .before .before .before .before .if1 .left) (c .before .before .before .before .before .before .before .before .before .before .before .before .before .if2 .left) (c .before .before .before .before .before .before .before .before .before .before .before .before .if3 .left) (λ q. p .1 (sym m ∙ q)) (c .before .before .before .before .before .before .before .before .before .before .before .if4 .left)) (c .before .before .before .before .before .before .sweep .ensures)
+    let p = c .before .before .before .before .before .before .before .before .before .before .before .before .before .before .before .before .before .before .before .before .before .before .before .before .pre in
+    let g = c .before .before .before .before .before .before .before .before .before .before .before .before .before .before .before .before .before .fleet-of .ensures in
+    let m = c .before .before .before .before .before .before .before .before .before .before .before .before .before .before .method .ensures in
+    rw (with-some (p .0) (g .0) (g .1) m (c .before .before .before .before .before .before .before .before .before .before .before .before .before .if1 .left) (c .before .before .before .before .before .before .before .before .before .before .before .before .if2 .left) (c .before .before .before .before .before .before .before .before .before .before .before .if3 .left)) (c .before .before .before .before .before .before .with-vehicle .ensures)
 
 pub construct-spec : {M : Type 1} → statement M
 construct-spec =
@@ -177,17 +148,10 @@ construct-spec =
     returns-2
     same-length-9
     returns-3
-    slice-read-solomon-i1
-    solomon-i1-requires
+    slice-read-with-vehicle
+    with-vehicle-requires
     same-length-10
     same-length-11
     same-length-12
     same-length-13
-    returns-4
-    slice-read-sweep
-    sweep-requires
-    same-length-14
-    same-length-15
-    same-length-16
-    same-length-17
-    returns-5)
+    returns-4)

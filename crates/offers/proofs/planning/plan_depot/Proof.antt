@@ -1,5 +1,4 @@
 -- `offers::planning::plan_depot` meets its contract. Assumes nothing.
-use mathlib.Core.Path.{sym, _∙_}
 use borrow.Author.Needs.{needs}
 use Rattle.offers.proofs.Sharing.{members-fit, none-shared, ready, shares}
 use Rattle.offers.proofs.Plans.{turned-known, adds, adds-none}
@@ -22,15 +21,18 @@ returns c =
     let m = c .before .before .before .members-of .ensures in
     adds-none (a .sheet .now) (a .at .now) (a .marks .now) (a .depot) (p .1 .1) (none-shared (p .0) (p .1 .0) (m .0) (m .1) (c .if1 .taken)) (c .if1 .taken)
 
-method-requires : tie.Need-method-requires
-method-requires c κs = search needs
+sub-saves-many : tie.Need-sub-saves-many
+sub-saves-many c = search needs
+
+saves-many-requires : tie.Need-saves-many-requires
+saves-many-requires c κs = search needs
 
 by-savings-requires : tie.Need-by-savings-requires
 by-savings-requires c κs =
     let a = c .before .before .before .before .before .before .before .before .before .before .before .before .before .before .before .before .before .before .args in
     let p = c .before .before .before .before .before .before .before .before .before .before .before .before .before .before .before .before .before .before .pre in
     let m = c .before .before .before .before .before .before .before .before .before .members-of .ensures in
-    (ready (p .0) (p .1 .0) (m .0) (m .1) (c .before .before .before .before .before .before .if1 .left), sym (c .before .before .before .before .before .method .ensures) ∙ c .before .before .before .before .if2 .taken)
+    (ready (p .0) (p .1 .0) (m .0) (m .1) (c .before .before .before .before .before .before .if1 .left), c .before .before .before .before .before .saves-many .ensures .0 (c .before .before .before .before .if2 .taken))
 
 mark-requires : tie.Need-mark-requires
 mark-requires c κs =
@@ -70,7 +72,7 @@ construct-requires c κs =
     let a = c .before .before .before .before .before .before .before .before .before .before .before .before .before .before .before .before .before .before .args in
     let p = c .before .before .before .before .before .before .before .before .before .before .before .before .before .before .before .before .before .before .pre in
     let m = c .before .before .before .before .before .before .before .before .before .members-of .ensures in
-    (ready (p .0) (p .1 .0) (m .0) (m .1) (c .before .before .before .before .before .before .if1 .left), λ q. c .before .before .before .before .if2 .left (c .before .before .before .before .before .method .ensures ∙ q))
+    (ready (p .0) (p .1 .0) (m .0) (m .1) (c .before .before .before .before .before .before .if1 .left), c .before .before .before .before .before .saves-many .ensures .1 (c .before .before .before .before .if2 .left))
 
 mark-requires-2 : tie.Need-mark-requires-2
 mark-requires-2 c κs =
@@ -112,7 +114,8 @@ plan-depot-spec =
     members-of-requires
     same-length
     returns
-    method-requires
+    sub-saves-many
+    saves-many-requires
     by-savings-requires
     mark-requires
     same-length-2

@@ -3,7 +3,8 @@ use mathlib.Core.Path.{sym, ap, _∙_}
 use lib.ListN.{length, length-replicate}
 use Prim.Native.Nat.{_-_}
 use native.Mathlib.Omega.{arith}
-use Rattle.slots.proofs.Seating.{Starting, begins, few, row-known, roomy, seats, sets-aside, ends-many, ends-left, ends-same, ends-slotted}
+use Rattle.slots.specs.SlotsLaws.{roomy-within}
+use Rattle.slots.proofs.Seating.{Starting, begins, few, row-known, seats, sets-aside, ends-many, ends-left, ends-same, ends-slotted}
 use Rattle.slots.proofs.starting.start.Statement.{statement}
 use Rattle.slots.proofs.starting.start.Tie as tie
 
@@ -33,7 +34,7 @@ goes-alone-requires : tie.Need-goes-alone-requires Inv-loop μ-loop
 goes-alone-requires c κs = (c .before .before .loop .inv .routed .sheet, (c .before .before .loop .inv .routed .home, row-known (c .before .before .loop .inv) (c .before .loop-test .taken)))
 
 seat-requires : tie.Need-seat-requires Inv-loop μ-loop
-seat-requires c κs = (c .before .before .before .before .before .before .before .before .loop .inv .routed .sheet, ((row-known (c .before .before .before .before .before .before .before .before .loop .inv) (c .before .before .before .before .before .before .before .loop-test .taken), omega (arith, c .before .before .before .before .before .before .before .before .loop .inv .room .most)), roomy (c .before .before .before .before .before .before .before .before .loop .inv) (c .before .before .before .before .before .before .before .loop-test .taken)))
+seat-requires c κs = (c .before .before .before .before .before .before .before .before .loop .inv .routed .sheet, (row-known (c .before .before .before .before .before .before .before .before .loop .inv) (c .before .before .before .before .before .before .before .loop-test .taken), roomy-within (omega (arith, c .before .before .before .before .before .before .before .loop-test .taken)) (c .before .before .before .before .before .before .before .before .loop .inv .room)))
 
 add-k : tie.Need-add-k Inv-loop μ-loop
 add-k c = omega (arith, c .before .before .before .before .before .before .before .before .before .before .before .before .before .before .before .before .before .loop .inv .room .most)
