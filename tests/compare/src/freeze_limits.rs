@@ -1,22 +1,21 @@
-//! `compare freeze limits`: a sample of the limiter's calls with the Rust's plans out, as `compare
-//! freeze plans` keeps sheets.
+//! The frozen calls of the limiter with the Rust's plans out.
 //!
-//! A record of `stdin` has four little-endian u32, the sheet's length, the plan in's, the greatest
-//! number of rounds and the plan out's length, then the sheet and the plan in. `stdout` has a line
-//! a record, as there: `refused` and the number, or the plan out's bytes.
+//! A record has four little-endian u32, the sheet's length, the plan in's, the greatest number of
+//! rounds and the plan out's length, then the sheet and the plan in. Its line is that of a frozen
+//! plan: `refused` and the number, or the plan out's bytes.
 
-use std::io;
-use std::path::Path;
-
+use crate::freeze::Kept;
 use crate::freeze_plans::is_long;
 use crate::kinds::LIMITER;
 use crate::limit_calls::{call, Call};
 use crate::limits::{expected, Expected};
 use crate::sample::{Sample, MOST_LENT};
 
-pub fn run(count: usize, seed: u64, folder: &Path) -> io::Result<()> {
+const COUNT: usize = 300;
+
+pub fn sample(seed: u64) -> Vec<Kept> {
     let consider = |sample: &mut Sample, number| consider(sample, &call(seed, number));
-    Sample::of(&[LIMITER], 10, count, consider).write(seed, folder)
+    Sample::kept(&[LIMITER], 10, COUNT, consider)
 }
 
 fn consider(sample: &mut Sample, call: &Call) {

@@ -1,27 +1,24 @@
-//! `compare freeze plans`: a sample of sheets with the Rust's plans, for a comparison where no Rust
-//! is at hand.
+//! The frozen sheets with the Rust's plans.
 //!
-//! `stdin` has one record a sheet, laid out as those of `compare freeze`: the sheet's length and
-//! the plan buffer's as little-endian u32, then the sheet. `stdout` has one line a record: `refused`,
-//! a blank and the number in decimal; or the plan's bytes from the first to the last, each as two
-//! hexadecimal digits in lower case.
+//! A record has the sheet's length and the plan buffer's as little-endian u32, then the sheet. Its
+//! line is `refused`, a blank and the number in decimal; or the plan's bytes from the first to the
+//! last, each as two hexadecimal digits in lower case.
 //!
 //! No sheet that is planned has more than `MOST_ROWS` rows, and no plan buffer has more than
 //! `MOST_LENT` bytes.
 
-use std::io;
-use std::path::Path;
-
 use crate::flavours::{drawn, Drawn};
+use crate::freeze::Kept;
 use crate::plans::{expected, Expected};
 use crate::refusal::{self, OFFERED};
 use crate::sample::{Sample, MOST_LENT};
 
+const COUNT: usize = 300;
 const MOST_ROWS: usize = 12;
 
-pub fn run(count: usize, seed: u64, folder: &Path) -> io::Result<()> {
+pub fn sample(seed: u64) -> Vec<Kept> {
     let consider = |sample: &mut Sample, number| consider(sample, &drawn(OFFERED, seed, number));
-    Sample::of(OFFERED, 8, count, consider).write(seed, folder)
+    Sample::kept(OFFERED, 8, COUNT, consider)
 }
 
 /// Whether a sheet that is read has more rows than a sample's.

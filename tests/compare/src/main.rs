@@ -16,9 +16,7 @@
 //!     compare bench limits ..        the limiter against the Rust, likewise
 //!     compare slowest METHOD SECONDS SEED FILE   a sheet that takes the planner long; for
 //!                                                METHOD `limiter`, a call of that
-//!     compare freeze COUNT SEED DIR  writes DIR/stdin and DIR/stdout, a sample to keep
-//!     compare freeze plans COUNT SEED DIR   the same, of plans
-//!     compare freeze limits COUNT SEED DIR  the same, of the limiter's calls
+//!     compare freeze SEED DIR        writes DIR/stdin and DIR/stdout, a sample to keep
 //!     compare example DIR            writes DIR/sheet and DIR/plan, to be drawn
 //!
 //! build.rs says where the sources and the planner's library are looked for. The exit status is
@@ -39,6 +37,7 @@ mod flavours;
 mod freeze;
 mod freeze_limits;
 mod freeze_plans;
+mod freeze_refusals;
 mod generate;
 mod greedy;
 mod inserts;
@@ -82,7 +81,7 @@ use bench_plans::Planning;
 const USAGE: &str = "usage: compare selftest | refusals COUNT SEED | rounds COUNT SEED | \
                      plans COUNT SEED | plan NUMBER SEED | checked COUNT SEED | \
                      limits COUNT SEED | limit NUMBER SEED | \
-                     bench [plans | limits] [instructions | SIDE CASE RUNS] | freeze [plans | limits] COUNT SEED DIR | example DIR | \
+                     bench [plans | limits] [instructions | SIDE CASE RUNS] | freeze SEED DIR | example DIR | \
                      slowest METHOD SECONDS SEED FILE";
 
 fn main() -> ExitCode {
@@ -101,14 +100,8 @@ fn main() -> ExitCode {
         ["limits", count, seed] => numbers(count, seed).map(|(c, s)| limits::run(c, s)),
         ["limit", number, seed] => numbers(number, seed).map(|(n, s)| limits::show(n, s)),
         ["checked", count, seed] => numbers(count, seed).map(|(c, s)| checked::run(c, s)),
-        ["freeze", "plans", count, seed, folder] => {
-            numbers(count, seed).map(|(c, s)| written(folder, |to| freeze_plans::run(c, s, to)))
-        }
-        ["freeze", "limits", count, seed, folder] => {
-            numbers(count, seed).map(|(c, s)| written(folder, |to| freeze_limits::run(c, s, to)))
-        }
-        ["freeze", count, seed, folder] => {
-            numbers(count, seed).map(|(c, s)| written(folder, |to| freeze::run(c, s, to)))
+        ["freeze", seed, folder] => {
+            seed.parse().ok().map(|s| written(folder, |to| freeze::run(s, to)))
         }
         ["example", folder] => Some(written(folder, example::run)),
         _ => None,

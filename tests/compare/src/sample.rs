@@ -1,8 +1,6 @@
 //! A sample of calls to keep, with their answers, in which everything that has to be met is.
 
-use std::path::Path;
-use std::{fs, io};
-
+use crate::freeze::Kept;
 use crate::kinds::{kinds, Seen};
 use crate::refusal::can_occur;
 
@@ -12,35 +10,33 @@ pub const MOST_LENT: usize = 8192;
 const MET: usize = 4;
 
 pub struct Sample {
-    stdin: Vec<u8>,
-    stdout: String,
+    kept: Vec<Kept>,
+    /// The number of records of each answer.
     answers: Vec<usize>,
-    /// Each kind with the number of its records.
+    /// Each kind of boundary with the number of its records.
     kinds: Vec<(usize, usize)>,
 }
 
 impl Sample {
-    /// Of at least `count` records, each `consider`ed by its number, of the kinds of these methods
-    /// and of answers up to `last`.
-    pub fn of(
+    /// At least `count` calls, each `consider`ed by its number, of the kinds of these methods and of
+    /// answers up to `last`.
+    pub fn kept(
         methods: &[u8],
         last: usize,
         count: usize,
         consider: impl Fn(&mut Sample, usize),
-    ) -> Sample {
-        let mut sample = Sample {
-            stdin: vec![],
-            stdout: String::new(),
-            answers: vec![0; last + 1],
-            kinds: kinds(methods).map(|(kind, _)| (kind, 0)).collect(),
-        };
+    ) -> Vec<Kept> {
+        let kinds = kinds(methods).map(|(kind, _)| (kind, 0)).collect();
+        let mut sample = Sample { kept: vec![], answers: vec![0; last + 1], kinds };
         for number in 0.. {
-            if sample.whole() && sample.answers.iter().sum::<usize>() >= count {
+            if sample.whole() && sample.kept.len() >= count {
                 break;
             }
             consider(&mut sample, number);
         }
-        sample
+        let least = sample.kinds.iter().map(|(_, met)| met).min().expect("there are kinds");
+        println!("freeze: each of {} kinds in {least} records or more", sample.kinds.len());
+        sample.kept
     }
 
     /// Whether all is met that has to be.
@@ -50,33 +46,16 @@ impl Sample {
         answers && self.kinds.iter().all(|&(_, met)| met >= MET)
     }
 
-    /// Takes a record that shows something new, and any where nothing is lacking.
-    pub fn offer(&mut self, right: &Result<Vec<u8>, u32>, seen: &Seen, record: &[&[u8]]) {
+    /// Takes a call that shows something new, and any where nothing is lacking.
+    pub fn offer(&mut self, right: &Result<Vec<u8>, u32>, seen: &Seen, asked: &[&[u8]]) {
         let number = *right.as_ref().err().unwrap_or(&0) as usize;
         let lacks = |&(kind, met): &(usize, usize)| seen.has(kind) && met < MET;
         let new = self.answers[number] < MET || self.kinds.iter().any(lacks);
         if new || self.whole() {
             self.answers[number] += 1;
             self.kinds.iter_mut().for_each(|(kind, met)| *met += usize::from(seen.has(*kind)));
-            record.iter().for_each(|bytes| self.stdin.extend(*bytes));
-            self.stdout.push_str(&line(right));
+            self.kept.push(Kept { number, asked: asked.concat(), line: line(right) });
         }
-    }
-
-    pub fn write(&self, seed: u64, folder: &Path) -> io::Result<()> {
-        let Sample { stdin, stdout, answers, kinds } = self;
-        fs::create_dir_all(folder)?;
-        fs::write(folder.join("stdin"), stdin)?;
-        fs::write(folder.join("stdout"), stdout)?;
-        let (records, last) = (answers.iter().sum::<usize>(), answers.len() - 1);
-        let (asked, answered) = (stdin.len(), stdout.len());
-        println!(
-            "freeze: seed {seed}, {records} records, {asked} bytes, and {answered} of answers"
-        );
-        println!("freeze: records per answer 0 to {last}: {answers:?}");
-        let least = kinds.iter().map(|(_, met)| met).min().expect("there are kinds");
-        println!("freeze: each of {} kinds in {least} records or more", kinds.len());
-        Ok(())
     }
 }
 

@@ -1,20 +1,22 @@
--- `replaying::print_bytes` meets its contract. Assumes nothing.
-use mathlib.Core.Path.{_≡_, refl}
-use Prim.Native.Nat.{_-_}
+-- `replay::line::print_bytes` meets its contract. The loop's invariant: the bytes that are printed lie in the room. Assumes nothing.
+use Prim.Native.Nat.{_≤_, _-_}
 use native.Mathlib.Omega.{arith}
 use lib.ListN.{length}
 use borrow.Author.Needs.{needs}
-use Rattle.replaying.proofs.print_bytes.Statement.{statement}
-use Rattle.replaying.proofs.print_bytes.Tie as tie
+use Rattle.replay.proofs.line.print_bytes.Statement.{statement}
+use Rattle.replay.proofs.line.print_bytes.Tie as tie
 
 abbrev Inv-loop : tie.InvT-loop
-Inv-loop bytes i₀ t3 i-end i = i-end ≡ length bytes
+Inv-loop len room n i₀ t5 i = n ≤ length room
 
 abbrev μ-loop : tie.MeasureT-loop
-μ-loop bytes i₀ t3 i-end i = i-end - i
+μ-loop len room n i₀ t5 i = n - i
+
+room-for-requires : tie.Need-room-for-requires Inv-loop μ-loop
+room-for-requires c κs = search needs
 
 loop-holds : tie.Need-loop-holds Inv-loop μ-loop
-loop-holds c = refl
+loop-holds c = search needs
 
 shared-slice-read-print-hex : tie.Need-shared-slice-read-print-hex Inv-loop μ-loop
 shared-slice-read-print-hex c = omega (arith, c .before .before .loop .inv)
@@ -35,7 +37,7 @@ loop-less : tie.Need-loop-less Inv-loop μ-loop
 loop-less c = omega arith
 
 loop-again : tie.Need-loop-again Inv-loop μ-loop
-loop-again c = refl
+loop-again c = search needs
 
 slice-aggregate-write-all : tie.Need-slice-aggregate-write-all Inv-loop μ-loop
 slice-aggregate-write-all c = search needs
@@ -52,6 +54,7 @@ print-bytes-spec =
     (tie.spec
     Inv-loop
     μ-loop
+    room-for-requires
     loop-holds
     shared-slice-read-print-hex
     cast-print-hex
