@@ -11,7 +11,7 @@ use Rattle.sorting.specs.Descending.{greater}
 use Rattle.sheet.specs.Fields.{rowsOf}
 use Rattle.evaluation.specs.Routed.{Routed}
 use Rattle.plan.specs.Every.{Every, every-of, every-at, every-append}
-use Rattle.savings.specs.declared.terms.Terms.{Terms}
+use Rattle.savings.specs.declared.terms.Directed.{Directed}
 use Rattle.savings.specs.Savings.{Saving, savingOf, saves, savingsFrom, savingsOf, valuesOf, numbered, ranked, startsOf, mergeOf, after, noSaving, mergedBy, routesOf}
 use Rattle.savings.specs.Ranked.{kept-every, savings-entries}
 use Rattle.savings.specs.Listed.{fromsOf, tosOf, Listed}
@@ -23,12 +23,12 @@ module _ (s : List ℕ) where
   abbrev Rows : Saving → Type 0
   Rows x = (x .from < rowsOf s) × (x .to < rowsOf s)
 
-  from-rows : (t : Terms) (i : ℕ) (js : List ℕ) → i < rowsOf s → Every (λ (j : ℕ). j < rowsOf s) js → Every Rows (savingsFrom s t i js)
+  from-rows : (t : Directed) (i : ℕ) (js : List ℕ) → i < rowsOf s → Every (λ (j : ℕ). j < rowsOf s) js → Every Rows (savingsFrom s t i js)
   unfolding savingsFrom
   from-rows t i [] h e = tt
-  from-rows t i (j ∷ js) h e = kept-every Rows (saves s t i j) (savingOf s t i j) (savingsFrom s t i js) (λ _. (h, e .0)) (from-rows t i js h (e .1))
+  from-rows t i (j ∷ js) h e = kept-every Rows (saves s t i j) (savingOf s (t .common) i j) (savingsFrom s t i js) (λ _. (h, e .0)) (from-rows t i js h (e .1))
 
-  savings-rows : (t : Terms) (members is : List ℕ) → Every (λ (j : ℕ). j < rowsOf s) members → Every (λ (i : ℕ). i < rowsOf s) is → Every Rows (savingsOf s t members is)
+  savings-rows : (t : Directed) (members is : List ℕ) → Every (λ (j : ℕ). j < rowsOf s) members → Every (λ (i : ℕ). i < rowsOf s) is → Every Rows (savingsOf s t members is)
   unfolding savingsOf
   savings-rows t members [] e f = tt
   savings-rows t members (i ∷ is) e f =
@@ -59,7 +59,7 @@ module _ (savings : List Saving) (from to : List ℕ) (values : List Float) (l :
   ends-hold : length savings ≤ length to
   ends-hold = within (length savings) to (tosOf savings) (l .ends) (length-map savings (λ (x : Saving). x .to))
 
-  merged-same : (s : List ℕ) (t : Terms) (es : List ℕ) → Each (λ e. e < length savings) es → (routes : List (List ℕ))
+  merged-same : (s : List ℕ) (t : Directed) (es : List ℕ) → Each (λ e. e < length savings) es → (routes : List (List ℕ))
       → mergedIn s t from to es routes ≡ mergedBy s t savings es routes
   unfolding mergedIn mergedBy
   merged-same s t [] h routes = refl
@@ -71,7 +71,7 @@ module _ (savings : List Saving) (from to : List ℕ) (values : List Float) (l :
 
 module _
     (s : List ℕ)
-    (t : Terms)
+    (t : Directed)
     (members from to : List ℕ)
     (values : List Float)
     (entries : List ℕ)
@@ -101,8 +101,8 @@ module _
     ranked-merges routes = rw e (merged-same all from to values l s t (ranked all) (ranked-within all) routes)
 
 -- ---- all savings, greatest first: the rounds, once none is left
-pub merged-routes : (s : List ℕ) (t : Terms) (members from to : List ℕ) (values : List Float) (entries : List ℕ) (n : ℕ)
+pub merged-routes : (s : List ℕ) (t : Directed) (members from to : List ℕ) (values : List Float) (entries : List ℕ) (n : ℕ)
     → Listed (savingsOf s t members members) from to values → take n entries ≡ ranked (savingsOf s t members members)
-    → (starts routes : List (List ℕ)) → starts ≡ startsOf s t members → routes ≡ mergedIn s t from to (take n entries) starts → routes ≡ routesOf s t members
+    → (starts routes : List (List ℕ)) → starts ≡ startsOf s (t .common) members → routes ≡ mergedIn s t from to (take n entries) starts → routes ≡ routesOf s t members
 merged-routes s t members from to values entries n l e starts routes p q =
-    q ∙ ap (mergedIn s t from to (take n entries)) p ∙ ranked-merges s t members from to values entries n l e (startsOf s t members)
+    q ∙ ap (mergedIn s t from to (take n entries)) p ∙ ranked-merges s t members from to values entries n l e (startsOf s (t .common) members)

@@ -6,11 +6,12 @@ use mathlib.Core.List.{List}
 use lib.ListN.{length, drop, length-drop}
 use lib.Seq.{length-take-le}
 use Rattle.plan.specs.declared.tables.Filled.{Filled}
+use Rattle.plan.specs.Terms.{termsOf}
 use Rattle.plan.specs.Outcome.{Outcome}
 use Rattle.plan.specs.Members.{part, Members}
 use Rattle.plan.specs.Laid.{Room, filledBy, Laid}
-use Rattle.savings.specs.declared.terms.Terms.{Terms}
-use Rattle.savings.specs.Savings.{termsOf, roundsOf, asideOf, routesOf, plannedBy, clarkeWright}
+use Rattle.savings.specs.declared.terms.Directed.{Directed}
+use Rattle.savings.specs.Savings.{directedOf, roundsOf, asideOf, routesOf, plannedBy, clarkeWright}
 use Rattle.slots.specs.HowMany.{routes-many, aside-few}
 use Rattle.slots.specs.Slots.{slotsIn, stopsIn, Slotted, Laying}
 use Rattle.slots.specs.SlotsLaws.{route-few}
@@ -20,7 +21,7 @@ use Rattle.slots.proofs.Rounds.{laidSo}
 pub members-long : {s : List ℕ} {depot : ℕ} {stops : List ℕ} {start total : ℕ} → Members s depot stops start total → length (part stops start total) ≡ total - start
 members-long {stops = stops} {start = start} {total = total} ok = length-take-le (total - start) (drop start stops) (omega (arith, length-drop start stops, ok .within, ok .from))
 
-module _ {s : List ℕ} {depot : ℕ} {stops ends vehicles : List ℕ} {f : Filled} {total : ℕ} (ok : Members s depot stops (f .routed) total) (room : Room ends vehicles f total) (t : Terms) {cells lens loads slots : List ℕ}
+module _ {s : List ℕ} {depot : ℕ} {stops ends vehicles : List ℕ} {f : Filled} {total : ℕ} (ok : Members s depot stops (f .routed) total) (room : Room ends vehicles f total) (t : Directed) {cells lens loads slots : List ℕ}
     (g : Slotted s (length (part stops (f .routed) total)) cells lens loads slots) (same : slotsIn (length (part stops (f .routed) total)) cells lens ≡ routesOf s t (part stops (f .routed) total)) where
   abbrev members : List ℕ
   members = part stops (f .routed) total
@@ -29,7 +30,7 @@ module _ {s : List ℕ} {depot : ℕ} {stops ends vehicles : List ℕ} {f : Fill
   routes-in : slotsIn (total - f .routed) cells lens ≡ routesOf s t members
   routes-in = ap (λ (n : ℕ). slotsIn n cells lens) (sym (members-long ok)) ∙ same
 
-  many : f .routed + stopsIn (slotsIn (total - f .routed) cells lens) + length (asideOf s t members) ≡ total
+  many : f .routed + stopsIn (slotsIn (total - f .routed) cells lens) + length (asideOf s (t .common) members) ≡ total
   many = omega (arith, ap stopsIn routes-in, routes-many s t members, members-long ok, ok .from)
 
   pub laying : Laying (total - f .routed) cells lens stops ends vehicles f
@@ -46,21 +47,21 @@ module _ {s : List ℕ} {depot : ℕ} {stops ends vehicles : List ℕ} {f : Fill
   }
 
   -- no more stops are set aside than the table for them has room for
-  pub aside-within : {left room : ℕ} → left ≡ length (asideOf s t members) → 101 ≤ room → left ≤ room
-  aside-within e h = omega (arith, aside-few s t members, ok .routed .few)
+  pub aside-within : {left room : ℕ} → left ≡ length (asideOf s (t .common) members) → 101 ≤ room → left ≤ room
+  aside-within e h = omega (arith, aside-few s (t .common) members, ok .routed .few)
 
-  module _ {aside : List ℕ} (left : aside ≡ asideOf s t members) where
+  module _ {aside : List ℕ} (left : aside ≡ asideOf s (t .common) members) where
     pub aside-fits : f .routed + stopsIn (slotsIn (total - f .routed) cells lens) + length aside ≤ length stops
     aside-fits = omega (arith, many, ap length left, ok .within)
 
     -- what is laid down is the outcome
-    module _ (v : ℕ) (terms : t ≡ termsOf s depot v members) where
+    module _ (v : ℕ) (terms : t ≡ directedOf s depot v members) where
       planned : laidSo (roundsOf v (slotsIn (total - f .routed) cells lens)) aside ≡ clarkeWright s depot v members
-      unfolding clarkeWright plannedBy
+      unfolding clarkeWright plannedBy directedOf termsOf
       planned =
           ap (λ (rs : List (List ℕ)). laidSo (roundsOf v rs) aside) routes-in
           ∙ ap (laidSo (roundsOf v (routesOf s t members))) left
-          ∙ ap (λ (u : Terms). plannedBy s u v members) terms
+          ∙ ap (λ (u : Directed). laidSo (roundsOf v (routesOf s u members)) (asideOf s (u .common) members)) terms
 
       pub planned-count : {r : Filled} → r ≡ filledBy f (roundsOf v (slotsIn (total - f .routed) cells lens)) → r ≡ filledBy f (clarkeWright s depot v members .rounds)
       planned-count e = e ∙ ap (λ (o : Outcome). filledBy f (o .rounds)) planned

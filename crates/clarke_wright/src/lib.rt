@@ -1,7 +1,7 @@
 // The savings: each stop starts on a round of its own, and rounds are joined end to end, greatest saving first.
 use plan::tables::Filled;
 use savings::terms;
-use savings::terms::Terms;
+use savings::terms::Directed;
 use slots::laying;
 use slots::starting;
 ghost use mathlib.Core.Path.{_≡_};
@@ -19,7 +19,7 @@ ghost use Rattle.slots.specs.Slots.{slotsIn, Roomy, Slotted};
 // The members' rounds in the slots, once no saving is left; answers how many stops are set aside.
 fn merge_members(
     sheet: &[u8],
-    terms: Terms,
+    terms: Directed,
     members: &[u16],
     from: &mut [u16],
     to: &mut [u16],
@@ -32,18 +32,27 @@ fn merge_members(
     trial: &mut [u16],
     aside: &mut [u16],
 ) -> usize
-    requires { ⌜ Routed (now sheet) (terms .depot) (now members) ⌝ }
+    requires { ⌜ Routed (now sheet) (terms .common .depot) (now members) ⌝ }
     requires { ⌜ ((x : ℕ) → count x (now members) ≤ 1) ⌝ }
     requires { ⌜ Space (now from) (now to) (now values) (now entries) (length (now members) * length (now members)) ⌝ }
     requires { ⌜ Roomy (length (now members)) (now cells) (now lens) (now loads) (now slots) ⌝ }
     requires { ⌜ (101 ≤ length (now trial)) × (101 ≤ length (now aside)) ⌝ }
-    ensures { λ r. ⌜ r ≡ length (asideOf (now (sheet .entry)) terms (now (members .entry))) ⌝ }
-    ensures { λ r. ⌜ take r (now (aside .exit)) ≡ asideOf (now (sheet .entry)) terms (now (members .entry)) ⌝ }
+    ensures { λ r. ⌜ r ≡ length (asideOf (now (sheet .entry)) (terms .common) (now (members .entry))) ⌝ }
+    ensures { λ r. ⌜ take r (now (aside .exit)) ≡ asideOf (now (sheet .entry)) (terms .common) (now (members .entry)) ⌝ }
     ensures { λ _. ⌜ Slotted (now (sheet .entry)) (length (now (members .entry))) (now (cells .exit)) (now (lens .exit)) (now (loads .exit)) (now (slots .exit)) ⌝ }
     ensures { λ _. ⌜ slotsIn (length (now (members .entry))) (now (cells .exit)) (now (lens .exit)) ≡ routesOf (now (sheet .entry)) terms (now (members .entry)) ⌝ }
 {
     let n = savings::rank(sheet, terms, members, from, to, values, entries, cells);
-    let left = starting::start(sheet, terms, members, cells, lens, loads, slots, aside);
+    let left = starting::start(
+        sheet,
+        terms.common,
+        members,
+        cells,
+        lens,
+        loads,
+        slots,
+        aside,
+    );
     merging::merge_all(
         sheet,
         terms,
@@ -93,7 +102,7 @@ fn plan_by(
 {
     let start = filled.routed;
     let count = total - start;
-    let terms = terms::terms_of(sheet, depot, vehicle as usize, &stops[start..total]);
+    let terms = terms::directed_of(sheet, depot, vehicle, &stops[start..total]);
     let left = merge_members(
         sheet,
         terms,

@@ -14,9 +14,10 @@ use Rattle.sheet.specs.Fields.{rowsOf}
 use Rattle.sheet.specs.Accepted.{Accepted}
 use Rattle.sheet.specs.Finite.{demand-bounded}
 use Rattle.evaluation.specs.Routed.{Routed}
+use Rattle.plan.specs.declared.terms.Terms.{Terms}
 use Rattle.plan.specs.Read.{count}
 use Rattle.plan.specs.Every.{Every, every-at, loadOf}
-use Rattle.savings.specs.declared.terms.Terms.{Terms}
+use Rattle.savings.specs.declared.terms.Directed.{Directed}
 use Rattle.savings.specs.Savings.{routeAt, slotOf, firstIs, lastIs, Merge, apart, joined, joining, onlyIf, mayJoin, passesSo, passes, passing, mergeOf, after}
 use Rattle.savings.specs.Joined.{Slots, Stops}
 use Rattle.slots.specs.Slots.{slotAt, slotsIn, stopsIn, Roomy, Slotted, endToEnd, Taken}
@@ -79,55 +80,54 @@ only-apart : (b : Bool) → onlyIf b apart ≡ apart
 only-apart true = refl
 only-apart false = refl
 
-module _ (s : List ℕ) (t : Terms) (routes : List (List ℕ)) where
-  apart-stays : passing s t routes apart ≡ apart
-  apart-stays = only-apart (passes s t routes apart)
+apart-stays : (s : List ℕ) (t : Terms) (routes : List (List ℕ)) → passing s t routes apart ≡ apart
+apart-stays s t routes = only-apart (passes s t routes apart)
 
-  module _ (i j : ℕ) where
-    abbrev a : ℕ
-    a = slotOf i routes
+module _ (s : List ℕ) (t : Directed) (routes : List (List ℕ)) (i j : ℕ) where
+  abbrev a : ℕ
+  a = slotOf i routes
 
-    abbrev b : ℕ
-    b = slotOf j routes
+  abbrev b : ℕ
+  b = slotOf j routes
 
-    abbrev ri : List ℕ
-    ri = routeAt routes a
+  abbrev ri : List ℕ
+  ri = routeAt routes a
 
-    abbrev rj : List ℕ
-    rj = routeAt routes b
+  abbrev rj : List ℕ
+  rj = routeAt routes b
 
-    -- a merge that may be
-    may-be : mayJoin s t a b ri rj ≡ true → mergeOf s t routes i j ≡ passing s t routes (joining (t .directed) i j a b ri rj)
-    unfolding mergeOf
-    may-be e = ap (λ (x : Bool). passing s t routes (onlyIf x (joining (t .directed) i j a b ri rj))) e
+  -- a merge that may be
+  may-be : mayJoin s (t .common) a b ri rj ≡ true → mergeOf s t routes i j ≡ passing s (t .common) routes (joining (t .directed) i j a b ri rj)
+  unfolding mergeOf
+  may-be e = ap (λ (x : Bool). passing s (t .common) routes (onlyIf x (joining (t .directed) i j a b ri rj))) e
 
-    may-not : mayJoin s t a b ri rj ≡ false → mergeOf s t routes i j ≡ apart
-    unfolding mergeOf
-    may-not e = ap (λ (x : Bool). passing s t routes (onlyIf x (joining (t .directed) i j a b ri rj))) e ∙ apart-stays
+  may-not : mayJoin s (t .common) a b ri rj ≡ false → mergeOf s t routes i j ≡ apart
+  unfolding mergeOf
+  may-not e = ap (λ (x : Bool). passing s (t .common) routes (onlyIf x (joining (t .directed) i j a b ri rj))) e ∙ apart-stays s (t .common) routes
 
-    no-way : joining (t .directed) i j a b ri rj ≡ apart → mergeOf s t routes i j ≡ apart
-    unfolding mergeOf
-    no-way e =
-        ap (λ (m : Merge). passing s t routes (onlyIf (mayJoin s t a b ri rj) m)) e
-        ∙ ap (passing s t routes) (only-apart (mayJoin s t a b ri rj))
-        ∙ apart-stays
+  no-way : joining (t .directed) i j a b ri rj ≡ apart → mergeOf s t routes i j ≡ apart
+  unfolding mergeOf
+  no-way e =
+      ap (λ (m : Merge). passing s (t .common) routes (onlyIf (mayJoin s (t .common) a b ri rj) m)) e
+      ∙ ap (passing s (t .common) routes) (only-apart (mayJoin s (t .common) a b ri rj))
+      ∙ apart-stays s (t .common) routes
 
-    same-apart : a ≡ b → mergeOf s t routes i j ≡ apart
-    same-apart e = may-not (rw (eq-eqb a b e))
+  same-apart : a ≡ b → mergeOf s t routes i j ≡ apart
+  same-apart e = may-not (rw (eq-eqb a b e))
 
-    over-apart : t .capacity < loadOf s ri + loadOf s rj → mergeOf s t routes i j ≡ apart
-    over-apart h = may-not (rw (lt-leb (loadOf s ri + loadOf s rj) (t .capacity) h) (and-false (not (eqb a b))))
+  over-apart : t .common .capacity < loadOf s ri + loadOf s rj → mergeOf s t routes i j ≡ apart
+  over-apart h = may-not (rw (lt-leb (loadOf s ri + loadOf s rj) (t .common .capacity) h) (and-false (not (eqb a b))))
 
-    none-apart : ri ≡ [] → mergeOf s t routes i j ≡ apart
-    none-apart e = no-way (ap (λ (r : List ℕ). joining (t .directed) i j a b r rj) e ∙ joining-none (t .directed) i j a b rj)
+  none-apart : ri ≡ [] → mergeOf s t routes i j ≡ apart
+  none-apart e = no-way (ap (λ (r : List ℕ). joining (t .directed) i j a b r rj) e ∙ joining-none (t .directed) i j a b rj)
 
-    onto-none-apart : rj ≡ [] → mergeOf s t routes i j ≡ apart
-    onto-none-apart e = no-way (ap (λ (r : List ℕ). joining (t .directed) i j a b ri r) e ∙ joining-onto-none (t .directed) i j a b ri)
+  onto-none-apart : rj ≡ [] → mergeOf s t routes i j ≡ apart
+  onto-none-apart e = no-way (ap (λ (r : List ℕ). joining (t .directed) i j a b ri r) e ∙ joining-onto-none (t .directed) i j a b ri)
 
-    both-join : (a ≡ b → ⊥) → loadOf s ri + loadOf s rj ≤ t .capacity → mergeOf s t routes i j ≡ passing s t routes (meant routes (wayOf (t .directed) (firstIs i ri) (lastIs i ri) (firstIs j rj) (lastIs j rj) a b))
-    both-join n h =
-        may-be (rw (ne-eqb a b n, le-leb (loadOf s ri + loadOf s rj) (t .capacity) h))
-        ∙ ap (passing s t routes) (joining-meant routes a b (t .directed) i j)
+  both-join : (a ≡ b → ⊥) → loadOf s ri + loadOf s rj ≤ t .common .capacity → mergeOf s t routes i j ≡ passing s (t .common) routes (meant routes (wayOf (t .directed) (firstIs i ri) (lastIs i ri) (firstIs j rj) (lastIs j rj) a b))
+  both-join n h =
+      may-be (rw (ne-eqb a b n, le-leb (loadOf s ri + loadOf s rj) (t .common .capacity) h))
+      ∙ ap (passing s (t .common) routes) (joining-meant routes a b (t .directed) i j)
 
 -- ---- the stops of a slot, as the code reads them
 abbrev pub cut : List ℕ → List ℕ → ℕ → List ℕ
@@ -183,7 +183,7 @@ module _ (s : List ℕ) (n : ℕ) (cells lens loads slots : List ℕ) (g : Slott
   }
 
   -- ---- the slots of two rows
-  module _ (t : Terms) (i j : ℕ) (hi : i < rowsOf s) (hj : j < rowsOf s) where
+  module _ (t : Directed) (i j : ℕ) (hi : i < rowsOf s) (hj : j < rowsOf s) where
     abbrev at : ℕ → ℕ
     at x = getD slots x 0
 
@@ -236,7 +236,7 @@ module _ (s : List ℕ) (n : ℕ) (cells lens loads slots : List ℕ) (g : Slott
       pub load-sum : getD loads (at i) 0 + getD loads (at j) 0 < 0x1_0000_0000
       load-sum = loads-fit (at i) (at j) differ below-i below-j
 
-      pub too-much : t .capacity < getD loads (at i) 0 + getD loads (at j) 0 → routes ≡ after routes (mergeOf s t routes i j)
+      pub too-much : t .common .capacity < getD loads (at i) 0 + getD loads (at j) 0 → routes ≡ after routes (mergeOf s t routes i j)
       too-much h = stays (over-apart s t routes i j (omega (arith, h, load-at i hi p, load-at j hj q)))
 
       -- the way that the code finds
@@ -257,10 +257,10 @@ module _ (s : List ℕ) (n : ℕ) (cells lens loads slots : List ℕ) (g : Slott
             ∙ ap (λ (k : ℕ). wayAt (routeAt routes k) (routeAt routes (at j)) k (at j)) (slot-at i hi)
             ∙ ap (λ (k : ℕ). wayAt (routeAt routes (slotOf i routes)) (routeAt routes k) (slotOf i routes) k) (slot-at j hj)
 
-        pub merges : getD loads (at i) 0 + getD loads (at j) 0 ≤ t .capacity → mergeOf s t routes i j ≡ passing s t routes (meant routes way)
+        pub merges : getD loads (at i) 0 + getD loads (at j) 0 ≤ t .common .capacity → mergeOf s t routes i j ≡ passing s (t .common) routes (meant routes way)
         merges h =
             both-join s t routes i j (λ k. differ (slot-at i hi ∙ k ∙ sym (slot-at j hj))) (omega (arith, h, load-at i hi p, load-at j hj q))
-            ∙ ap (λ (w : Way). passing s t routes (meant routes w)) (sym found)
+            ∙ ap (λ (w : Way). passing s (t .common) routes (meant routes w)) (sym found)
 
   -- ---- a way that joins two slots
   module _ (way : Way) (into from : ℕ) (back forth : Bool) (y : Ways routes way) (w : way ≡ Join into from back forth) where
@@ -350,9 +350,9 @@ pub way-apart : (s : List ℕ) (t : Terms) (routes : List (List ℕ)) (way : Way
 way-apart s t routes way e = sym (ap (after routes) (ap (λ (w : Way). passing s t routes (meant routes w)) e ∙ apart-stays s t routes))
 
 -- ---- one saving after another
-pub record Merging (s : List ℕ) (t : Terms) (n : ℕ) (from to entries cells₀ lens₀ loads₀ slots₀ trial₀ cells lens loads slots trial : List ℕ) (k end : ℕ) : Type 0 where
+pub record Merging (s : List ℕ) (t : Directed) (n : ℕ) (from to entries cells₀ lens₀ loads₀ slots₀ trial₀ cells lens loads slots trial : List ℕ) (k end : ℕ) : Type 0 where
   pub slotted : Slotted s n cells lens loads slots
-  pub home : t .depot < rowsOf s
+  pub home : t .common .depot < rowsOf s
   pub legs : Legs s from to entries
   pub room : 101 ≤ length trial
   pub last : end ≡ length entries
@@ -364,7 +364,7 @@ pub record Merging (s : List ℕ) (t : Terms) (n : ℕ) (from to entries cells�
   pub tried : length trial ≡ length trial₀
   pub same : mergedIn s t from to (drop k entries) (slotsIn n cells lens) ≡ mergedIn s t from to entries (slotsIn n cells₀ lens₀)
 
-pub begins : (s : List ℕ) (t : Terms) (n : ℕ) (from to entries cells lens loads slots trial : List ℕ) → Slotted s n cells lens loads slots → t .depot < rowsOf s → Legs s from to entries → 101 ≤ length trial
+pub begins : (s : List ℕ) (t : Directed) (n : ℕ) (from to entries cells lens loads slots trial : List ℕ) → Slotted s n cells lens loads slots → t .common .depot < rowsOf s → Legs s from to entries → 101 ≤ length trial
     → Merging s t n from to entries cells lens loads slots trial cells lens loads slots trial 0 (length entries)
 begins s t n from to entries cells lens loads slots trial g h l r = record {
   slotted = g;
@@ -381,7 +381,7 @@ begins s t n from to entries cells lens loads slots trial g h l r = record {
   same = refl;
 }
 
-module _ (s : List ℕ) (t : Terms) (n : ℕ) (from to entries cells₀ lens₀ loads₀ slots₀ trial₀ cells lens loads slots trial : List ℕ) (k end : ℕ)
+module _ (s : List ℕ) (t : Directed) (n : ℕ) (from to entries cells₀ lens₀ loads₀ slots₀ trial₀ cells lens loads slots trial : List ℕ) (k end : ℕ)
     (g : Merging s t n from to entries cells₀ lens₀ loads₀ slots₀ trial₀ cells lens loads slots trial k end) where
   module _ (here : k < end) where
     abbrev e : ℕ

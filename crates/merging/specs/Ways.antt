@@ -4,7 +4,7 @@ use mathlib.Core.Bool.{Bool, true, false, _&&_, cond}
 use mathlib.Core.List.{List, [], _∷_}
 use lib.ListN.{length, getD}
 use Rattle.sheet.specs.Fields.{rowsOf}
-use Rattle.savings.specs.declared.terms.Terms.{Terms}
+use Rattle.savings.specs.declared.terms.Directed.{Directed}
 use Rattle.savings.specs.Savings.{Merge, apart, joined, routeAt, mergeOf, after}
 use Rattle.savings.specs.Joined.{Slots}
 use Rattle.slots.specs.Slots.{endToEnd}
@@ -38,6 +38,6 @@ pub record Legs (s from to entries : List ℕ) : Type 0 where
   pub to-row : (k : ℕ) → k < length entries → getD to (getD entries k 0) 0 < rowsOf s
 
 -- the savings at these places, one after another, from where and to where the tables say
-unfoldable pub mergedIn : List ℕ → Terms → List ℕ → List ℕ → List ℕ → List (List ℕ) → List (List ℕ)
+unfoldable pub mergedIn : List ℕ → Directed → List ℕ → List ℕ → List ℕ → List (List ℕ) → List (List ℕ)
 mergedIn s t from to [] routes = routes
 mergedIn s t from to (e ∷ es) routes = mergedIn s t from to es (after routes (mergeOf s t routes (getD from e 0) (getD to e 0)))

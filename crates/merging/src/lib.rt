@@ -1,5 +1,6 @@
 // One merge: which way two rounds join, and whether they may.
-use savings::terms::Terms;
+use plan::terms::Terms;
+use savings::terms::Directed;
 ghost use mathlib.Core.Path.{_≡_};
 ghost use Prim.Native.Nat.{_≤_, _<_};
 ghost use lib.ListN.{length};
@@ -131,7 +132,7 @@ fn merge_by(
 // What the saving of the leg from a stop to another makes of the rounds.
 fn merge(
     sheet: &[u8],
-    terms: Terms,
+    terms: Directed,
     count: usize,
     i: u16,
     j: u16,
@@ -142,7 +143,7 @@ fn merge(
     trial: &mut [u16],
 )
     requires { ⌜ Slotted (now sheet) count (now cells) (now lens) (now loads) (now slots) ⌝ }
-    requires { ⌜ terms .depot < rowsOf (now sheet) ⌝ }
+    requires { ⌜ terms .common .depot < rowsOf (now sheet) ⌝ }
     requires { ⌜ (i < rowsOf (now sheet)) × (j < rowsOf (now sheet)) ⌝ }
     requires { ⌜ 101 ≤ length (now trial) ⌝ }
     ensures { λ _. ⌜ Slotted (now (sheet .entry)) count (now (cells .exit)) (now (lens .exit)) (now (loads .exit)) (now (slots .exit)) ⌝ }
@@ -159,7 +160,7 @@ fn merge(
     if b == count {
         return;
     }
-    if terms.capacity < loads[a] + loads[b] {
+    if terms.common.capacity < loads[a] + loads[b] {
         return;
     }
     let ai = 101 * a;
@@ -173,13 +174,23 @@ fn merge(
         &cells[ai..ai + lens[a] as usize],
         &cells[bj..bj + lens[b] as usize],
     );
-    merge_by(sheet, terms, count, way, cells, lens, loads, slots, trial);
+    merge_by(
+        sheet,
+        terms.common,
+        count,
+        way,
+        cells,
+        lens,
+        loads,
+        slots,
+        trial,
+    );
 }
 
 // The savings at the places in `entries`, one after another.
 pub fn merge_all(
     sheet: &[u8],
-    terms: Terms,
+    terms: Directed,
     count: usize,
     from: &[u16],
     to: &[u16],
@@ -191,7 +202,7 @@ pub fn merge_all(
     trial: &mut [u16],
 )
     requires { ⌜ Slotted (now sheet) count (now cells) (now lens) (now loads) (now slots) ⌝ }
-    requires { ⌜ terms .depot < rowsOf (now sheet) ⌝ }
+    requires { ⌜ terms .common .depot < rowsOf (now sheet) ⌝ }
     requires { ⌜ Legs (now sheet) (now from) (now to) (now entries) ⌝ }
     requires { ⌜ 101 ≤ length (now trial) ⌝ }
     ensures { λ _. ⌜ Slotted (now (sheet .entry)) count (now (cells .exit)) (now (lens .exit)) (now (loads .exit)) (now (slots .exit)) ⌝ }

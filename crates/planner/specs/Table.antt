@@ -31,7 +31,7 @@ use Rattle.plan.specs.Terms.{termsOf}
 use Rattle.plan.specs.SheetA.{one, ten, f64s, header, rows, table, sheetA}
 use Rattle.nearest_neighbor.specs.Greedy.{choose, grow, growOn, greedy}
 use Rattle.nearest_neighbor.specs.Nearest.{nearestOffer, nearestOnward, nearestNeighbor, windowOffer, windowOnward, nearestNeighborTw}
-use Rattle.savings.specs.Savings.{sameBack, symmetric, termsOf as savingsTerms, savingsFrom, savingsOf, numbered, ranked, goesAlone, startsOf, slotOf, passes, mergeOf, mergedBy, roundsOf, asideOf, plannedBy, clarkeWright}
+use Rattle.savings.specs.Savings.{sameBack, symmetric, directedOf, savingsFrom, savingsOf, numbered, ranked, goesAlone, startsOf, slotOf, passes, mergeOf, mergedBy, roundsOf, asideOf, plannedBy, clarkeWright}
 use Rattle.savings.specs.Cases.{relative, within}
 use Rattle.solomon_i1.specs.Insertion.{farthestFrom, judge, tryPlaces, tryStops, grow as inserts, growOn as insertsOn, stepOf as seeds, planOn, solomonI1}
 use Rattle.solomon_i1.specs.Cases.{due, carrying}
@@ -173,5 +173,5 @@ cases =
     ∷ []
 
 pub right : Every Holds cases
-unfolding answerOf refusalOf headerRight countsRight methodRight lengthsRight needsVehicle fleetRight contents coordinate demand capacity marks amount zeroBits optional interval costPerDistance servingInRange rowInRange maximaInRange restInRange vehicleInRange sameId newId rowsInRange entriesInRange vehiclesInRange inRange all rowsOf vehiclesOf methodOf timesOf spareOf rowMarks idField depotField vehicleMarks marked leading depotsOf gateAt demandOf stopOf limitAt restAfter vehicleOf distanceOf timeOf fixedInDistance waitingOf latenessOf violatedOf pass serveOf serveRested stepOf stepRested earlierOf movedOf aliveOf endOf homeward finishOf unrested walkFrom walkOf onward scheduleOf isUnlimited allowOf scheduledOf keptBy routeFeasible someWindowed hasTimeWindows hasSoftWindows routeChecksNeeded lastOf placedOf readyFor departsAt lateAfter costAfter visitedOf progressOf recordOf buildRoute routeCost priceWith visitBytes asideBytes roundCounts roundFigures roundBytes headerBytes withVisits withRound withRounds withAside priceAfter priceOf planBytes planOf count loadOf termsOf choose grow growOn greedy nearestOffer nearestOnward nearestNeighbor windowOffer windowOnward nearestNeighborTw sameBack symmetric savingsTerms savingsFrom savingsOf numbered ranked goesAlone startsOf slotOf passes mergeOf mergedBy roundsOf asideOf plannedBy clarkeWright farthestFrom judge tryPlaces tryStops inserts insertsOn seeds planOn solomonI1 directionOf partOf turnsLeft below before fits hopeless closes stepped sweptFrom sweptBy sweep insert sorted those fleetOf withVehicle constructOf plannedOf outcomeOf priced planFor number bytes signed write f64At add sub mul div ofBits toBits lt eq le round sum
+unfolding answerOf refusalOf headerRight countsRight methodRight lengthsRight needsVehicle fleetRight contents coordinate demand capacity marks amount zeroBits optional interval costPerDistance servingInRange rowInRange maximaInRange restInRange vehicleInRange sameId newId rowsInRange entriesInRange vehiclesInRange inRange all rowsOf vehiclesOf methodOf timesOf spareOf rowMarks idField depotField vehicleMarks marked leading depotsOf gateAt demandOf stopOf limitAt restAfter vehicleOf distanceOf timeOf fixedInDistance waitingOf latenessOf violatedOf pass serveOf serveRested stepOf stepRested earlierOf movedOf aliveOf endOf homeward finishOf unrested walkFrom walkOf onward scheduleOf isUnlimited allowOf scheduledOf keptBy routeFeasible someWindowed hasTimeWindows hasSoftWindows routeChecksNeeded lastOf placedOf readyFor departsAt lateAfter costAfter visitedOf progressOf recordOf buildRoute routeCost priceWith visitBytes asideBytes roundCounts roundFigures roundBytes headerBytes withVisits withRound withRounds withAside priceAfter priceOf planBytes planOf count loadOf termsOf choose grow growOn greedy nearestOffer nearestOnward nearestNeighbor windowOffer windowOnward nearestNeighborTw sameBack symmetric directedOf savingsFrom savingsOf numbered ranked goesAlone startsOf slotOf passes mergeOf mergedBy roundsOf asideOf plannedBy clarkeWright farthestFrom judge tryPlaces tryStops inserts insertsOn seeds planOn solomonI1 directionOf partOf turnsLeft below before fits hopeless closes stepped sweptFrom sweptBy sweep insert sorted those fleetOf withVehicle constructOf plannedOf outcomeOf priced planFor number bytes signed write f64At add sub mul div ofBits toBits lt eq le round sum
 right = (refl, (refl, (refl, (refl, (refl, (refl, (refl, (refl, (refl, (refl, (refl, (refl, (refl, (refl, (refl, tt)))))))))))))))

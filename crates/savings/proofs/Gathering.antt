@@ -10,7 +10,7 @@ use lib.ListN.{length, getD, take, length-append}
 use lib.Seq.{take-suc, take-all, length-take-le}
 use lib.Ieee.{Float}
 use Rattle.sheet.proofs.Cells.{square}
-use Rattle.savings.specs.declared.terms.Terms.{Terms}
+use Rattle.savings.specs.declared.terms.Directed.{Directed}
 use Rattle.savings.specs.Savings.{Saving, savingOf, saves, kept, savingsFrom, savingsOf, numbered}
 use Rattle.savings.specs.Ranked.{from-few, savings-few}
 use Rattle.savings.specs.Listed.{Space, Pushed}
@@ -112,19 +112,19 @@ one-more : (members : List ℕ) (k : ℕ) → k < length members → take (k + 1
 one-more members k h = rw add-one (take-suc members k 0 h)
 
 -- ---- of the legs from a member
-from-append : (s : List ℕ) (t : Terms) (i : ℕ) (xs ys : List ℕ) → savingsFrom s t i (xs ++ ys) ≡ savingsFrom s t i xs ++ savingsFrom s t i ys
+from-append : (s : List ℕ) (t : Directed) (i : ℕ) (xs ys : List ℕ) → savingsFrom s t i (xs ++ ys) ≡ savingsFrom s t i xs ++ savingsFrom s t i ys
 unfolding savingsFrom
 from-append s t i [] ys = refl
 from-append s t i (j ∷ js) ys = go (saves s t i j) (from-append s t i js ys)
   where
     go : (b : Bool) → savingsFrom s t i (js ++ ys) ≡ savingsFrom s t i js ++ savingsFrom s t i ys
-        → kept b (savingOf s t i j) (savingsFrom s t i (js ++ ys)) ≡ kept b (savingOf s t i j) (savingsFrom s t i js) ++ savingsFrom s t i ys
-    go true e = ap (_∷_ (savingOf s t i j)) e
+        → kept b (savingOf s (t .common) i j) (savingsFrom s t i (js ++ ys)) ≡ kept b (savingOf s (t .common) i j) (savingsFrom s t i js) ++ savingsFrom s t i ys
+    go true e = ap (_∷_ (savingOf s (t .common) i j)) e
     go false e = e
 
 module _
     (s : List ℕ)
-    (t : Terms)
+    (t : Directed)
     (i : ℕ)
     (members from₀ to₀ : List ℕ)
     (values₀ : List Float)
@@ -162,15 +162,15 @@ module _
     pub from-takes : saves s t i other ≡ true
         → (from′ to′ : List ℕ) (values′ : List Float) (entries′ : List ℕ)
         → length from′ ≡ length from → length to′ ≡ length to → length values′ ≡ length values → length entries′ ≡ length entries
-        → Pushed from to values entries end (savingOf s t i other ∷ []) from′ to′ values′ entries′
+        → Pushed from to values entries end (savingOf s (t .common) i other ∷ []) from′ to′ values′ entries′
         → Gathering (savingsFrom s t i) members from₀ to₀ values₀ entries₀ at from′ to′ values′ entries′ (end + 1) (k + 1) last
     unfolding savingsFrom
     from-takes e from′ to′ values′ entries′ f o v p u =
-        takes (savingsFrom s t i) members from₀ to₀ values₀ entries₀ at from to values entries end k last g h (savingOf s t i other ∷ []) (grown ∙ rw e)
+        takes (savingsFrom s t i) members from₀ to₀ values₀ entries₀ at from to values entries end k last g h (savingOf s (t .common) i other ∷ []) (grown ∙ rw e)
         from′ to′ values′ entries′ (end + 1) f o v p refl u
 
 -- ---- of all legs
-of-append : (s : List ℕ) (t : Terms) (members xs ys : List ℕ) → savingsOf s t members (xs ++ ys) ≡ savingsOf s t members xs ++ savingsOf s t members ys
+of-append : (s : List ℕ) (t : Directed) (members xs ys : List ℕ) → savingsOf s t members (xs ++ ys) ≡ savingsOf s t members xs ++ savingsOf s t members ys
 unfolding savingsOf
 of-append s t members [] ys = refl
 of-append s t members (i ∷ is) ys =
@@ -179,7 +179,7 @@ of-append s t members (i ∷ is) ys =
 
 module _
     (s : List ℕ)
-    (t : Terms)
+    (t : Directed)
     (members from₀ to₀ : List ℕ)
     (values₀ : List Float)
     (entries₀ from to : List ℕ)

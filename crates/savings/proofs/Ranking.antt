@@ -9,7 +9,7 @@ use lib.Seq.{take-at}
 use lib.Ieee.{Float}
 use Rattle.sorting.specs.Stable.{sorted}
 use Rattle.sorting.specs.Descending.{greater, Numbers, Entries}
-use Rattle.savings.specs.declared.terms.Terms.{Terms}
+use Rattle.savings.specs.declared.terms.Directed.{Directed}
 use Rattle.savings.specs.Savings.{Saving, savingsOf, valuesOf, numbered, ranked}
 use Rattle.savings.specs.Ranked.{savings-numbers, savings-entries, savings-few}
 use Rattle.savings.specs.Listed.{Pushed, Listed}
@@ -26,7 +26,7 @@ numbered-length (suc n) k = ap suc (numbered-length n (k + 1))
 -- ---- the sort
 module _
     (s : List ℕ)
-    (t : Terms)
+    (t : Directed)
     (members from₀ to₀ : List ℕ)
     (values₀ : List Float)
     (entries₀ from to : List ℕ)

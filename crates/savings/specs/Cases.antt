@@ -17,11 +17,12 @@ use Rattle.evaluation.specs.Limits.{isUnlimited, allowOf}
 use Rattle.evaluation.specs.Feasible.{scheduledOf, keptBy, routeFeasible}
 use Rattle.evaluation.specs.Checks.{someWindowed, hasTimeWindows, hasSoftWindows, routeChecksNeeded}
 use Rattle.evaluation.specs.Longer.{lastOf}
+use Rattle.plan.specs.Terms.{termsOf}
 use Rattle.plan.specs.Outcome.{Outcome}
 use Rattle.plan.specs.Read.{count}
 use Rattle.plan.specs.Every.{loadOf}
 use Rattle.plan.specs.SheetA.{one, three, f64s, header, rows, table, sheetA}
-use Rattle.savings.specs.Savings.{sameBack, symmetric, termsOf, Saving, savingsFrom, savingsOf, numbered, ranked, goesAlone, startsOf, slotOf, apart, joined, joining, passes, mergeOf, mergedBy, roundsOf, asideOf, plannedBy, clarkeWright}
+use Rattle.savings.specs.Savings.{sameBack, symmetric, directedOf, Saving, savingsFrom, savingsOf, numbered, ranked, goesAlone, startsOf, slotOf, apart, joined, joining, passes, mergeOf, mergedBy, roundsOf, asideOf, plannedBy, clarkeWright}
 
 -- sheet A with a capacity, marks and max distance of its vehicle
 abbrev pub relative : ℕ → ℕ → ℕ → List ℕ
@@ -50,7 +51,7 @@ pub record Rows : Type 0 where
   pub row14 : planned (relative 0 0 0) ≡ each
 
 pub cases : Rows
-unfolding clarkeWright plannedBy asideOf roundsOf mergedBy mergeOf passes slotOf startsOf goesAlone ranked numbered savingsOf savingsFrom termsOf symmetric sameBack loadOf count lastOf routeChecksNeeded hasSoftWindows hasTimeWindows someWindowed routeFeasible keptBy scheduledOf allowOf isUnlimited walkOf walkFrom unrested stepOf serveOf pass fixedInDistance gateAt demandOf stopOf limitAt restAfter vehicleOf distanceOf rowsOf vehiclesOf rowMarks vehicleMarks marked sorted insert number bytes f64At add sub div ofBits lt le
+unfolding clarkeWright plannedBy asideOf roundsOf mergedBy mergeOf passes slotOf startsOf goesAlone ranked numbered savingsOf savingsFrom directedOf termsOf symmetric sameBack loadOf count lastOf routeChecksNeeded hasSoftWindows hasTimeWindows someWindowed routeFeasible keptBy scheduledOf allowOf isUnlimited walkOf walkFrom unrested stepOf serveOf pass fixedInDistance gateAt demandOf stopOf limitAt restAfter vehicleOf distanceOf rowsOf vehiclesOf rowMarks vehicleMarks marked sorted insert number bytes f64At add sub div ofBits lt le
 cases = record { row1 = refl; row6 = refl; row7 = refl; row8 = refl; row14 = refl }
 
 -- ---- the ways of joining stop 1's round, in slot 0, and stop 2's, in slot 1

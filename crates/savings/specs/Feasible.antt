@@ -10,11 +10,13 @@ use lib.ListN.{length}
 use Rattle.sheet.specs.Values.{vehicleOf}
 use Rattle.evaluation.specs.Limits.{limitsOf}
 use Rattle.evaluation.specs.Feasible.{routeFeasible}
+use Rattle.plan.specs.declared.terms.Terms.{Terms}
+use Rattle.plan.specs.Terms.{termsOf}
 use Rattle.plan.specs.Outcome.{Round}
 use Rattle.plan.specs.Every.{Every, every-map, loadOf, OfFleet, of-first}
 use Rattle.plan.specs.Checked.{Known, members-known, stands-feasible}
-use Rattle.savings.specs.declared.terms.Terms.{Terms}
-use Rattle.savings.specs.Savings.{termsOf, savingsOf, ranked, goesAlone, lone, startsOf, roundsOf, routesOf, plannedBy, clarkeWright}
+use Rattle.savings.specs.declared.terms.Directed.{Directed}
+use Rattle.savings.specs.Savings.{directedOf, savingsOf, ranked, goesAlone, lone, startsOf, roundsOf, routesOf, plannedBy, clarkeWright}
 use Rattle.savings.specs.Joined.{Stands, Keeps, merged-every}
 
 -- ---- a round so far
@@ -43,10 +45,11 @@ module _ (s : List ℕ) (t : Terms) (P : ℕ → Type 0) where
       go true f = record { rows = (e .0, tt); capacity = λ h. absurd (omega (arith, h)); stands = λ h. f tt }
       go false f = built-none
 
-  routes-built : (members : List ℕ) → Every P members → Every (Built s t P) (routesOf s t members)
-  routes-built members e =
-      let savings = savingsOf s t members members in
-      merged-every s t P (Built s t P) built-keeps savings (ranked savings) (startsOf s t members) (starts-built members e)
+routes-built : (s : List ℕ) (t : Directed) (P : ℕ → Type 0) (members : List ℕ) → Every P members → Every (Built s (t .common) P) (routesOf s t members)
+routes-built s t P members e =
+    let savings = savingsOf s t members members in
+    let u = t .common in
+    merged-every s t P (Built s u P) (built-keeps s u P) savings (ranked savings) (startsOf s u members) (starts-built s u P members e)
 
 -- ---- every round
 rounds-every : (Q : List ℕ → Type 0) (R : Round → Type 0) (v : ℕ) → ((stops : List ℕ) → 0 < length stops → Q stops → R (record { vehicle = v; stops = stops }))
@@ -65,12 +68,12 @@ pub record Saved (s : List ℕ) (depot v : ℕ) (r : Round) : Type 0 where
 
 module _ (s : List ℕ) (depot v : ℕ) (members : List ℕ) where
   pub savings-saved : Every (Saved s depot v) (clarkeWright s depot v members .rounds)
-  unfolding clarkeWright plannedBy termsOf
+  unfolding clarkeWright plannedBy directedOf termsOf
   savings-saved =
-      let t = termsOf s depot v members in
+      let t = directedOf s depot v members in
       let limits = limitsOf (vehicleOf s v) in
       let P = Known s depot members limits in
-      rounds-every (Built s t P) (Saved s depot v) v
+      rounds-every (Built s (t .common) P) (Saved s depot v) v
       (λ stops h b. record { vehicle = refl; some = h; capacity = b .capacity; feasible = stands-feasible s depot members limits stops (b .rows) (b .stands h) })
       (routesOf s t members) (routes-built s t P members (members-known s depot members limits))
 

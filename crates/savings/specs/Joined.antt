@@ -10,10 +10,11 @@ use lib.ListN.{length, getD, set, length-append, length-reverse}
 use lib.Ieee.Fits.{and-l, and-r}
 use borrow.Author.Tests.{eq-eqb}
 use Rattle.evaluation.specs.Feasible.{routeFeasible}
+use Rattle.plan.specs.declared.terms.Terms.{Terms}
 use Rattle.plan.specs.Read.{count}
 use Rattle.plan.specs.Once.{count-append}
 use Rattle.plan.specs.Every.{Every, every-at, every-append, loadOf, load-append}
-use Rattle.savings.specs.declared.terms.Terms.{Terms}
+use Rattle.savings.specs.declared.terms.Directed.{Directed}
 use Rattle.savings.specs.Savings.{Saving, routeAt, slotOf, firstIs, lastIs, Merge, apart, joined, joining, onlyIf, mayJoin, tooDear, passes, mergeOf, after, noSaving, mergedBy}
 
 -- ---- a round reversed has the same stops
@@ -132,8 +133,8 @@ module _ (s : List ℕ) (t : Terms) (P : ℕ → Type 0) (routes : List (List �
   abbrev rj : List ℕ
   rj = routeAt routes b
 
-  joining-merged : T (mayJoin s t a b ri rj) → Merged s t P routes (joining (t .directed) i j a b ri rj)
-  joining-merged h =
+  joining-merged : (directed : Bool) → T (mayJoin s t a b ri rj) → Merged s t P routes (joining directed i j a b ri rj)
+  joining-merged directed h =
       let c = t .capacity in
       let n = not-same a b (and-l (not (eqb a b)) (leb (loadOf s ri + loadOf s rj) c) h) in
       let l = leb→le (loadOf s ri + loadOf s rj) c (and-r (not (eqb a b)) (leb (loadOf s ri + loadOf s rj) c) h) in
@@ -144,7 +145,7 @@ module _ (s : List ℕ) (t : Terms) (P : ℕ → Type 0) (routes : List (List �
       = λ A B stops k. record { slots = record { differ = λ e. n (sym e); into = B; from = A }; same = k; carried = omega (arith, l, k .load) } in
       either M (lastIs i ri && firstIs j rj) (joined a b (ri ++ rj)) _
       (λ u. along (last-inside routes a i (and-l (lastIs i ri) (firstIs j rj) u)) (first-inside routes b j (and-r (lastIs i ri) (firstIs j rj) u)) (ri ++ rj) (end-to-end s P ri rj))
-      (either M (t .directed) apart _ (λ u. tt)
+      (either M directed apart _ (λ u. tt)
       (either M (lastIs j rj && firstIs i ri) (joined b a (rj ++ ri)) _
       (λ u. against (first-inside routes a i (and-r (lastIs j rj) (firstIs i ri) u)) (last-inside routes b j (and-l (lastIs j rj) (firstIs i ri) u)) (rj ++ ri) (end-to-end s P rj ri))
       (either M (lastIs i ri && lastIs j rj) (joined a b (ri ++ reverse rj)) _
@@ -164,24 +165,26 @@ passed s t routes (joined a b stops) h =
     or-and true y z h = tt
     or-and false y z h = and-l y z h
 
-module _ (s : List ℕ) (t : Terms) (routes : List (List ℕ)) (i j : ℕ) where
-  pub merge-merged : (P : ℕ → Type 0) → Merged s t P routes (mergeOf s t routes i j)
+module _ (s : List ℕ) (t : Directed) (routes : List (List ℕ)) (i j : ℕ) where
+  pub merge-merged : (P : ℕ → Type 0) → Merged s (t .common) P routes (mergeOf s t routes i j)
   unfolding mergeOf
   merge-merged P =
+      let u = t .common in
       let a = slotOf i routes in
       let b = slotOf j routes in
       let m = joining (t .directed) i j a b (routeAt routes a) (routeAt routes b) in
-      let n = onlyIf (mayJoin s t a b (routeAt routes a) (routeAt routes b)) m in
-      if-so (Merged s t P routes) (passes s t routes n) n tt
-      (λ u. if-so (Merged s t P routes) (mayJoin s t a b (routeAt routes a) (routeAt routes b)) m tt (joining-merged s t P routes i j a b))
+      let n = onlyIf (mayJoin s u a b (routeAt routes a) (routeAt routes b)) m in
+      if-so (Merged s u P routes) (passes s u routes n) n tt
+      (λ _. if-so (Merged s u P routes) (mayJoin s u a b (routeAt routes a) (routeAt routes b)) m tt (joining-merged s u P routes i j a b (t .directed)))
 
-  pub merge-stands : Standing s t (mergeOf s t routes i j)
+  pub merge-stands : Standing s (t .common) (mergeOf s t routes i j)
   unfolding mergeOf
   merge-stands =
+      let u = t .common in
       let a = slotOf i routes in
       let b = slotOf j routes in
-      let n = onlyIf (mayJoin s t a b (routeAt routes a) (routeAt routes b)) (joining (t .directed) i j a b (routeAt routes a) (routeAt routes b)) in
-      if-so (Standing s t) (passes s t routes n) n tt (passed s t routes n)
+      let n = onlyIf (mayJoin s u a b (routeAt routes a) (routeAt routes b)) (joining (t .directed) i j a b (routeAt routes a) (routeAt routes b)) in
+      if-so (Standing s u) (passes s u routes n) n tt (passed s u routes n)
 
 -- ---- what every merge keeps
 pub every-set : (Q : List ℕ → Type 0) (routes : List (List ℕ)) (k : ℕ) (route : List ℕ) → Q route → Every Q routes → Every Q (set routes k route)
@@ -194,8 +197,8 @@ pub record Keeps (s : List ℕ) (t : Terms) (P : ℕ → Type 0) (Q : List ℕ �
   pub none : Q []
   pub joins : (into from stops : List ℕ) → Stops s P into from stops → loadOf s stops ≤ t .capacity → Stands s t stops → Q into → Q from → Q stops
 
-module _ (s : List ℕ) (t : Terms) (P : ℕ → Type 0) (Q : List ℕ → Type 0) (k : Keeps s t P Q) where
-  after-every : (routes : List (List ℕ)) (m : Merge) → Merged s t P routes m → Standing s t m → Every Q routes → Every Q (after routes m)
+module _ (s : List ℕ) (t : Directed) (P : ℕ → Type 0) (Q : List ℕ → Type 0) (k : Keeps s (t .common) P Q) where
+  after-every : (routes : List (List ℕ)) (m : Merge) → Merged s (t .common) P routes m → Standing s (t .common) m → Every Q routes → Every Q (after routes m)
   after-every routes apart u v e = e
   after-every routes (joined a b stops) u v e =
       every-set Q (set routes a stops) b [] (k .none)

@@ -7,10 +7,11 @@ use mathlib.Core.Bool.{Bool, true, false}
 use mathlib.Core.List.{List, [], _∷_}
 use lib.ListN.{length, getD, set, length-set}
 use lib.Seq.{getD-set-other}
+use Rattle.plan.specs.declared.terms.Terms.{Terms}
 use Rattle.plan.specs.Read.{count, chains, stopsOf}
 use Rattle.plan.specs.Once.{count-append}
-use Rattle.savings.specs.declared.terms.Terms.{Terms}
-use Rattle.savings.specs.Savings.{termsOf, Saving, savingsOf, ranked, routeAt, goesAlone, lone, startsOf, Merge, apart, joined, mergeOf, after, noSaving, mergedBy, roundsOf, unless, asideOf, routesOf, plannedBy, clarkeWright}
+use Rattle.savings.specs.declared.terms.Directed.{Directed}
+use Rattle.savings.specs.Savings.{directedOf, Saving, savingsOf, ranked, routeAt, goesAlone, lone, startsOf, Merge, apart, joined, mergeOf, after, noSaving, mergedBy, roundsOf, unless, asideOf, routesOf, plannedBy, clarkeWright}
 use Rattle.savings.specs.Joined.{Slots, Merged, merge-merged}
 
 -- how often a row stands in the rounds
@@ -34,8 +35,8 @@ counted-joined x routes a b stops u c =
     let f = counted-set x (set routes a stops) b [] (omega (arith, length-set routes a stops, u .from)) in
     omega (arith, c, d, e, f)
 
-module _ (s : List ℕ) (t : Terms) (x : ℕ) where
-  after-keeps : (routes : List (List ℕ)) (m : Merge) → Merged s t (λ (row : ℕ). Unit) routes m → counted x (after routes m) ≡ counted x routes
+module _ (s : List ℕ) (t : Directed) (x : ℕ) where
+  after-keeps : (routes : List (List ℕ)) (m : Merge) → Merged s (t .common) (λ (row : ℕ). Unit) routes m → counted x (after routes m) ≡ counted x routes
   after-keeps routes apart u = refl
   after-keeps routes (joined a b stops) u = counted-joined x routes a b stops (u .slots) (u .same .counted x)
 
@@ -47,16 +48,16 @@ module _ (s : List ℕ) (t : Terms) (x : ℕ) where
       let m = mergeOf s t routes (y .from) (y .to) in
       merged-keeps savings es (after routes m) ∙ after-keeps routes m (merge-merged s t routes (y .from) (y .to) (λ (row : ℕ). Unit))
 
-  -- ---- start and end
-  pub starts-keep : (members : List ℕ) → counted x (startsOf s t members) + count x (asideOf s t members) ≡ count x members
-  unfolding startsOf asideOf counted count
-  starts-keep [] = refl
-  starts-keep (row ∷ rows) = go (goesAlone s t row) (starts-keep rows)
-    where
-      go : (b : Bool) → counted x (startsOf s t rows) + count x (asideOf s t rows) ≡ count x rows
-          → count x (lone b row) + counted x (startsOf s t rows) + count x (unless b row (asideOf s t rows)) ≡ count x (row ∷ rows)
-      go true e = omega (arith, e)
-      go false e = omega (arith, e)
+-- ---- start and end
+pub starts-keep : (s : List ℕ) (t : Terms) (x : ℕ) (members : List ℕ) → counted x (startsOf s t members) + count x (asideOf s t members) ≡ count x members
+unfolding startsOf asideOf counted count
+starts-keep s t x [] = refl
+starts-keep s t x (row ∷ rows) = go (goesAlone s t row) (starts-keep s t x rows)
+  where
+    go : (b : Bool) → counted x (startsOf s t rows) + count x (asideOf s t rows) ≡ count x rows
+        → count x (lone b row) + counted x (startsOf s t rows) + count x (unless b row (asideOf s t rows)) ≡ count x (row ∷ rows)
+    go true e = omega (arith, e)
+    go false e = omega (arith, e)
 
 rounds-keep : (x v : ℕ) (routes : List (List ℕ)) (aside : List ℕ) → count x (chains (roundsOf v routes) aside) ≡ counted x routes + count x aside
 unfolding roundsOf chains counted count
@@ -66,15 +67,16 @@ rounds-keep x v ((row ∷ rows) ∷ routes) aside =
     let e = rounds-keep x v routes aside in
     count-append x (row ∷ rows) (chains (roundsOf v routes) aside) ∙ omega (arith, e)
 
-pub planned-keeps : (s : List ℕ) (t : Terms) (v : ℕ) (members : List ℕ) (x : ℕ) → count x (stopsOf (plannedBy s t v members)) ≡ count x members
+pub planned-keeps : (s : List ℕ) (t : Directed) (members : List ℕ) (x : ℕ) → count x (stopsOf (plannedBy s t members)) ≡ count x members
 unfolding plannedBy
-planned-keeps s t v members x =
+planned-keeps s t members x =
     let savings = savingsOf s t members members in
-    rounds-keep x v (routesOf s t members) (asideOf s t members)
-    ∙ ap (λ (n : ℕ). n + count x (asideOf s t members)) (merged-keeps s t x savings (ranked savings) (startsOf s t members))
-    ∙ starts-keep s t x members
+    let u = t .common in
+    rounds-keep x (u .vehicle) (routesOf s t members) (asideOf s u members)
+    ∙ ap (λ (n : ℕ). n + count x (asideOf s u members)) (merged-keeps s t x savings (ranked savings) (startsOf s u members))
+    ∙ starts-keep s u x members
 
 -- the outcome's stops are a permutation of the members
 pub savings-keep : (s : List ℕ) (depot v : ℕ) (members : List ℕ) (x : ℕ) → count x (stopsOf (clarkeWright s depot v members)) ≡ count x members
 unfolding clarkeWright
-savings-keep s depot v members x = planned-keeps s (termsOf s depot v members) v members x
+savings-keep s depot v members x = planned-keeps s (directedOf s depot v members) members x

@@ -12,7 +12,7 @@ use lib.ListN.{length, length-append}
 use Rattle.sorting.specs.Descending.{keyOf, Numbers, Entries}
 use Rattle.sheet.specs.Values.{nought}
 use Rattle.plan.specs.Every.{Every, every-at, every-append}
-use Rattle.savings.specs.declared.terms.Terms.{Terms}
+use Rattle.savings.specs.declared.terms.Directed.{Directed}
 use Rattle.savings.specs.Savings.{Saving, valueOf, savingOf, paired, saves, kept, savingsFrom, savingsOf, valuesOf, numbered}
 
 -- ---- "only savings > 0"
@@ -23,13 +23,13 @@ pub kept-every : (P : Saving → Type 0) (b : Bool) (x : Saving) (xs : List Savi
 kept-every P true x xs f e = (f tt, e)
 kept-every P false x xs f e = e
 
-from-positive : (s : List ℕ) (t : Terms) (i : ℕ) (js : List ℕ) → Every Positive (savingsFrom s t i js)
+from-positive : (s : List ℕ) (t : Directed) (i : ℕ) (js : List ℕ) → Every Positive (savingsFrom s t i js)
 unfolding savingsFrom
 from-positive s t i [] = tt
 from-positive s t i (j ∷ js) =
-    kept-every Positive (saves s t i j) (savingOf s t i j) (savingsFrom s t i js) (and-r (paired (t .directed) i j) (lt nought (valueOf s t i j))) (from-positive s t i js)
+    kept-every Positive (saves s t i j) (savingOf s (t .common) i j) (savingsFrom s t i js) (and-r (paired (t .directed) i j) (lt nought (valueOf s (t .common) i j))) (from-positive s t i js)
 
-savings-positive : (s : List ℕ) (t : Terms) (members is : List ℕ) → Every Positive (savingsOf s t members is)
+savings-positive : (s : List ℕ) (t : Directed) (members is : List ℕ) → Every Positive (savingsOf s t members is)
 unfolding savingsOf
 savings-positive s t members [] = tt
 savings-positive s t members (i ∷ is) =
@@ -50,7 +50,7 @@ values-above : (savings : List Saving) → Every Positive savings → Every (λ 
 values-above [] e = tt
 values-above (x ∷ xs) e = (e .0, values-above xs (e .1))
 
-pub savings-numbers : (s : List ℕ) (t : Terms) (members is : List ℕ) → Numbers (valuesOf (savingsOf s t members is))
+pub savings-numbers : (s : List ℕ) (t : Directed) (members is : List ℕ) → Numbers (valuesOf (savingsOf s t members is))
 savings-numbers s t members is k h =
     let ys = valuesOf (savingsOf s t members is) in
     above-number nought (keyOf ys k) (every-at (λ (y : Float). T (lt nought y)) nought ys k h (values-above (savingsOf s t members is) (savings-positive s t members is)))
@@ -69,16 +69,16 @@ pub savings-entries : (savings : List Saving) → Entries (valuesOf savings) (nu
 savings-entries savings = numbered-below (valuesOf savings) (length savings) 0 (omega (arith, values-length savings))
 
 -- ---- how many: a saving for each leg between members at most
-pub from-few : (s : List ℕ) (t : Terms) (i : ℕ) (js : List ℕ) → length (savingsFrom s t i js) ≤ length js
+pub from-few : (s : List ℕ) (t : Directed) (i : ℕ) (js : List ℕ) → length (savingsFrom s t i js) ≤ length js
 unfolding savingsFrom
 from-few s t i [] = zero-le
 from-few s t i (j ∷ js) = go (saves s t i j) (from-few s t i js)
   where
-    go : (b : Bool) → length (savingsFrom s t i js) ≤ length js → length (kept b (savingOf s t i j) (savingsFrom s t i js)) ≤ suc (length js)
+    go : (b : Bool) → length (savingsFrom s t i js) ≤ length js → length (kept b (savingOf s (t .common) i j) (savingsFrom s t i js)) ≤ suc (length js)
     go true h = omega (arith, h)
     go false h = omega (arith, h)
 
-pub savings-few : (s : List ℕ) (t : Terms) (members is : List ℕ) → length (savingsOf s t members is) ≤ length is * length members
+pub savings-few : (s : List ℕ) (t : Directed) (members is : List ℕ) → length (savingsOf s t members is) ≤ length is * length members
 unfolding savingsOf
 savings-few s t members [] = zero-le
 savings-few s t members (i ∷ is) =

@@ -7,16 +7,16 @@ use lib.ListN.{length, getD, set}
 use lib.Ieee.{Float, lt, le, eq}
 use Rattle.sorting.specs.Stable.{sorted}
 use Rattle.sorting.specs.Descending.{greater}
-use Rattle.sheet.specs.Values.{nought, vehicleOf, distanceOf, fixedInDistance}
+use Rattle.sheet.specs.Values.{nought, distanceOf}
 use Rattle.evaluation.specs.Sums.{_⊕_, _⊖_}
-use Rattle.evaluation.specs.Limits.{limitsOf}
 use Rattle.evaluation.specs.Feasible.{routeFeasible, effectiveCost}
-use Rattle.evaluation.specs.Checks.{hasSoftWindows, routeChecksNeeded}
 use Rattle.evaluation.specs.Longer.{lastOf}
+use Rattle.plan.specs.declared.terms.Terms.{Terms}
+use Rattle.plan.specs.Terms.{termsOf}
 use Rattle.plan.specs.Outcome.{Round, Outcome}
 use Rattle.plan.specs.Read.{count}
 use Rattle.plan.specs.Every.{loadOf}
-use Rattle.savings.specs.declared.terms.Terms.{Terms}
+use Rattle.savings.specs.declared.terms.Directed.{Directed}
 
 -- ---- the terms of one depot
 -- "Symmetry reads distances only": each leg is as long as the way back. Of finite distances the Rust's difference above 0 says the same.
@@ -29,16 +29,8 @@ symmetric s [] = true
 symmetric s (i ∷ is) = sameBack s i is && symmetric s is
 
 -- "symmetry, windows and penalties are read from" the depot's own rows only; v is the vehicle that all rounds use
-unfoldable pub termsOf : List ℕ → ℕ → ℕ → List ℕ → Terms
-termsOf s depot v members = record {
-  depot = depot;
-  directed = not (symmetric s (depot ∷ members));
-  constrained = routeChecksNeeded s depot members (limitsOf (vehicleOf s v));
-  soft = hasSoftWindows s depot members;
-  capacity = vehicleOf s v .capacity;
-  fixed = fixedInDistance (vehicleOf s v);
-  limits = limitsOf (vehicleOf s v);
-}
+unfoldable pub directedOf : List ℕ → ℕ → ℕ → List ℕ → Directed
+directedOf s depot v members = record { common = termsOf s depot v members; directed = not (symmetric s (depot ∷ members)) }
 
 -- ---- the savings
 pub record Saving : Type 0 where
@@ -58,20 +50,20 @@ abbrev pub paired : Bool → ℕ → ℕ → Bool
 paired directed i j = not (eqb j i) && (directed || not (ltb j i))
 
 -- "only savings > 0"
-abbrev pub saves : List ℕ → Terms → ℕ → ℕ → Bool
-saves s t i j = paired (t .directed) i j && lt nought (valueOf s t i j)
+abbrev pub saves : List ℕ → Directed → ℕ → ℕ → Bool
+saves s t i j = paired (t .directed) i j && lt nought (valueOf s (t .common) i j)
 
 abbrev pub kept : Bool → Saving → List Saving → List Saving
 kept true x xs = x ∷ xs
 kept false x xs = xs
 
 -- of the legs from i
-unfoldable pub savingsFrom : List ℕ → Terms → ℕ → List ℕ → List Saving
+unfoldable pub savingsFrom : List ℕ → Directed → ℕ → List ℕ → List Saving
 savingsFrom s t i [] = []
-savingsFrom s t i (j ∷ js) = kept (saves s t i j) (savingOf s t i j) (savingsFrom s t i js)
+savingsFrom s t i (j ∷ js) = kept (saves s t i j) (savingOf s (t .common) i j) (savingsFrom s t i js)
 
 -- as generated
-unfoldable pub savingsOf : List ℕ → Terms → List ℕ → List ℕ → List Saving
+unfoldable pub savingsOf : List ℕ → Directed → List ℕ → List ℕ → List Saving
 savingsOf s t members [] = []
 savingsOf s t members (i ∷ is) = savingsFrom s t i members ++ savingsOf s t members is
 
@@ -158,12 +150,12 @@ abbrev pub passing : List ℕ → Terms → List (List ℕ) → Merge → Merge
 passing s t routes m = onlyIf (passes s t routes m) m
 
 -- what becomes of the rounds of i and j, in slots a and b
-abbrev pub mergeIn : List ℕ → Terms → List (List ℕ) → ℕ → ℕ → ℕ → ℕ → Merge
+abbrev pub mergeIn : List ℕ → Directed → List (List ℕ) → ℕ → ℕ → ℕ → ℕ → Merge
 mergeIn s t routes i j a b =
-    passing s t routes
-    (onlyIf (mayJoin s t a b (routeAt routes a) (routeAt routes b)) (joining (t .directed) i j a b (routeAt routes a) (routeAt routes b)))
+    passing s (t .common) routes
+    (onlyIf (mayJoin s (t .common) a b (routeAt routes a) (routeAt routes b)) (joining (t .directed) i j a b (routeAt routes a) (routeAt routes b)))
 
-unfoldable pub mergeOf : List ℕ → Terms → List (List ℕ) → ℕ → ℕ → Merge
+unfoldable pub mergeOf : List ℕ → Directed → List (List ℕ) → ℕ → ℕ → Merge
 mergeOf s t routes i j = mergeIn s t routes i j (slotOf i routes) (slotOf j routes)
 
 abbrev pub after : List (List ℕ) → Merge → List (List ℕ)
@@ -174,7 +166,7 @@ abbrev pub noSaving : Saving
 noSaving = record { from = 0; to = 0; value = nought }
 
 -- the savings at these places, one after another
-unfoldable pub mergedBy : List ℕ → Terms → List Saving → List ℕ → List (List ℕ) → List (List ℕ)
+unfoldable pub mergedBy : List ℕ → Directed → List Saving → List ℕ → List (List ℕ) → List (List ℕ)
 mergedBy s t savings [] routes = routes
 mergedBy s t savings (e ∷ es) routes =
     let x = getD savings e noSaving in
@@ -195,14 +187,14 @@ unfoldable pub asideOf : List ℕ → Terms → List ℕ → List ℕ
 asideOf s t [] = []
 asideOf s t (row ∷ rows) = unless (goesAlone s t row) row (asideOf s t rows)
 
-abbrev pub routesOf : List ℕ → Terms → List ℕ → List (List ℕ)
+abbrev pub routesOf : List ℕ → Directed → List ℕ → List (List ℕ)
 routesOf s t members =
     let savings = savingsOf s t members members in
-    mergedBy s t savings (ranked savings) (startsOf s t members)
+    mergedBy s t savings (ranked savings) (startsOf s (t .common) members)
 
-unfoldable pub plannedBy : List ℕ → Terms → ℕ → List ℕ → Outcome
-plannedBy s t v members = record { rounds = roundsOf v (routesOf s t members); aside = asideOf s t members }
+unfoldable pub plannedBy : List ℕ → Directed → List ℕ → Outcome
+plannedBy s t members = record { rounds = roundsOf (t .common .vehicle) (routesOf s t members); aside = asideOf s (t .common) members }
 
 -- "Savings, insertion and sweep use the depot's first vehicle for all rounds": v is its index
 unfoldable pub clarkeWright : List ℕ → ℕ → ℕ → List ℕ → Outcome
-clarkeWright s depot v members = plannedBy s (termsOf s depot v members) v members
+clarkeWright s depot v members = plannedBy s (directedOf s depot v members) members

@@ -1,8 +1,9 @@
 // The savings, as they are generated and in the order in which they are tried.
 pub mod terms;
 
+use plan::terms::Terms;
 use sheet::matrix;
-use terms::Terms;
+use terms::Directed;
 ghost use mathlib.Core.Path.{_≡_};
 ghost use mathlib.Core.List.{[], _∷_};
 ghost use Prim.Native.Nat.{_+_, _*_, _≤_, _<_};
@@ -82,7 +83,7 @@ fn push(
 // The savings of the legs from a member, behind those that the tables hold; answers how far they are filled.
 fn savings_from(
     sheet: &[u8],
-    terms: Terms,
+    terms: Directed,
     start: u16,
     members: &[u16],
     from: &mut [u16],
@@ -91,7 +92,7 @@ fn savings_from(
     entries: &mut [u16],
     at: usize,
 ) -> usize
-    requires { ⌜ Routed (now sheet) (terms .depot) (now members) ⌝ }
+    requires { ⌜ Routed (now sheet) (terms .common .depot) (now members) ⌝ }
     requires { ⌜ start < rowsOf (now sheet) ⌝ }
     requires { ⌜ Space (now from) (now to) (now values) (now entries) (at + length (now members)) ⌝ }
     requires { ⌜ at + length (now members) < 0x10000 ⌝ }
@@ -100,14 +101,14 @@ fn savings_from(
 {
     let tables = matrix::tables(sheet);
     let rows = sheet::rows(sheet);
-    let home = leg_of(sheet, tables, rows, start as usize, terms.depot);
+    let home = leg_of(sheet, tables, rows, start as usize, terms.common.depot);
     let mut end = at;
     for k in 0..members.len() {
         let other = members[k];
         if !is_paired(terms.directed, start, other) {
             continue;
         }
-        let value = value_of(sheet, terms, tables, rows, home, start, other);
+        let value = value_of(sheet, terms.common, tables, rows, home, start, other);
         if !(0.0 < value) {
             continue;
         }
@@ -120,14 +121,14 @@ fn savings_from(
 // The savings of all legs between members; answers how many.
 fn savings_of(
     sheet: &[u8],
-    terms: Terms,
+    terms: Directed,
     members: &[u16],
     from: &mut [u16],
     to: &mut [u16],
     values: &mut [f64],
     entries: &mut [u16],
 ) -> usize
-    requires { ⌜ Routed (now sheet) (terms .depot) (now members) ⌝ }
+    requires { ⌜ Routed (now sheet) (terms .common .depot) (now members) ⌝ }
     requires { ⌜ Space (now from) (now to) (now values) (now entries) (length (now members) * length (now members)) ⌝ }
     ensures { λ r. ⌜ r ≡ length (savingsOf (now (sheet .entry)) terms (now (members .entry)) (now (members .entry))) ⌝ }
     ensures { λ _. ⌜ Pushed (now (from .entry)) (now (to .entry)) (now (values .entry)) (now (entries .entry)) 0 (savingsOf (now (sheet .entry)) terms (now (members .entry)) (now (members .entry))) (now (from .exit)) (now (to .exit)) (now (values .exit)) (now (entries .exit)) ⌝ }
@@ -152,7 +153,7 @@ fn savings_of(
 // The savings in the tables, and in `entries` their places, greatest first; answers how many.
 pub fn rank(
     sheet: &[u8],
-    terms: Terms,
+    terms: Directed,
     members: &[u16],
     from: &mut [u16],
     to: &mut [u16],
@@ -160,7 +161,7 @@ pub fn rank(
     entries: &mut [u16],
     scratch: &mut [u16],
 ) -> usize
-    requires { ⌜ Routed (now sheet) (terms .depot) (now members) ⌝ }
+    requires { ⌜ Routed (now sheet) (terms .common .depot) (now members) ⌝ }
     requires { ⌜ Space (now from) (now to) (now values) (now entries) (length (now members) * length (now members)) ⌝ }
     requires { ⌜ length (now members) * length (now members) ≤ length (now scratch) ⌝ }
     ensures { λ r. ⌜ r ≡ length (savingsOf (now (sheet .entry)) terms (now (members .entry)) (now (members .entry))) ⌝ }

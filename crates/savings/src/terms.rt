@@ -1,26 +1,18 @@
 // What the merges of one depot go by.
-use evaluation::checks;
-use evaluation::limits;
-use evaluation::limits::RouteLimits;
+use plan::terms;
+use plan::terms::Terms;
 use sheet::matrix;
-use sheet::vehicle;
 ghost use mathlib.Core.Path.{_≡_};
 ghost use mathlib.Core.List.{_∷_};
 ghost use Prim.Native.Nat.{_<_};
 ghost use Rattle.sheet.specs.Fields.{vehiclesOf};
 ghost use Rattle.evaluation.specs.Routed.{Routed};
-ghost use Rattle.savings.specs.Savings.{sameBack, symmetric, termsOf};
+ghost use Rattle.savings.specs.Savings.{sameBack, symmetric, directedOf};
 
-// Whether legs have a direction, whether rounds are checked, and by the soft rules; the vehicle's capacity, its fixed cost in
-// distance and its limits.
-pub struct Terms {
-    pub depot: usize,
+// The terms of a constructor with one vehicle, and whether legs have a direction.
+pub struct Directed {
+    pub common: Terms,
     pub directed: bool,
-    pub constrained: bool,
-    pub soft: bool,
-    pub capacity: u32,
-    pub fixed: f64,
-    pub limits: RouteLimits,
 }
 
 // Whether each leg from a row is as long as the way back.
@@ -54,23 +46,15 @@ fn symmetric_among(sheet: &[u8], depot: usize, members: &[u16]) -> bool
 }
 
 // The terms of a depot with its members, all of whose rounds a vehicle makes.
-pub fn terms_of(sheet: &[u8], depot: usize, vehicle: usize, members: &[u16]) -> Terms
+pub fn directed_of(sheet: &[u8], depot: usize, index: u16, members: &[u16]) -> Directed
     requires { ⌜ Routed (now sheet) depot (now members) ⌝ }
-    requires { ⌜ vehicle < vehiclesOf (now sheet) ⌝ }
-    ensures { λ r. ⌜ r ≡ termsOf (now (sheet .entry)) depot vehicle (now (members .entry)) ⌝ }
+    requires { ⌜ index < vehiclesOf (now sheet) ⌝ }
+    ensures { λ r. ⌜ r ≡ directedOf (now (sheet .entry)) depot index (now (members .entry)) ⌝ }
 {
-    let own = vehicle::vehicle_at(sheet, vehicle);
-    let limits = limits::limits_of(own);
+    let common = terms::terms_of(sheet, depot, index, members);
     let symmetric = symmetric_among(sheet, depot, members);
-    let constrained = checks::route_checks_needed(sheet, depot, members, limits);
-    let soft = checks::has_soft_windows(sheet, depot, members);
-    Terms {
-        depot,
+    Directed {
+        common,
         directed: !symmetric,
-        constrained,
-        soft,
-        capacity: own.capacity,
-        fixed: vehicle::fixed_cost_in_distance(own),
-        limits,
     }
 }

@@ -13,10 +13,10 @@ use borrow.Author.Tests.{le-ltb, ltb-true, ltb-false, eq-eqb, ne-eqb, eqb-true, 
 use Rattle.sheet.specs.Fields.{rowsOf}
 use Rattle.sheet.specs.Values.{demandOf}
 use Rattle.evaluation.specs.Routed.{Routed}
+use Rattle.plan.specs.declared.terms.Terms.{Terms}
 use Rattle.plan.specs.Read.{one, count}
 use Rattle.plan.specs.Once.{count-append}
 use Rattle.plan.specs.Every.{Every, every-of, loadOf}
-use Rattle.savings.specs.declared.terms.Terms.{Terms}
 use Rattle.savings.specs.Savings.{routeAt, goesAlone, lone, startsOf, slotOf, unless, asideOf}
 use Rattle.savings.specs.Permutation.{counted, starts-keep}
 use Rattle.slots.specs.HowMany.{starts-many, aside-few}

@@ -7,7 +7,8 @@ use mathlib.Core.Bool.{Bool, true, false}
 use mathlib.Core.List.{List, [], _∷_}
 use lib.ListN.{length, getD, set, length-set}
 use lib.Seq.{getD-set-other}
-use Rattle.savings.specs.declared.terms.Terms.{Terms}
+use Rattle.plan.specs.declared.terms.Terms.{Terms}
+use Rattle.savings.specs.declared.terms.Directed.{Directed}
 use Rattle.savings.specs.Savings.{Saving, savingsOf, ranked, routeAt, goesAlone, lone, startsOf, Merge, apart, joined, mergeOf, after, noSaving, mergedBy, unless, asideOf, routesOf}
 use Rattle.savings.specs.Joined.{Slots, Merged, merge-merged}
 use Rattle.slots.specs.Slots.{stopsIn}
@@ -31,14 +32,6 @@ module _ (s : List ℕ) (t : Terms) where
   after-many routes apart u = refl
   after-many routes (joined a b stops) u = stops-joined routes a b stops (u .slots) (u .same .long)
 
-  merged-many : (savings : List Saving) (es : List ℕ) (routes : List (List ℕ)) → stopsIn (mergedBy s t savings es routes) ≡ stopsIn routes
-  unfolding mergedBy
-  merged-many savings [] routes = refl
-  merged-many savings (e ∷ es) routes =
-      let y = getD savings e noSaving in
-      let m = mergeOf s t routes (y .from) (y .to) in
-      merged-many savings es (after routes m) ∙ after-many routes m (merge-merged s t routes (y .from) (y .to) (λ (row : ℕ). Unit))
-
   pub starts-many : (members : List ℕ) → stopsIn (startsOf s t members) + length (asideOf s t members) ≡ length members
   unfolding startsOf asideOf stopsIn
   starts-many [] = refl
@@ -49,11 +42,21 @@ module _ (s : List ℕ) (t : Terms) where
       go true e = omega (arith, e)
       go false e = omega (arith, e)
 
-  pub routes-many : (members : List ℕ) → stopsIn (routesOf s t members) + length (asideOf s t members) ≡ length members
-  routes-many members =
-      let savings = savingsOf s t members members in
-      ap (λ (n : ℕ). n + length (asideOf s t members)) (merged-many savings (ranked savings) (startsOf s t members)) ∙ starts-many members
-
   -- no more are set aside than there are
   pub aside-few : (members : List ℕ) → length (asideOf s t members) ≤ length members
   aside-few members = omega (arith, starts-many members)
+
+module _ (s : List ℕ) (t : Directed) where
+  merged-many : (savings : List Saving) (es : List ℕ) (routes : List (List ℕ)) → stopsIn (mergedBy s t savings es routes) ≡ stopsIn routes
+  unfolding mergedBy
+  merged-many savings [] routes = refl
+  merged-many savings (e ∷ es) routes =
+      let y = getD savings e noSaving in
+      let m = mergeOf s t routes (y .from) (y .to) in
+      merged-many savings es (after routes m) ∙ after-many s (t .common) routes m (merge-merged s t routes (y .from) (y .to) (λ (row : ℕ). Unit))
+
+  pub routes-many : (members : List ℕ) → stopsIn (routesOf s t members) + length (asideOf s (t .common) members) ≡ length members
+  routes-many members =
+      let savings = savingsOf s t members members in
+      let u = t .common in
+      ap (λ (n : ℕ). n + length (asideOf s u members)) (merged-many savings (ranked savings) (startsOf s u members)) ∙ starts-many s u members

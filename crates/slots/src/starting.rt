@@ -1,5 +1,5 @@
 // Each stop starts on a round of its own, or is set aside.
-use savings::terms::Terms;
+use plan::terms::Terms;
 use sheet::customer;
 ghost use mathlib.Core.Path.{_≡_};
 ghost use Prim.Native.Nat.{ℕ, _+_, _≤_, _<_};
