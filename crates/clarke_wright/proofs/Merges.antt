@@ -6,17 +6,17 @@ use mathlib.Core.List.{List, [], _∷_}
 use lib.ListN.{length, getD, take, length-map, List·getD-map}
 use lib.Seq.{getD-take}
 use lib.Ieee.{Float}
+use Rattle.lists.specs.Every.{Every, every-of, every-at, every-append}
 use Rattle.sorting.specs.Laws.{Each, each-at, sorted-each}
 use Rattle.sorting.specs.Descending.{greater}
 use Rattle.sheet.specs.Fields.{rowsOf}
 use Rattle.evaluation.specs.Routed.{Routed}
-use Rattle.plan.specs.Every.{Every, every-of, every-at, every-append}
-use Rattle.savings.specs.declared.terms.Directed.{Directed}
-use Rattle.savings.specs.Savings.{Saving, savingOf, saves, savingsFrom, savingsOf, valuesOf, numbered, ranked, startsOf, mergeOf, after, noSaving, mergedBy, routesOf}
-use Rattle.savings.specs.Ranked.{kept-every, savings-entries}
-use Rattle.savings.specs.Listed.{fromsOf, tosOf, Listed}
-use Rattle.savings.proofs.Ranking.{within}
-use Rattle.merging.specs.Ways.{Legs, mergedIn}
+use Rattle.clarke_wright_savings.specs.declared.terms.Directed.{Directed}
+use Rattle.clarke_wright_savings.specs.Savings.{Saving, savingOf, saves, savingsFrom, savingsOf, valuesOf, numbered, ranked, startsOf, mergeOf, after, noSaving, mergedBy, routesOf}
+use Rattle.clarke_wright_savings.specs.Ranked.{kept-every, savings-entries}
+use Rattle.clarke_wright_savings.specs.Listed.{fromsOf, tosOf, Listed}
+use Rattle.clarke_wright_savings.proofs.Ranking.{within}
+use Rattle.clarke_wright_merging.specs.Ways.{Legs, mergedIn}
 
 -- ---- legs between rows
 module _ (s : List ℕ) where

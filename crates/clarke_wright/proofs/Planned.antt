@@ -5,17 +5,17 @@ use native.Mathlib.Omega.{arith}
 use mathlib.Core.List.{List}
 use lib.ListN.{length, drop, length-drop}
 use lib.Seq.{length-take-le}
-use Rattle.plan.specs.declared.tables.Filled.{Filled}
-use Rattle.plan.specs.Terms.{termsOf}
-use Rattle.plan.specs.Outcome.{Outcome}
-use Rattle.plan.specs.Members.{part, Members}
-use Rattle.plan.specs.Laid.{Room, filledBy, Laid}
-use Rattle.savings.specs.declared.terms.Directed.{Directed}
-use Rattle.savings.specs.Savings.{directedOf, roundsOf, asideOf, routesOf, plannedBy, clarkeWright}
-use Rattle.slots.specs.HowMany.{routes-many, aside-few}
-use Rattle.slots.specs.Slots.{slotsIn, stopsIn, Slotted, Laying}
-use Rattle.slots.specs.SlotsLaws.{route-few}
-use Rattle.slots.proofs.Rounds.{laidSo}
+use Rattle.constructive.specs.declared.tables.Filled.{Filled}
+use Rattle.constructive.specs.Terms.{termsOf}
+use Rattle.constructive.specs.Outcome.{Outcome}
+use Rattle.constructive.specs.Members.{part, Members}
+use Rattle.constructive.specs.Laid.{Room, filledBy, Laid}
+use Rattle.clarke_wright_savings.specs.declared.terms.Directed.{Directed}
+use Rattle.clarke_wright_savings.specs.Savings.{directedOf, roundsOf, asideOf, routesOf, plannedBy, clarkeWright}
+use Rattle.clarke_wright_slots.specs.HowMany.{routes-many, aside-few}
+use Rattle.clarke_wright_slots.specs.Slots.{slotsIn, stopsIn, Slotted, Laying}
+use Rattle.clarke_wright_slots.specs.SlotsLaws.{route-few}
+use Rattle.clarke_wright_slots.proofs.Rounds.{laidSo}
 
 -- how many members there are
 pub members-long : {s : List ℕ} {depot : ℕ} {stops : List ℕ} {start total : ℕ} → Members s depot stops start total → length (part stops start total) ≡ total - start

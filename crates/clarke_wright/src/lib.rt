@@ -1,20 +1,20 @@
 // The savings: each stop starts on a round of its own, and rounds are joined end to end, greatest saving first.
-use plan::tables::Filled;
-use savings::terms;
-use savings::terms::Directed;
-use slots::laying;
-use slots::starting;
+use clarke_wright_savings::terms;
+use clarke_wright_savings::terms::Directed;
+use clarke_wright_slots::laying;
+use clarke_wright_slots::starting;
+use constructive::tables::Filled;
 ghost use mathlib.Core.Path.{_≡_};
 ghost use Prim.Native.Nat.{ℕ, _-_, _*_, _≤_, _<_};
 ghost use lib.ListN.{length, take};
+ghost use Rattle.lists.specs.Count.{count};
 ghost use Rattle.sheet.specs.Fields.{vehiclesOf};
 ghost use Rattle.evaluation.specs.Routed.{Routed};
-ghost use Rattle.plan.specs.Laid.{Laid, Room, filledBy};
-ghost use Rattle.plan.specs.Members.{part, Members};
-ghost use Rattle.plan.specs.Read.{count};
-ghost use Rattle.savings.specs.Savings.{routesOf, asideOf, clarkeWright};
-ghost use Rattle.savings.specs.Listed.{Space};
-ghost use Rattle.slots.specs.Slots.{slotsIn, Roomy, Slotted};
+ghost use Rattle.constructive.specs.Laid.{Laid, Room, filledBy};
+ghost use Rattle.constructive.specs.Members.{part, Members};
+ghost use Rattle.clarke_wright_savings.specs.Savings.{routesOf, asideOf, clarkeWright};
+ghost use Rattle.clarke_wright_savings.specs.Listed.{Space};
+ghost use Rattle.clarke_wright_slots.specs.Slots.{slotsIn, Roomy, Slotted};
 
 // The members' rounds in the slots, once no saving is left; answers how many stops are set aside.
 fn merge_members(
@@ -42,7 +42,7 @@ fn merge_members(
     ensures { λ _. ⌜ Slotted (now (sheet .entry)) (length (now (members .entry))) (now (cells .exit)) (now (lens .exit)) (now (loads .exit)) (now (slots .exit)) ⌝ }
     ensures { λ _. ⌜ slotsIn (length (now (members .entry))) (now (cells .exit)) (now (lens .exit)) ≡ routesOf (now (sheet .entry)) terms (now (members .entry)) ⌝ }
 {
-    let n = savings::rank(sheet, terms, members, from, to, values, entries, cells);
+    let n = clarke_wright_savings::rank(sheet, terms, members, from, to, values, entries, cells);
     let left = starting::start(
         sheet,
         terms.common,
@@ -53,7 +53,7 @@ fn merge_members(
         slots,
         aside,
     );
-    merging::merge_all(
+    clarke_wright_merging::merge_all(
         sheet,
         terms,
         members.len(),

@@ -7,15 +7,15 @@ use mathlib.Core.List.{List}
 use lib.Dec.{T}
 use lib.ListN.{length}
 use borrow.Author.Tests.{lt-ltb}
+use Rattle.lists.specs.Count.{one, count, isIn}
+use Rattle.lists.specs.Once.{count-append}
+use Rattle.lists.specs.Ascending.{those-ascending, Ascending}
 use Rattle.sheet.specs.Fields.{rowsOf}
 use Rattle.sheet.specs.Depots.{depotsOf}
-use Rattle.plan.specs.Outcome.{Outcome}
-use Rattle.plan.specs.Read.{isStop, one, count, outcomeRight}
-use Rattle.plan.specs.Once.{count-append}
-use Rattle.offers.specs.ByDepot.{isIn}
-use Rattle.offers.specs.Each.{count-chains, stops-count}
-use Rattle.offers.specs.Ascending.{those-ascending}
-use Rattle.solomon_i1.specs.Later.{Ascending}
+use Rattle.sheet.specs.Stops.{isStop, stops-count}
+use Rattle.constructive.specs.Outcome.{Outcome}
+use Rattle.constructive.specs.Right.{outcomeRight}
+use Rattle.constructive.specs.LaidLaws.{count-chains}
 use Rattle.fleet.specs.Limit.{refitOn, dropped, dropRound, limitOn, softIn, limitRoutes}
 use Rattle.fleet.specs.Steps.{limit-on-kept}
 use Rattle.fleet.specs.Placed.{outcome-once}

@@ -8,12 +8,11 @@ use mathlib.Core.List.{List, [], _∷_}
 use lib.Dec.{T}
 use lib.Ieee.{Float}
 use lib.ListN.{length, getD}
-use Rattle.plan.specs.Outcome.{Round}
-use Rattle.plan.specs.Moved.{inserted}
-use Rattle.solomon_i1.specs.declared.choice.Choice.{Choice}
-use Rattle.solomon_i1.specs.declared.choice.Choice.the-variants.{Nowhere, Best}
-use Rattle.solomon_i1.specs.Insertion.{judged, wins, better}
-use Rattle.solomon_i1.specs.Later.{roundAt}
+use Rattle.lists.specs.Moved.{inserted}
+use Rattle.constructive.specs.Outcome.{Round, roundAt}
+use Rattle.insertion.specs.declared.choice.Choice.{Choice}
+use Rattle.insertion.specs.declared.choice.Choice.the-variants.{Nowhere, Best}
+use Rattle.insertion.specs.Place.{judged, wins, better}
 use Rattle.fleet.specs.declared.Pick.{Pick}
 use Rattle.fleet.specs.declared.Pick.the-variants.{Nothing, Put}
 use Rattle.fleet.specs.Cheapest.{passes, costAt, judgeAt, placesFrom, takes, inRound, insertionFrom, cheapestInsertion, cheaper, pickWith, pickFrom, pickOf}

@@ -4,10 +4,13 @@ use Prim.Native.Nat.{ℕ}
 use mathlib.Core.List.{List, [], _∷_, _++_}
 use lib.ListN.{replicate}
 use lib.Ieee.{add, sub, mul, div, ofBits, lt, le}
+use Rattle.lists.specs.Count.{count}
+use Rattle.lists.specs.Those.{those}
 use Rattle.wire.specs.Bytes.{le as number, bytes, f64At}
 use Rattle.sheet.specs.Fields.{rowsOf, vehiclesOf, timesOf, rowMarks, vehicleMarks, marked}
 use Rattle.sheet.specs.Depots.{leading, depotsOf}
 use Rattle.sheet.specs.Values.{gateAt, demandOf, stopOf, limitAt, restAfter, vehicleOf, distanceOf, timeOf, fixedInDistance}
+use Rattle.sheet.specs.SheetA.{one, four, ten, f64s, header, row, none, vehicle, table, sheetA, carrying}
 use Rattle.evaluation.specs.Window.{waitingOf, latenessOf, violatedOf}
 use Rattle.evaluation.specs.Serve.{pass, serveOf}
 use Rattle.evaluation.specs.Clock.{stepOf}
@@ -15,12 +18,8 @@ use Rattle.evaluation.specs.Walk.{unrested, walkFrom, walkOf}
 use Rattle.evaluation.specs.Limits.{allowOf}
 use Rattle.evaluation.specs.Feasible.{scheduledOf, keptBy, routeFeasible, evalBy, routeEval, costOf, effectiveCost}
 use Rattle.evaluation.specs.Checks.{someWindowed, hasSoftWindows}
-use Rattle.plan.specs.Outcome.{Round, Outcome}
-use Rattle.plan.specs.Read.{chains, count}
-use Rattle.plan.specs.Every.{loadOf}
-use Rattle.plan.specs.SheetA.{one, four, ten, f64s, header, row, none, vehicle, table, sheetA}
-use Rattle.solomon_i1.specs.Cases.{carrying}
-use Rattle.offers.specs.Those.{those}
+use Rattle.constructive.specs.Outcome.{Round, Outcome, chains}
+use Rattle.constructive.specs.Load.{loadOf}
 use Rattle.fleet.specs.Cheapest.{judgeAt, placesFrom, takes, inRound, insertionFrom, pickFrom}
 use Rattle.fleet.specs.Limit.{leastFrom, victimOf, putIn, refit, refitOn, dropRound, limitOn, limitRoutes}
 

@@ -5,16 +5,16 @@ use mathlib.Core.List.{List, [], _∷_}
 use lib.Dec.{leb}
 use lib.ListN.{length}
 use lib.Ieee.{Float, lt}
+use Rattle.lists.specs.Moved.{inserted}
 use Rattle.sheet.specs.Values.{demandOf, vehicleOf}
 use Rattle.evaluation.specs.Sums.{_⊖_}
 use Rattle.evaluation.specs.Limits.{limitsOf}
 use Rattle.evaluation.specs.Feasible.{routeFeasible, effectiveCost}
-use Rattle.plan.specs.Outcome.{Round}
-use Rattle.plan.specs.Every.{loadOf}
-use Rattle.plan.specs.Moved.{inserted}
-use Rattle.solomon_i1.specs.declared.choice.Choice.{Choice}
-use Rattle.solomon_i1.specs.declared.choice.Choice.the-variants.{Nowhere, Best}
-use Rattle.solomon_i1.specs.Insertion.{detour, Judged, judged, better}
+use Rattle.constructive.specs.Outcome.{Round}
+use Rattle.constructive.specs.Load.{loadOf}
+use Rattle.insertion.specs.declared.choice.Choice.{Choice}
+use Rattle.insertion.specs.declared.choice.Choice.the-variants.{Nowhere, Best}
+use Rattle.insertion.specs.Place.{detour, Judged, judged, better}
 use Rattle.fleet.specs.declared.Pick.{Pick}
 use Rattle.fleet.specs.declared.Pick.the-variants.{Nothing, Put}
 

@@ -5,8 +5,8 @@ use native.Mathlib.Omega.{arith}
 use mathlib.Core.Bool.{Bool}
 use mathlib.Core.List.{List, [], _∷_}
 use lib.ListN.{length}
-use Rattle.plan.specs.Outcome.{Round}
-use Rattle.plan.specs.Moved.{without-length}
+use Rattle.lists.specs.Moved.{without-length}
+use Rattle.constructive.specs.Outcome.{Round}
 use Rattle.fleet.specs.declared.Pick.{Pick}
 use Rattle.fleet.specs.declared.Pick.the-variants.{Nothing, Put}
 use Rattle.fleet.specs.Cheapest.{pickFrom, pickOf}

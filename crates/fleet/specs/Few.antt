@@ -9,8 +9,7 @@ use lib.Dec.{leb, ltb}
 use lib.ListN.{length, take, drop, length-append}
 use lib.Seq.{split-at}
 use borrow.Author.Tests.{ltb-true, ltb-false, le-ltb, leb-true, leb-false}
-use Rattle.plan.specs.Outcome.{Round, Outcome}
-use Rattle.solomon_i1.specs.Later.{roundAt}
+use Rattle.constructive.specs.Outcome.{Round, Outcome, roundAt}
 use Rattle.fleet.specs.Limit.{victimOf, withoutRound, putIn, Refit, dropped, dropRound, limitOn, softIn, limitRoutes}
 use Rattle.fleet.specs.Bounds.{victim-among}
 use Rattle.fleet.specs.Steps.{refit-on-kept}

@@ -7,11 +7,12 @@ use mathlib.Core.List.{List, [], _∷_}
 use lib.Dec.{T, leb→le}
 use lib.Ieee.Fits.{and-l}
 use lib.ListN.{length, getD, take, drop}
+use Rattle.lists.specs.Every.{Every, every-of, every-append, every-take, every-drop}
+use Rattle.lists.specs.Moved.{inserted, inserted-length}
 use Rattle.sheet.specs.Values.{demandOf, vehicleOf}
-use Rattle.plan.specs.Outcome.{Round, Outcome}
-use Rattle.plan.specs.Every.{Every, every-of, every-append, every-take, every-drop, loadOf, Feasible}
-use Rattle.plan.specs.Moved.{inserted, inserted-load, inserted-length}
-use Rattle.solomon_i1.specs.Later.{roundAt}
+use Rattle.constructive.specs.Outcome.{Round, Outcome, roundAt}
+use Rattle.constructive.specs.Load.{loadOf, inserted-load}
+use Rattle.constructive.specs.Rounds.{Feasible}
 use Rattle.fleet.specs.Cheapest.{passes, loads, takes}
 use Rattle.fleet.specs.Limit.{victimOf, putIn, Refit, dropped, dropRound, softIn, limitRoutes}
 use Rattle.fleet.specs.Steps.{refit-on-kept, limit-on-kept}

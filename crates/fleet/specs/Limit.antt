@@ -4,12 +4,12 @@ use mathlib.Core.Bool.{Bool, _&&_, _||_, cond}
 use mathlib.Core.List.{List, [], _∷_, _++_}
 use lib.Dec.{ltb, eqb}
 use lib.ListN.{length, getD, take, drop}
+use Rattle.lists.specs.Moved.{without, inserted}
+use Rattle.lists.specs.Count.{isIn}
+use Rattle.sheet.specs.Stops.{stopsWith}
 use Rattle.evaluation.specs.Checks.{hasSoftWindows}
-use Rattle.plan.specs.Outcome.{Round, Outcome}
-use Rattle.plan.specs.Read.{stopsOf}
-use Rattle.plan.specs.Every.{loadOf}
-use Rattle.plan.specs.Moved.{without, inserted}
-use Rattle.offers.specs.ByDepot.{stopsWith, isIn}
+use Rattle.constructive.specs.Outcome.{Round, Outcome, stopsOf}
+use Rattle.constructive.specs.Load.{loadOf}
 use Rattle.fleet.specs.Cheapest.{pickOf}
 use Rattle.fleet.specs.declared.Pick.{Pick}
 use Rattle.fleet.specs.declared.Pick.the-variants.{Nothing, Put}

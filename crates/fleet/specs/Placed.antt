@@ -10,18 +10,17 @@ use lib.Ieee.Fits.{and-i, and-l, and-r}
 use lib.ListN.{length, getD, take, drop}
 use lib.Seq.{split-at}
 use borrow.Author.Tests.{ltb-true, ltb-false, leb-true, eqb-true, le-leb, lt-ltb}
+use Rattle.lists.specs.Count.{one, count, isIn, stop-counted}
+use Rattle.lists.specs.Once.{count-append}
+use Rattle.lists.specs.Every.{Every}
+use Rattle.lists.specs.Moved.{inserted, without-count, inserted-count}
 use Rattle.numbers.specs.All.{all-at, all-of}
 use Rattle.sheet.specs.Fields.{rowsOf, vehiclesOf}
 use Rattle.sheet.specs.Depots.{depotsOf}
-use Rattle.plan.specs.Outcome.{Round, Outcome}
-use Rattle.plan.specs.Read.{idsKnown, chains, stopsOf, isStop, linksRight, one, count, eachOnce, outcomeRight}
-use Rattle.plan.specs.Once.{count-append}
-use Rattle.plan.specs.LaidLaws.{chains-append}
-use Rattle.plan.specs.Every.{Every}
-use Rattle.plan.specs.Moved.{inserted, without-count, inserted-count}
-use Rattle.offers.specs.ByDepot.{isIn}
-use Rattle.offers.specs.Each.{count-chains, stops-count, stop-counted, links-of}
-use Rattle.solomon_i1.specs.Later.{roundAt}
+use Rattle.sheet.specs.Stops.{isStop, stops-count}
+use Rattle.constructive.specs.Outcome.{Round, Outcome, chains, stopsOf, roundAt}
+use Rattle.constructive.specs.Right.{idsKnown, linksRight, eachOnce, outcomeRight, links-of}
+use Rattle.constructive.specs.LaidLaws.{chains-append, count-chains}
 use Rattle.fleet.specs.Limit.{victimOf, withoutRound, putIn, Refit, refitOn, dropped, dropRound, limitOn, ascending, softIn, limitRoutes}
 use Rattle.fleet.specs.Bounds.{victim-among}
 use Rattle.fleet.specs.Steps.{refit-on-kept, limit-on-kept}

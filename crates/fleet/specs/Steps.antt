@@ -7,8 +7,8 @@ use mathlib.Core.List.{List}
 use lib.Dec.{ltb}
 use lib.ListN.{length, getD}
 use borrow.Author.Tests.{ltb-true}
-use Rattle.plan.specs.Outcome.{Outcome}
-use Rattle.plan.specs.Moved.{without}
+use Rattle.lists.specs.Moved.{without}
+use Rattle.constructive.specs.Outcome.{Outcome}
 use Rattle.fleet.specs.declared.Pick.{Pick}
 use Rattle.fleet.specs.declared.Pick.the-variants.{Nothing, Put}
 use Rattle.fleet.specs.Cheapest.{pickOf}

@@ -1,6 +1,6 @@
 // The limiter's choices: the cheapest of all insertions of the stops that a dropped round leaves. The definitions and
 // theorems of the limiter are this crate's specs.
-use solomon_i1::choice::Choice;
+use insertion::choice::Choice;
 ghost use mathlib.Core.Path.{_≡_};
 ghost use Rattle.fleet.specs.Cheapest.{cheaper, pickWith};
 

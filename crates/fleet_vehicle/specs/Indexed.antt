@@ -9,7 +9,7 @@ use lib.ListN.{getD}
 use Rattle.sheet.specs.declared.vehicle.Vehicle.{Vehicle}
 use Rattle.sheet.specs.Fields.{vehiclesOf, vehicleAt, idField}
 use Rattle.sheet.specs.Values.{vehicleOf}
-use Rattle.plan.specs.Read.{indexFrom, indexOf}
+use Rattle.sheet.specs.Fleet.{indexFrom, indexOf}
 use Rattle.fleet_vehicle.specs.Find.{withId, nobody, fleetVehicle}
 
 -- the n vehicles from index v on

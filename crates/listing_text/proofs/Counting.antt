@@ -3,9 +3,10 @@ use mathlib.Core.Path.{_≡_}
 use Prim.Native.Nat.{ℕ, suc, _+_, _-_, _≤_, _<_}
 use native.Mathlib.Omega.{arith}
 use mathlib.Core.List.{List, _∷_}
+use Rattle.lists.specs.Once.{Stops, stops-split}
 use Rattle.sheet.specs.Fields.{rowsOf}
-use Rattle.plan.specs.Read.{firstAt, chainOf, roundsFrom, chains}
-use Rattle.plan.specs.Once.{Stops, stops-split}
+use Rattle.constructive.specs.Outcome.{chains}
+use Rattle.plan.specs.Read.{firstAt, chainOf, roundsFrom}
 use Rattle.listing_text.specs.Text.{joined}
 use Rattle.listing_text.specs.Put.{Room, Put}
 use Rattle.listing_text.specs.Listing.{roundText, roundTexts}

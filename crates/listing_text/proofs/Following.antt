@@ -3,8 +3,8 @@ use mathlib.Core.Path.{_≡_, refl}
 use Prim.Native.Nat.{ℕ, zero, suc, _-_, _<_}
 use native.Mathlib.Omega.{arith}
 use mathlib.Core.List.{List, [], _∷_}
+use Rattle.lists.specs.Once.{Stops}
 use Rattle.plan.specs.Read.{nextAt, chainFrom}
-use Rattle.plan.specs.Once.{Stops}
 use Rattle.listing_text.specs.Text.{joined}
 use Rattle.listing_text.specs.Put.{Room, Put}
 use Rattle.listing_text.specs.Listing.{stopLine, stopLines}

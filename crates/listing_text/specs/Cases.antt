@@ -7,11 +7,12 @@ use lib.Ieee.{add, mul, ofBits, toBits}
 use Rattle.wire.specs.Bytes.{le as leBytes, bytes, write, f64At}
 use Rattle.sheet.specs.Fields.{rowsOf, vehiclesOf, timesOf, rowMarks, idField, depotField, vehicleMarks, marked}
 use Rattle.sheet.specs.Values.{gateAt, demandOf, stopOf, limitAt, restAfter, vehicleOf, distanceOf, timeOf}
+use Rattle.sheet.specs.SheetA.{sheetA}
+use Rattle.sheet.specs.Fleet.{indexFrom}
 use Rattle.evaluator.specs.Record.{placedOf, readyFor, departsAt, lateAfter, costAfter, visitedOf, progressOf, recordOf, buildRoute, routeCost, priceWith}
-use Rattle.plan.specs.SheetA.{sheetA}
-use Rattle.plan.specs.Outcome.{Outcome}
+use Rattle.constructive.specs.Outcome.{Outcome}
 use Rattle.plan.specs.Plan.{visitBytes, asideBytes, roundCounts, roundFigures, roundBytes, headerBytes, withVisits, withRound, withRounds, withAside, priceAfter, priceOf, planBytes, planOf}
-use Rattle.plan.specs.Read.{roundsAt, asideAt, idAt, firstAt, nextAt, chainFrom, indexFrom, roundsFrom, readPlan}
+use Rattle.plan.specs.Read.{roundsAt, asideAt, idAt, firstAt, nextAt, chainFrom, roundsFrom, readPlan}
 use Rattle.listing_text.specs.Text.{text, joined, decimalIn, decimal, hexIn}
 use Rattle.listing_text.specs.Listing.{field, word, figures, headerLine, roundLine, stopLine, stopLines, roundText, roundTexts, listingOf, refusedText}
 

@@ -6,11 +6,12 @@ use mathlib.Core.Bool.{_&&_}
 use lib.Dec.{T, leb, leb→le}
 use lib.Ieee.Fits.{and-l, and-r}
 use lib.ListN.{length}
+use Rattle.lists.specs.Once.{Stops, stops-split, distinct-few}
 use Rattle.sheet.specs.Fields.{rowsOf, planLength}
 use Rattle.sheet.specs.Accepted.{Sized}
-use Rattle.plan.specs.Outcome.{Round}
-use Rattle.plan.specs.Read.{roundsAt, readPlan, chains, stopsOf, idsKnown, linksRight, eachOnce, outcomeRight, planRight}
-use Rattle.plan.specs.Once.{Stops, stops-split, distinct-few, stops-right, distinct-right}
+use Rattle.constructive.specs.Outcome.{Round, chains, stopsOf}
+use Rattle.constructive.specs.Right.{idsKnown, linksRight, eachOnce, outcomeRight, stops-right, distinct-right}
+use Rattle.plan.specs.Read.{roundsAt, readPlan, planRight}
 
 -- a sheet of "up to 48 rows", and a right plan for it
 pub record Listable (s plan : List ℕ) : Type 0 where

@@ -5,7 +5,7 @@ use lib.Dec.{leb}
 use Rattle.wire.specs.Bytes.{u16At, u32At, u64At}
 use Rattle.sheet.specs.Fields.{rowsOf}
 use Rattle.sheet.specs.Refusal.{headerRight, unless}
-use Rattle.plan.specs.Outcome.{Round}
+use Rattle.constructive.specs.Outcome.{Round}
 use Rattle.plan.specs.Plan.{roundAt, visitAt}
 use Rattle.plan.specs.Read.{roundsAt, asideAt, idAt, firstAt, nextAt, readPlan}
 use Rattle.listing_text.specs.Text.{text, joined, decimal, hex16}

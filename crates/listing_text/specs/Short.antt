@@ -4,13 +4,13 @@ use Prim.Native.Nat.{ℕ, zero, suc, _+_, _*_, _≤_, _<_, _^_}
 use native.Mathlib.Omega.{arith}
 use mathlib.Core.List.{List, [], _∷_}
 use lib.ListN.{length, getD, length-append}
+use Rattle.lists.specs.Once.{Stops, stops-split}
 use Rattle.wire.specs.Bytes.{u16At, u32At}
 use Rattle.wire.specs.Laws.{le-lt}
 use Rattle.sheet.specs.Fields.{rowsOf}
-use Rattle.plan.specs.Outcome.{Round}
+use Rattle.constructive.specs.Outcome.{Round, chains}
 use Rattle.plan.specs.Plan.{roundAt, visitAt}
-use Rattle.plan.specs.Read.{roundsAt, asideAt, idAt, firstAt, nextAt, chainOf, roundsFrom, readPlan, chains}
-use Rattle.plan.specs.Once.{Stops, stops-split}
+use Rattle.plan.specs.Read.{roundsAt, asideAt, idAt, firstAt, nextAt, chainOf, roundsFrom, readPlan}
 use Rattle.listing_text.specs.Text.{text, joined}
 use Rattle.listing_text.specs.Listing.{field, word, figures, headerLine, roundLine, stopLine, stopLines, roundText, roundTexts, listingOf, refusedText}
 use Rattle.listing_text.specs.Laws.{decimal-short, hex-long}

@@ -2,9 +2,9 @@
 ghost use mathlib.Core.Path.{_≡_};
 ghost use Prim.Native.Nat.{_≤_, _<_};
 ghost use lib.ListN.{length};
+ghost use Rattle.lists.specs.Once.{Stops};
 ghost use Rattle.sheet.specs.Fields.{rowsOf};
 ghost use Rattle.plan.specs.Read.{firstAt, chainOf, readPlan};
-ghost use Rattle.plan.specs.Once.{Stops};
 ghost use Rattle.listing_text.specs.Text.{joined};
 ghost use Rattle.listing_text.specs.Put.{Room, Put};
 ghost use Rattle.listing_text.specs.Listing.{stopLines, roundText, roundTexts, listingOf, refusedText, listingRefusal};
@@ -85,7 +85,7 @@ pub fn write_refused(out: &mut [u8], number: u32) -> usize
 pub fn early_refusal(sheet: &[u8]) -> u32
     ensures { λ r. ⌜ r ≡ listingRefusal (now (sheet .entry)) 0 ⌝ }
 {
-    if !refusal::header_right(sheet) {
+    if !sheet_refusal::header_right(sheet) {
         return 1;
     }
     if 48 < sheet::rows(sheet) {

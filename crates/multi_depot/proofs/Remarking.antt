@@ -8,16 +8,18 @@ use lib.Dec.{ltb, eqb}
 use lib.ListN.{length, getD, set, length-set}
 use lib.Seq.{getD-set-same, getD-set-other}
 use borrow.Author.Tests.{ltb-true, ltb-false, leb-false, eqb-true, eqb-false, lt-ltb, le-ltb, eq-eqb, ne-eqb}
+use Rattle.lists.specs.Count.{one, count, isIn}
+use Rattle.lists.specs.Once.{count-append}
+use Rattle.lists.specs.Those.{those-few, those-alike}
 use Rattle.sheet.specs.Fields.{rowsOf}
 use Rattle.sheet.specs.Depots.{depotsOf}
-use Rattle.plan.specs.Read.{isStop, one, count}
-use Rattle.plan.specs.Once.{count-append}
-use Rattle.plan.specs.Holds.{empty}
-use Rattle.offers.specs.Those.{those-few, those-alike}
-use Rattle.offers.specs.ByDepot.{isNobody, nextDepot, membersOf, plannedOf, plannedUpto, planned, isIn, movesTo, offeredFrom, offered}
-use Rattle.offers.specs.Each.{stops-count}
-use Rattle.offers.specs.Asked.{Marks, Cleared, Alike, markedBy, Next}
-use Rattle.offers.proofs.Plans.{aside-members}
+use Rattle.sheet.specs.Stops.{isStop, stops-count}
+use Rattle.constructive.specs.Holds.{empty}
+use Rattle.constructive.specs.Members.{membersOf}
+use Rattle.constructive.specs.Marks.{Marks, markedBy}
+use Rattle.multi_depot_offers.specs.ByDepot.{isNobody, nextDepot, plannedOf, plannedUpto, planned, movesTo, offeredFrom, offered}
+use Rattle.multi_depot_offers.specs.Asked.{Cleared, Alike, Next}
+use Rattle.multi_depot_offers.proofs.Plans.{aside-members}
 use Rattle.multi_depot.specs.Asked.{Remarked}
 
 -- ---- a row is turned down by its own depot alone

@@ -8,27 +8,26 @@ use lib.Dec.{eqb}
 use lib.ListN.{length, getD, take, replicate, length-replicate, getD-replicate}
 use lib.Seq.{length-take-le, take-all}
 use borrow.Author.Tests.{eq-eqb, ne-eqb}
+use Rattle.lists.specs.Same.{same-length}
+use Rattle.lists.specs.Those.{those-all, those-alike}
 use Rattle.wire.specs.Bytes.{write}
 use Rattle.wire.specs.Laws.{length-write}
 use Rattle.sheet.specs.Fields.{rowsOf}
 use Rattle.sheet.specs.Depots.{depotsOf}
 use Rattle.sheet.specs.Accepted.{Accepted}
-use Rattle.plan.specs.declared.tables.Filled.{Filled}
-use Rattle.plan.specs.Outcome.{Outcome}
-use Rattle.plan.specs.Read.{stopsOf}
-use Rattle.plan.specs.Once.{depots-some}
-use Rattle.plan.specs.Same.{same-length}
-use Rattle.plan.specs.Members.{part}
-use Rattle.plan.specs.LaidLaws.{length-chains}
-use Rattle.plan.specs.Holds.{Held, empty, holds-none, holds-behind, held-outcome, held-tables}
-use Rattle.offers.specs.Those.{those-all, those-alike}
-use Rattle.offers.specs.ByDepot.{isNobody, stopsWith, allStops, membersOf, plannedOf, planned, leftOut, offered, moved, settledIn, firstAt, settledAt, gathered, byDepot, outcomeOf}
-use Rattle.offers.specs.Settled.{attemptsLeft, length-offered, unmoved, offer-falls, settles, moves-on, length-first, enough}
-use Rattle.offers.specs.Each.{gathered-once, all-once}
-use Rattle.offers.specs.Rounds.{outcome-right, rounds-few}
-use Rattle.offers.specs.Asked.{Marks, setAside, Lent, Next, Planned}
-use Rattle.offers.specs.Marked.{turned}
-use Rattle.offers.proofs.Sharing.{Shared, part-there, length-planned}
+use Rattle.sheet.specs.Stops.{depots-some, stopsWith, allStops, all-once}
+use Rattle.constructive.specs.declared.tables.Filled.{Filled}
+use Rattle.constructive.specs.Outcome.{Outcome, stopsOf}
+use Rattle.constructive.specs.Members.{part, membersOf}
+use Rattle.constructive.specs.LaidLaws.{length-chains}
+use Rattle.constructive.specs.Holds.{Held, empty, holds-none, holds-behind, held-outcome, held-tables}
+use Rattle.constructive.specs.Marks.{Marks, turned}
+use Rattle.multi_depot_offers.specs.ByDepot.{isNobody, plannedOf, planned, leftOut, offered, moved, settledIn, firstAt, settledAt, gathered, byDepot, outcomeOf}
+use Rattle.multi_depot_offers.specs.Settled.{attemptsLeft, length-offered, unmoved, offer-falls, settles, moves-on, length-first, enough}
+use Rattle.multi_depot_offers.specs.Each.{gathered-once}
+use Rattle.multi_depot_offers.specs.Rounds.{outcome-right, rounds-few}
+use Rattle.multi_depot_offers.specs.Asked.{setAside, Lent, Next, Planned}
+use Rattle.multi_depot_offers.proofs.Sharing.{Shared, part-there, length-planned}
 use Rattle.multi_depot.specs.Asked.{Desk, Untouched, Told}
 
 -- so many rounds of offers are enough, and settle the stops as they are to be

@@ -3,14 +3,14 @@ use mathlib.Core.Path.{_≡_}
 use Prim.Native.Nat.{ℕ, _-_, _≤_, _<_}
 use mathlib.Core.List.{List}
 use lib.ListN.{length, getD}
+use Rattle.lists.specs.Count.{one, isIn}
 use Rattle.sheet.specs.Fields.{rowsOf}
 use Rattle.sheet.specs.Depots.{depotsOf}
 use Rattle.sheet.specs.Accepted.{Accepted}
-use Rattle.plan.specs.Read.{one}
-use Rattle.plan.specs.Outcome.{Outcome, outcomeIn}
-use Rattle.plan.specs.Tables.{Tables}
-use Rattle.plan.specs.declared.tables.Filled.{Filled}
-use Rattle.offers.specs.ByDepot.{planned, isIn}
+use Rattle.constructive.specs.Outcome.{Outcome, outcomeIn}
+use Rattle.constructive.specs.Tables.{Tables}
+use Rattle.constructive.specs.declared.tables.Filled.{Filled}
+use Rattle.multi_depot_offers.specs.ByDepot.{planned}
 
 -- the rows of a depot are marked as it turns them down
 pub record Remarked (s at marks : List ℕ) (depot : ℕ) (marks′ : List ℕ) : Type 0 where

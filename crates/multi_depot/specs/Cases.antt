@@ -3,19 +3,21 @@ use mathlib.Core.Path.{_≡_, refl}
 use Prim.Native.Nat.{ℕ}
 use mathlib.Core.List.{List, [], _∷_, _++_}
 use lib.Ieee.{add, mul, ofBits, lt, le, eq}
+use Rattle.lists.specs.Count.{count}
+use Rattle.lists.specs.Those.{those}
 use Rattle.wire.specs.Bytes.{le as number, bytes, f64At}
 use Rattle.sheet.specs.Fields.{rowsOf, vehiclesOf, methodOf, timesOf, rowMarks, idField, depotField, vehicleMarks, marked}
 use Rattle.sheet.specs.Depots.{leading, depotsOf}
 use Rattle.sheet.specs.Values.{gateAt, demandOf, stopOf, limitAt, restAfter, vehicleOf, distanceOf, timeOf}
+use Rattle.sheet.specs.SheetA.{one, three, four, ten, f64s, header, row, none, vehicle}
+use Rattle.sheet.specs.Fleet.{fleetOf}
 use Rattle.evaluation.specs.Limits.{allowOf}
 use Rattle.evaluation.specs.Checks.{someWindowed, hasSoftWindows}
-use Rattle.plan.specs.Outcome.{Outcome}
-use Rattle.plan.specs.Read.{count}
-use Rattle.plan.specs.SheetA.{one, three, four, ten, f64s, header, row, none, vehicle}
+use Rattle.constructive.specs.Outcome.{Outcome}
+use Rattle.constructive.specs.Members.{membersOf}
 use Rattle.nearest_neighbor.specs.Greedy.{choose, grow, growOn, greedy}
 use Rattle.nearest_neighbor.specs.Nearest.{nearestOffer, nearestOnward, nearestNeighbor, windowOffer, windowOnward, nearestNeighborTw}
-use Rattle.offers.specs.Those.{those}
-use Rattle.offers.specs.ByDepot.{fleetOf, manned, sooner, askedAfter, nearestFrom, nextDepot, membersOf, constructOf, plannedOf, plannedUpto, movesTo, offeredFrom, offered, moved, settledIn, firstFrom, firstAt, settledAt, gathered, byDepot, outcomeOf}
+use Rattle.multi_depot_offers.specs.ByDepot.{manned, sooner, askedAfter, nearestFrom, nextDepot, constructOf, plannedOf, plannedUpto, movesTo, offeredFrom, offered, moved, settledIn, firstFrom, firstAt, settledAt, gathered, byDepot, outcomeOf}
 
 abbrev rows : List ℕ
 rows = row 0 0 1 none ++ (row 0 0 1 none ++ (row 0 2 0 none ++ row 0 2 0 none))

@@ -1,7 +1,7 @@
 // Several depots: each stop goes to the nearest that has a vehicle, and where it is turned down to the next.
-use offers::members;
-use offers::planning;
-use plan::tables::Filled;
+use constructive::tables::Filled;
+use multi_depot_offers::members;
+use multi_depot_offers::planning;
 use sheet::customer;
 ghost use mathlib.Core.Path.{_≡_};
 ghost use mathlib.Core.Bool.{false};
@@ -9,9 +9,11 @@ ghost use Prim.Native.Nat.{_-_, _≤_, _<_};
 ghost use lib.ListN.{length};
 ghost use Rattle.sheet.specs.Depots.{depotsOf};
 ghost use Rattle.sheet.specs.Fields.{rowsOf};
-ghost use Rattle.plan.specs.Holds.{Held};
-ghost use Rattle.offers.specs.ByDepot.{plannedOf, planned, offered, firstAt, settledAt, byDepot, outcomeOf, allStops};
-ghost use Rattle.offers.specs.Asked.{Marks, Lent};
+ghost use Rattle.sheet.specs.Stops.{allStops};
+ghost use Rattle.constructive.specs.Holds.{Held};
+ghost use Rattle.constructive.specs.Marks.{Marks};
+ghost use Rattle.multi_depot_offers.specs.ByDepot.{plannedOf, planned, offered, firstAt, settledAt, byDepot, outcomeOf};
+ghost use Rattle.multi_depot_offers.specs.Asked.{Lent};
 ghost use Rattle.multi_depot.specs.Asked.{Desk, Remarked, Untouched, Told};
 
 // A depot planned anew, from the start of the tables on: only its marks are needed.
@@ -29,7 +31,7 @@ fn remark(
     requires { ⌜ (depot < depotsOf (now sheet)) × (rowsOf (now sheet) ≤ length (now marks)) ⌝ }
     ensures { λ _. ⌜ Remarked (now (sheet .entry)) (now (at .entry)) (now (marks .entry)) depot (now (marks .exit)) ⌝ }
 {
-    offers::clear(at, marks, depot);
+    multi_depot_offers::clear(at, marks, depot);
     let filled = Filled {
         rounds: 0,
         routed: 0,
@@ -65,7 +67,7 @@ fn remark_changed(
     ensures { λ _. ⌜ Marks (now (sheet .entry)) (now (marks .exit)) (planned (now (sheet .entry)) (now (at .entry)) .aside) ⌝ }
 {
     for depot in 0..depots {
-        if !offers::is_changed(before, at, depot) {
+        if !multi_depot_offers::is_changed(before, at, depot) {
             continue;
         }
         remark(sheet, at, marks, fleet, stops, ends, vehicles, depot);
@@ -94,7 +96,7 @@ fn settle(
     let mut any = false;
     'offers: loop {
         sorting::copy(at, before);
-        if !offers::offer(sheet, depots, at, marks) {
+        if !multi_depot_offers::offer(sheet, depots, at, marks) {
             break 'offers;
         }
         remark_changed(
@@ -131,7 +133,7 @@ fn by_depot(
     let depots = customer::depots(sheet);
     let rows = at.len();
     let mut before = [0u16; 101];
-    offers::first_at(sheet, depots, at);
+    multi_depot_offers::first_at(sheet, depots, at);
     let filled = planning::plan_depots(sheet, depots, at, marks, fleet, stops, ends, vehicles);
     if !settle(
         sheet,
@@ -164,12 +166,12 @@ fn one_depot(
     requires { ⌜ Lent (now sheet) (now at) (now fleet) (now stops) (now ends) (now vehicles) ⌝ }
     ensures { λ r. ⌜ Held (now (stops .exit)) (now (ends .exit)) (now (vehicles .exit)) r (rowsOf (now (sheet .entry)) - depotsOf (now (sheet .entry))) (plannedOf (now (sheet .entry)) 0 (allStops (now (sheet .entry)))) ⌝ }
 {
-    offers::fill(at, 0);
+    constructive::marks::fill(at, 0);
     let filled = Filled {
         rounds: 0,
         routed: 0,
     };
-    let total = members::members_of(sheet, at, 0, stops, 0);
+    let total = constructive::members::members_of(sheet, at, 0, stops, 0);
     if total == 0 {
         return filled;
     }

@@ -6,6 +6,8 @@ use mathlib.Core.List.{List, [], _∷_, _++_, append-assoc}
 use lib.ListN.{length, getD, take, drop, length-append, length-drop}
 use lib.Seq.{length-take-le, getD-take, getD-drop, take-take}
 use lib.Ieee.{Float}
+use Rattle.lists.specs.Every.{Every, every-of, every-at, every-append, every-take, every-drop}
+use Rattle.lists.specs.Moved.{without, without-length}
 use Rattle.wire.specs.Bytes.{write}
 use Rattle.wire.specs.Laws.{length-write}
 use Rattle.wire.specs.Overwrite.{write-same, part-write, write-within}
@@ -13,9 +15,7 @@ use Rattle.sheet.specs.Fields.{rowsOf}
 use Rattle.sheet.specs.Values.{vehicleOf}
 use Rattle.sheet.specs.declared.vehicle.Vehicle.{Vehicle}
 use Rattle.evaluation.specs.Routed.{Routed}
-use Rattle.plan.specs.Members.{part, Members}
-use Rattle.plan.specs.Every.{Every, every-of, every-at, every-append, every-take, every-drop}
-use Rattle.plan.specs.Moved.{without, without-length}
+use Rattle.constructive.specs.Members.{part, Members}
 use Rattle.nearest_neighbor.specs.declared.choice.Choice.{Choice}
 use Rattle.nearest_neighbor.specs.declared.choice.Choice.the-variants.{Nobody, Best}
 use Rattle.nearest_neighbor.specs.declared.ride.Ride.{Ride}

@@ -7,18 +7,17 @@ use native.Mathlib.Omega.{arith}
 use mathlib.Core.List.{List, [], _∷_, _++_, append-nil}
 use lib.ListN.{length, getD, take, drop, length-append, length-drop}
 use lib.Seq.{length-take-le, drop-cons, drop-length, append-snoc}
+use Rattle.lists.specs.Every.{Every, every-of, every-at}
 use Rattle.wire.specs.Bytes.{write}
 use Rattle.wire.specs.Laws.{length-write}
 use Rattle.wire.specs.Overwrite.{write-same, part-write, write-over}
 use Rattle.sheet.specs.Fields.{rowsOf, vehiclesOf}
-use Rattle.plan.specs.declared.tables.Filled.{Filled}
-use Rattle.plan.specs.Outcome.{Round, Outcome}
-use Rattle.plan.specs.Read.{chains}
-use Rattle.plan.specs.Every.{Every, every-of, every-at}
-use Rattle.plan.specs.Members.{part, Members, Fleet}
-use Rattle.plan.specs.Laid.{endsFrom, vehiclesFrom, routedIn, filledBy, Laid, Room}
-use Rattle.plan.specs.Entered.{enters-one}
-use Rattle.plan.specs.LaidLaws.{chains-aside, chains-append, length-chains, length-ends, length-vehicles, routed-append}
+use Rattle.constructive.specs.declared.tables.Filled.{Filled}
+use Rattle.constructive.specs.Outcome.{Round, Outcome, chains}
+use Rattle.constructive.specs.Members.{part, Members, Fleet}
+use Rattle.constructive.specs.Laid.{endsFrom, vehiclesFrom, routedIn, filledBy, Laid, Room}
+use Rattle.constructive.specs.Entered.{enters-one}
+use Rattle.constructive.specs.LaidLaws.{chains-aside, chains-append, length-chains, length-ends, length-vehicles, routed-append}
 use Rattle.nearest_neighbor.specs.declared.greedy.Heuristic.{Heuristic}
 use Rattle.nearest_neighbor.specs.Greedy.{Grown, roundOf, withStops, after, greedy}
 use Rattle.nearest_neighbor.specs.Ride.{ruleOf}

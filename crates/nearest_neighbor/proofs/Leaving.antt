@@ -4,8 +4,8 @@ use Prim.Native.Nat.{ℕ, zero, suc, _+_}
 use native.Mathlib.Omega.{arith}
 use mathlib.Core.List.{List, [], _∷_}
 use lib.ListN.{length, getD, length-append}
-use Rattle.plan.specs.Every.{Every}
-use Rattle.plan.specs.Moved.{without-length, without-every}
+use Rattle.lists.specs.Every.{Every}
+use Rattle.lists.specs.Moved.{without-length, without-every}
 use Rattle.nearest_neighbor.specs.declared.choice.Choice.{Choice}
 use Rattle.nearest_neighbor.specs.declared.choice.Choice.the-variants.{Nobody, Best}
 use Rattle.nearest_neighbor.specs.declared.greedy.Heuristic.{Heuristic}

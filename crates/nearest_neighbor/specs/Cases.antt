@@ -5,10 +5,10 @@ use lib.Ieee.{add, mul, ofBits, lt, le}
 use Rattle.wire.specs.Bytes.{le as number, bytes, f64At}
 use Rattle.sheet.specs.Fields.{rowsOf, vehiclesOf, timesOf, rowMarks, idField, depotField, vehicleMarks, marked}
 use Rattle.sheet.specs.Values.{gateAt, demandOf, stopOf, limitAt, restAfter, vehicleOf, distanceOf, timeOf}
+use Rattle.sheet.specs.SheetA.{sheetA}
 use Rattle.evaluation.specs.Limits.{allowOf}
 use Rattle.evaluation.specs.Checks.{someWindowed, hasSoftWindows}
-use Rattle.plan.specs.Outcome.{Outcome}
-use Rattle.plan.specs.SheetA.{sheetA}
+use Rattle.constructive.specs.Outcome.{Outcome}
 use Rattle.nearest_neighbor.specs.Greedy.{choose, grow, growOn, greedy}
 use Rattle.nearest_neighbor.specs.Nearest.{nearestOffer, nearestOnward, nearestNeighbor, windowOffer, windowOnward, nearestNeighborTw}
 

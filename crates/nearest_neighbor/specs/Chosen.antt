@@ -8,10 +8,11 @@ use mathlib.Core.List.{List, [], _∷_}
 use borrow.Author.Tests.{eq-eqb}
 use lib.Dec.{eqb}
 use lib.ListN.{length, getD}
-use Rattle.plan.specs.Outcome.{Round}
-use Rattle.plan.specs.Read.{one, count}
-use Rattle.plan.specs.Every.{Every, every-map, OfFleet}
-use Rattle.plan.specs.Moved.{without}
+use Rattle.lists.specs.Count.{one, count}
+use Rattle.lists.specs.Every.{Every, every-map}
+use Rattle.lists.specs.Moved.{without}
+use Rattle.constructive.specs.Outcome.{Round}
+use Rattle.constructive.specs.Rounds.{OfFleet}
 use Rattle.nearest_neighbor.specs.declared.choice.Choice.{Choice}
 use Rattle.nearest_neighbor.specs.declared.choice.Choice.the-variants.{Nobody, Best}
 use Rattle.nearest_neighbor.specs.Greedy.{Offer, out, key, winsOf, better, choose, Trip, started, Rule, Growth, growing, grown, grownBy, grow, growOn, ended, roundOf, withStops, greedy}

@@ -8,6 +8,8 @@ use lib.Dec.{T, leb→le}
 use lib.Ieee.{Float, binary64, lt, fits}
 use lib.Ieee.Fits.{and-l, and-r, add-fits}
 use lib.ListN.{length, getD, length-append}
+use Rattle.lists.specs.Every.{Every, every-of, every-at}
+use Rattle.lists.specs.Moved.{without-length, without-every}
 use Rattle.numbers.specs.Upto.{add-units}
 use Rattle.sheet.specs.Fields.{rowsOf}
 use Rattle.sheet.specs.Accepted.{Accepted}
@@ -32,8 +34,8 @@ use Rattle.evaluation.specs.Checks.{hasSoftWindows}
 use Rattle.evaluation.specs.Bounds.{Times, LabelBounded, ServedBounded, one-time, label-widen, late-positive}
 use Rattle.evaluation.specs.Finite.{step-bounded, start-bounded}
 use Rattle.evaluation.specs.Longer.{lastOf, distanceOn, servedOn, last-more, distance-on-more, served-on-more, walk-feasible}
-use Rattle.plan.specs.Every.{Every, every-of, every-at, loadOf, load-append, Carried, Feasible, OfFleet}
-use Rattle.plan.specs.Moved.{without-length, without-every}
+use Rattle.constructive.specs.Load.{loadOf, load-append}
+use Rattle.constructive.specs.Rounds.{Carried, Feasible, OfFleet}
 use Rattle.nearest_neighbor.specs.Greedy.{Trip, started}
 use Rattle.nearest_neighbor.specs.Nearest.{carries, allows, offered, thereAndHome, nearestOffer, nearestOnward, nearestRule, nearestNeighbor, arrivalAt, lateAt, startAt, penaltyOf, missed, tooDear, windowOffer, windowOnward, windowRule, nearestNeighborTw}
 use Rattle.nearest_neighbor.specs.Chosen.{Taken, Growing, greedy-every, greedy-fleet}

@@ -4,9 +4,9 @@ use mathlib.Core.Bool.{Bool, true, cond}
 use mathlib.Core.List.{List, [], _∷_}
 use lib.ListN.{length, getD}
 use lib.Ieee.{Float, lt}
+use Rattle.lists.specs.Moved.{without}
 use Rattle.sheet.specs.Values.{nought}
-use Rattle.plan.specs.Outcome.{Round, Outcome}
-use Rattle.plan.specs.Moved.{without}
+use Rattle.constructive.specs.Outcome.{Round, Outcome}
 use Rattle.nearest_neighbor.specs.declared.choice.Choice.{Choice}
 use Rattle.nearest_neighbor.specs.declared.choice.Choice.the-variants.{Nobody, Best}
 

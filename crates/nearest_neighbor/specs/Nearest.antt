@@ -15,7 +15,7 @@ use Rattle.evaluation.specs.Window.{waitingOf, latenessOf}
 use Rattle.evaluation.specs.Limits.{limitsOf, allowOf}
 use Rattle.evaluation.specs.Feasible.{routeFeasible, effectiveCost}
 use Rattle.evaluation.specs.Checks.{hasSoftWindows}
-use Rattle.plan.specs.Outcome.{Outcome}
+use Rattle.constructive.specs.Outcome.{Outcome}
 use Rattle.nearest_neighbor.specs.Greedy.{Offer, out, key, Trip, Rule, greedy}
 
 -- ---- both

@@ -4,11 +4,11 @@ use Prim.Native.Nat.{ℕ, zero, suc, _+_}
 use native.Mathlib.Omega.{arith}
 use mathlib.Core.List.{List, [], _∷_, _++_}
 use lib.ListN.{length, getD}
+use Rattle.lists.specs.Count.{count}
+use Rattle.lists.specs.Once.{count-append}
+use Rattle.lists.specs.Moved.{without-count}
 use Rattle.evaluation.specs.Checks.{hasSoftWindows}
-use Rattle.plan.specs.Outcome.{Round}
-use Rattle.plan.specs.Read.{count, chains, stopsOf}
-use Rattle.plan.specs.Once.{count-append}
-use Rattle.plan.specs.Moved.{without-count}
+use Rattle.constructive.specs.Outcome.{Round, chains, stopsOf}
 use Rattle.nearest_neighbor.specs.declared.choice.Choice.{Choice}
 use Rattle.nearest_neighbor.specs.declared.choice.Choice.the-variants.{Nobody, Best}
 use Rattle.nearest_neighbor.specs.Greedy.{choose, Trip, started, Grown, Rule, Growth, growing, grown, grownBy, grow, growOn, ended, roundOf, withStops, greedy}

@@ -4,8 +4,8 @@ use crate::nearest;
 use crate::nn_tw;
 use crate::ride;
 use crate::ride::Ride;
-use plan::tables;
-use plan::tables::Filled;
+use constructive::tables;
+use constructive::tables::Filled;
 use sheet::customer;
 use sheet::matrix;
 use sheet::vehicle;
@@ -17,11 +17,11 @@ ghost use lib.ListN.{length, getD, take, drop};
 ghost use Rattle.wire.specs.Bytes.{write};
 ghost use Rattle.sheet.specs.Fields.{rowsOf, vehiclesOf};
 ghost use Rattle.evaluation.specs.Routed.{Routed};
-ghost use Rattle.plan.specs.Laid.{Laid, Room, filledBy};
+ghost use Rattle.constructive.specs.Laid.{Laid, Room, filledBy};
+ghost use Rattle.constructive.specs.Members.{part, Members, Fleet};
 ghost use Rattle.nearest_neighbor.specs.declared.choice.Choice.the-variants.{Nobody};
 ghost use Rattle.nearest_neighbor.specs.Greedy.{choose, roundOf, greedy};
 ghost use Rattle.nearest_neighbor.specs.Ride.{ruleOf, offerBy, onwardBy, ridden, Riding};
-ghost use Rattle.plan.specs.Members.{part, Members, Fleet};
 
 // Which of the two; with windows, whether some window has a penalty.
 pub enum Heuristic {

@@ -5,12 +5,12 @@ mod nearest;
 pub mod nn_tw;
 pub mod ride;
 
+use constructive::tables::Filled;
 use greedy::Heuristic;
-use plan::tables::Filled;
 ghost use mathlib.Core.Path.{_≡_};
-ghost use Rattle.plan.specs.Laid.{Laid, Room, filledBy};
+ghost use Rattle.constructive.specs.Laid.{Laid, Room, filledBy};
+ghost use Rattle.constructive.specs.Members.{part, Members, Fleet};
 ghost use Rattle.nearest_neighbor.specs.Nearest.{nearestNeighbor, nearestNeighborTw};
-ghost use Rattle.plan.specs.Members.{part, Members, Fleet};
 
 // The members stand in `stops` from where the tables are filled up to `total`, ascending; the fleet is the depot's vehicles.
 // Answers how far the tables are filled with the rounds; the stops set aside stand after them, up to `total`.

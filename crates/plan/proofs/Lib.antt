@@ -4,5 +4,3 @@ pub mod Rounding
 pub mod Chaining
 pub mod Counting
 pub mod Planning
-pub mod Bringing
-pub mod Sending

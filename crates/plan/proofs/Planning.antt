@@ -13,13 +13,13 @@ use Rattle.numbers.specs.Range.{zero-upto}
 use Rattle.sheet.specs.Fields.{rowsOf, planLength}
 use Rattle.sheet.specs.Values.{nought}
 use Rattle.evaluator.specs.Record.{priceStart}
-use Rattle.plan.specs.Outcome.{roundsIn, startIn, outcomeIn}
+use Rattle.constructive.specs.Outcome.{roundsIn, startIn, outcomeIn}
+use Rattle.constructive.specs.LaidLaws.{length-rounds}
+use Rattle.constructive.specs.Tables.{Tables}
+use Rattle.constructive.proofs.InTables.{start-in, rounds-of}
 use Rattle.plan.specs.Plan.{first, headerBytes, withRounds, withAside, priceOf, costOf, planBytes, planOf}
-use Rattle.plan.specs.Laws.{length-rounds}
-use Rattle.plan.specs.Writable.{Number}
+use Rattle.plan.specs.Writable.{Number, Chained}
 use Rattle.plan.specs.Written.{writable}
-use Rattle.plan.specs.Tables.{Tables, Chained}
-use Rattle.plan.proofs.Counting.{start-in, rounds-of}
 
 module _ (s stops ends vehicles : List ℕ) (n total : ℕ) (ok : Tables s stops ends vehicles n total) (start : ℕ) (from : start ≡ startIn ends n) where
   -- the stops set aside lie within the stops

@@ -10,18 +10,21 @@ use lib.Ieee.Fits.{and-l, and-r}
 use lib.ListN.{length, getD, length-replicate}
 use lib.Ieee.{Float}
 use borrow.Author.Tests.{ltb-true, ltb-false, le-leb, eq-eqb, ne-eqb}
+use Rattle.lists.specs.Count.{count}
+use Rattle.lists.specs.Once.{Stops, Distinct, AllOff, count-append, split, stops-split, distinct-few}
 use Rattle.wire.specs.Bytes.{le, bytes, write}
 use Rattle.wire.specs.Laws.{length-bytes, length-write, le-lt, le-in, le-before, le-after}
 use Rattle.sheet.specs.Fields.{rowsOf, vehiclesOf, vehicleAt, idField}
 use Rattle.sheet.specs.Accepted.{Accepted}
 use Rattle.sheet.specs.Values.{vehicleOf}
 use Rattle.sheet.specs.declared.vehicle.Vehicle.{Vehicle}
+use Rattle.sheet.specs.Fleet.{indexFrom, indexOf}
 use Rattle.evaluator.specs.Record.{placedOf, beginOf, buildRoute}
-use Rattle.plan.specs.Outcome.{Round, Outcome}
+use Rattle.constructive.specs.Outcome.{Round, Outcome, chains, stopsOf}
+use Rattle.constructive.specs.Right.{idsKnown, linksRight, eachOnce, outcomeRight, stops-right, distinct-right}
 use Rattle.plan.specs.Plan.{first, roundAt, visitAt, roundCounts, roundFigures, roundBytes, headerBytes, withVisits, withRound, withRounds, withAside, blank, planBytes}
 use Rattle.plan.specs.Laws.{round-long, counts-long, header-long}
-use Rattle.plan.specs.Read.{roundsAt, asideAt, idAt, firstAt, nextAt, chainOf, indexFrom, indexOf, roundsFrom, readPlan, chains, stopsOf, idsKnown, count, linksRight, eachOnce, outcomeRight, planRight}
-use Rattle.plan.specs.Once.{Stops, Distinct, AllOff, count-append, split, stops-split, distinct-few, stops-right, distinct-right}
+use Rattle.plan.specs.Read.{roundsAt, asideAt, idAt, firstAt, nextAt, chainOf, roundsFrom, readPlan, planRight}
 use Rattle.plan.specs.Spread.{Linked, Spread, first-lt, le-front, le-skip, starts, visits-spread, aside-spread, clear-low, clear-next, spread-length, spread-keeps, spread-links, chain-back}
 
 linked-kept : (P Q : List ℕ) (n : ℕ) (ys : List ℕ) → ((r : ℕ) → count r ys ≡ 0 → nextAt P n r ≡ nextAt Q n r) → (rows : List ℕ) → AllOff rows ys → Linked Q n rows → Linked P n rows

@@ -5,16 +5,19 @@ use mathlib.Core.Bool.{true, false}
 use mathlib.Core.List.{List, [], _∷_, _++_}
 use lib.ListN.{replicate}
 use lib.Ieee.{add, mul, ofBits, toBits}
+use Rattle.lists.specs.Count.{count}
 use Rattle.wire.specs.Bytes.{le as leBytes, bytes, write, f64At}
 use Rattle.numbers.specs.All.{all}
 use Rattle.sheet.specs.Fields.{rowsOf, vehiclesOf, timesOf, rowMarks, idField, depotField, vehicleMarks, marked}
 use Rattle.sheet.specs.Depots.{leading, depotsOf}
 use Rattle.sheet.specs.Values.{gateAt, demandOf, stopOf, limitAt, restAfter, vehicleOf, distanceOf, timeOf}
+use Rattle.sheet.specs.SheetA.{ten, sheetA}
+use Rattle.sheet.specs.Fleet.{indexFrom}
 use Rattle.evaluator.specs.Record.{placedOf, readyFor, departsAt, lateAfter, costAfter, visitedOf, progressOf, recordOf, buildRoute, routeCost, priceWith}
-use Rattle.plan.specs.SheetA.{ten, sheetA}
-use Rattle.plan.specs.Outcome.{Outcome}
+use Rattle.constructive.specs.Outcome.{Outcome, chains}
+use Rattle.constructive.specs.Right.{idsKnown, linksRight, eachOnce, outcomeRight}
 use Rattle.plan.specs.Plan.{visitBytes, asideBytes, roundCounts, roundFigures, roundBytes, headerBytes, withVisits, withRound, withRounds, withAside, priceAfter, priceOf, planBytes, planOf}
-use Rattle.plan.specs.Read.{roundsAt, asideAt, idAt, firstAt, nextAt, chainFrom, indexFrom, roundsFrom, readPlan, idsKnown, chains, linksRight, count, eachOnce, outcomeRight, planRight}
+use Rattle.plan.specs.Read.{roundsAt, asideAt, idAt, firstAt, nextAt, chainFrom, roundsFrom, readPlan, planRight}
 
 abbrev outcome : Outcome
 outcome = record { rounds = record { vehicle = 0; stops = 1 ∷ 2 ∷ [] } ∷ []; aside = [] }

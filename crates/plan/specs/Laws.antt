@@ -1,13 +1,11 @@
--- How long the plan's records are, and how many rounds the tables hold. Assumes nothing.
-use mathlib.Core.Path.{_≡_, refl, ap}
-use Prim.Native.Nat.{ℕ, zero, suc, _+_}
-use mathlib.Core.List.{List}
-use lib.ListN.{length, getD, length-append}
+-- How long the plan's records are. Assumes nothing.
+use mathlib.Core.Path.{_≡_}
+use Prim.Native.Nat.{ℕ}
+use lib.ListN.{length, length-append}
 use lib.Ieee.{Float}
 use Rattle.wire.specs.Laws.{length-bytes}
 use Rattle.evaluator.specs.declared.Progress.{Progress}
 use Rattle.evaluator.specs.declared.Record.{Record}
-use Rattle.plan.specs.Outcome.{roundsIn}
 use Rattle.plan.specs.Plan.{visitBytes, asideBytes, roundCounts, roundFigures, roundBytes, headerBytes}
 
 pub visit-long : (next : ℕ) (p : Progress) → length (visitBytes next p) ≡ 24
@@ -34,8 +32,3 @@ round-long id start r = simp (length-append, counts-long, figures-long)
 pub header-long : (rounds aside rows : ℕ) (cost : Float) → length (headerBytes rounds aside rows cost) ≡ 16
 unfolding headerBytes
 header-long rounds aside rows cost = simp (length-append, length-bytes)
-
-pub length-rounds : (stops ends vehicles : List ℕ) (m start k : ℕ) → length (roundsIn stops ends vehicles m start k) ≡ m
-unfolding roundsIn
-length-rounds stops ends vehicles zero start k = refl
-length-rounds stops ends vehicles (suc m) start k = ap suc (length-rounds stops ends vehicles m (getD ends k 0) (k + 1))

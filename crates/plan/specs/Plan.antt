@@ -13,7 +13,7 @@ use Rattle.evaluator.specs.Record.{placedOf, beginOf, visitedOf, buildRoute, pr
 use Rattle.evaluator.specs.declared.Progress.{Progress}
 use Rattle.evaluator.specs.declared.Placed.{Placed}
 use Rattle.evaluator.specs.declared.Record.{Record}
-use Rattle.plan.specs.Outcome.{Round, Outcome}
+use Rattle.constructive.specs.Outcome.{Round, Outcome}
 
 abbrev pub f64 : Float → List ℕ
 f64 x = bytes 8 (toBits binary64 x)

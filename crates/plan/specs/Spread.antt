@@ -10,6 +10,8 @@ use lib.Dec.{eqb, ltb}
 use lib.ListN.{length, List·getD-append}
 use lib.Seq.{drop-at}
 use borrow.Author.Tests.{ltb-true, ltb-false, eqb-false}
+use Rattle.lists.specs.Once.{Stops, Distinct}
+use Rattle.lists.specs.Count.{one, count}
 use Rattle.wire.specs.Bytes.{le, bytes, write}
 use Rattle.wire.specs.Laws.{length-bytes, length-write, le-bytes, le-alike, le-drop, le-in, le-before, le-after}
 use Rattle.sheet.specs.Fields.{rowsOf}
@@ -17,9 +19,8 @@ use Rattle.evaluator.specs.Record.{visitedOf}
 use Rattle.evaluator.specs.declared.Progress.{Progress}
 use Rattle.evaluator.specs.declared.Placed.{Placed}
 use Rattle.plan.specs.Plan.{first, visitAt, visitBytes, asideBytes, withVisits, withAside}
-use Rattle.plan.specs.Once.{Stops, Distinct}
 use Rattle.plan.specs.Laws.{visit-long, aside-long}
-use Rattle.plan.specs.Read.{nextAt, chainFrom, one, count}
+use Rattle.plan.specs.Read.{nextAt, chainFrom}
 
 -- each row's link is the row after it
 abbrev pub Linked : List ℕ → ℕ → List ℕ → Type 0

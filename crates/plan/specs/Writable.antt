@@ -3,18 +3,19 @@ use Prim.Native.Nat.{ℕ, _≤_, _<_}
 use mathlib.Core.Bool.{not}
 use mathlib.Core.List.{List, [], _∷_}
 use lib.Dec.{T}
-use lib.ListN.{length}
+use lib.ListN.{length, getD}
 use lib.Ieee.{Float, isNan}
-use Rattle.sheet.specs.Fields.{rowsOf, vehiclesOf}
+use Rattle.sheet.specs.Fields.{rowsOf}
 use Rattle.sheet.specs.Values.{vehicleOf}
 use Rattle.sheet.specs.declared.vehicle.Vehicle.{Vehicle}
+use Rattle.sheet.specs.Accepted.{Sized}
 use Rattle.evaluation.specs.Serve.{restStart}
-use Rattle.evaluation.specs.Routed.{Routed}
 use Rattle.evaluator.specs.Record.{placedOf, beginOf, visitedOf, buildRoute, priceStart}
 use Rattle.evaluator.specs.declared.Progress.{Progress}
 use Rattle.evaluator.specs.declared.Placed.{Placed}
 use Rattle.evaluator.specs.declared.Record.{Record}
-use Rattle.plan.specs.Outcome.{Round}
+use Rattle.constructive.specs.Outcome.{Round}
+use Rattle.constructive.specs.Tables.{RoundOf, RoundsOf}
 use Rattle.plan.specs.Plan.{priceOf}
 
 abbrev pub Number : Float → Type 0
@@ -41,16 +42,12 @@ pub record RoundWritable (s : List ℕ) (v : Vehicle) (stops : List ℕ) : Type 
   pub visits : VisitsWritable s (placedOf s (v .depot) (v .rest) stops) (beginOf (v .depot)) stops
   pub figures : RecordWritable (buildRoute s (v .depot) (v .rest) stops)
 
--- a round of a vehicle of the sheet
-pub record RoundOf (s : List ℕ) (r : Round) : Type 0 where
-  pub vehicle : r .vehicle < vehiclesOf s
-  pub routed : Routed s (vehicleOf s (r .vehicle) .depot) (r .stops)
-
-unfoldable pub RoundsOf : List ℕ → List Round → Type 0
-RoundsOf s [] = Unit
-RoundsOf s (r ∷ rs) = RoundOf s r × RoundsOf s rs
-
 -- every figure of every plan of the sheet
 pub record Writable (s : List ℕ) : Type 0 where
   pub round : (r : Round) → RoundOf s r → RoundWritable s (vehicleOf s (r .vehicle)) (r .stops)
   pub cost : (rs : List Round) → length rs ≤ rowsOf s → RoundsOf s rs → Number (priceOf s priceStart rs)
+
+-- stops that are chained, and not visited
+pub record Chained (s chain : List ℕ) : Type 0 where
+  pub sheet : Sized s
+  pub row : (i : ℕ) → i < length chain → getD chain i 0 < rowsOf s

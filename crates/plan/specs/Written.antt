@@ -18,9 +18,10 @@ use Rattle.evaluator.specs.Finite.{StartBounded, ProgressBounded, RecordBounded
 use Rattle.evaluator.specs.declared.Progress.{Progress}
 use Rattle.evaluator.specs.declared.Placed.{Placed}
 use Rattle.evaluator.specs.declared.Record.{Record}
-use Rattle.plan.specs.Outcome.{Round}
+use Rattle.constructive.specs.Outcome.{Round}
+use Rattle.constructive.specs.Tables.{RoundOf, RoundsOf}
 use Rattle.plan.specs.Plan.{priceAfter, priceOf}
-use Rattle.plan.specs.Writable.{Number, RecordWritable, VisitsWritable, RoundWritable, RoundOf, RoundsOf, Writable}
+use Rattle.plan.specs.Writable.{Number, RecordWritable, VisitsWritable, RoundWritable, Writable}
 
 start-number : (k : ℕ) (r : RestAnswer) → StartBounded k r → Number (restStart r)
 unfolding ofBits isNan

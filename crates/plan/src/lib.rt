@@ -1,4 +1,5 @@
 // The plan's bytes, written from an outcome's tables.
+use constructive::tables;
 use evaluator::Placed;
 use evaluator::Progress;
 use evaluator::Record;
@@ -14,14 +15,12 @@ ghost use Rattle.sheet.specs.Values.{vehicleOf};
 ghost use Rattle.evaluation.specs.Routed.{Routed};
 ghost use Rattle.evaluator.specs.Driven.{Driven};
 ghost use Rattle.evaluator.specs.Record.{beginOf, visitedOf, progressOf, buildRoute, priceStart};
-ghost use Rattle.plan.specs.Outcome.{roundsIn, startIn, outcomeIn};
+ghost use Rattle.constructive.specs.Outcome.{roundsIn, startIn, outcomeIn};
+ghost use Rattle.constructive.specs.Tables.{RoundOf, Tables, RoundTables};
 ghost use Rattle.plan.specs.Plan.{first, visitAt, visitBytes, asideBytes, withVisits, withRound, withRounds, withAside, priceAfter, priceOf, costOf, planOf};
-ghost use Rattle.plan.specs.Writable.{VisitWritable, VisitsWritable, RoundWritable, RoundOf, Writable};
-ghost use Rattle.plan.specs.Tables.{Tables, RoundTables, Chained};
+ghost use Rattle.plan.specs.Writable.{VisitWritable, VisitsWritable, RoundWritable, Writable, Chained};
 
 mod records;
-pub mod tables;
-pub mod terms;
 
 // What a chain links to at place i: the stop there, or 0 at its end.
 fn link(chain: &[u16], i: usize) -> u16
@@ -178,14 +177,6 @@ fn write_aside(plan: &mut [u8], sheet: &[u8], aside: &[u16]) -> u16
     link(aside, 0)
 }
 
-// Where the round after the first n starts.
-pub fn end_of(ends: &[u16], n: usize) -> usize
-    requires { ⌜ n ≤ length (now ends) ⌝ }
-    ensures { λ r. ⌜ r ≡ startIn (now (ends .entry)) n ⌝ }
-{
-    if n == 0 { 0 } else { ends[n - 1] as usize }
-}
-
 fn cost_of(priced: bool, price: f64) -> f64
     ensures { λ r. ⌜ r ≡ costOf priced price ⌝ }
 {
@@ -209,7 +200,7 @@ pub fn write_plan(
 {
     records::blank(plan);
     let price = write_rounds(plan, sheet, stops, ends, vehicles, rounds);
-    let start = end_of(ends, rounds);
+    let start = tables::end_of(ends, rounds);
     let aside = write_aside(plan, sheet, &stops[start..total]);
     records::put_header(
         plan,

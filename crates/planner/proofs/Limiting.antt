@@ -13,15 +13,16 @@ use Rattle.sheet.specs.Depots.{depotsOf}
 use Rattle.sheet.specs.Ranges.{rowsInRange, entriesInRange, vehiclesInRange}
 use Rattle.sheet.specs.Refusal.{headerRight, countsRight, methodRight, lengthsRight, fleetRight, unless, contents, refusalOf}
 use Rattle.sheet.specs.Accepted.{accepted}
-use Rattle.plan.specs.Outcome.{outcomeIn}
+use Rattle.sheet.specs.Stops.{depots-some}
+use Rattle.constructive.specs.Outcome.{outcomeIn}
+use Rattle.constructive.specs.Right.{outcomeRight}
 use Rattle.plan.specs.Plan.{planOf}
-use Rattle.plan.specs.Read.{roundsAt, readPlan, outcomeRight, planRight}
-use Rattle.plan.specs.Once.{depots-some}
-use Rattle.reader.specs.declared.Reading.{Reading}
-use Rattle.reader.specs.declared.Reading.the-variants.{Right, Wrong}
-use Rattle.reader.specs.Reading.{ReadRight, ReadAs}
+use Rattle.plan.specs.Read.{roundsAt, readPlan, planRight}
+use Rattle.plan_reader.specs.declared.Reading.{Reading}
+use Rattle.plan_reader.specs.declared.Reading.the-variants.{Right, Wrong}
+use Rattle.plan_reader.specs.Reading.{ReadRight, ReadAs}
 use Rattle.fleet.specs.Limit.{limitRoutes}
-use Rattle.limiter.specs.Limitable.{Limitable}
+use Rattle.fleet_limiter.specs.Limitable.{Limitable}
 use Rattle.planner.specs.Answer.{numberOf, bytesOf}
 use Rattle.planner.specs.Limited.{orElse, oneDepot, unreadRefusal, limitRefusal, limitedPlan, limitTold, limitAnswer, LimitAnswered, LimitOnce, LimitFew, LimitStood, LimitAside}
 use Rattle.planner.specs.Limiting.{Unread, outBy, LimitDone}

@@ -5,17 +5,18 @@ use mathlib.Core.Bool.{Bool, false, not, _&&_, _||_}
 use mathlib.Core.List.{List}
 use lib.Dec.{T, leb, eqb}
 use lib.ListN.{length, getD}
+use Rattle.lists.specs.Count.{count}
+use Rattle.lists.specs.Every.{Every}
 use Rattle.sheet.specs.Fields.{rowsOf, methodOf}
 use Rattle.sheet.specs.Depots.{depotsOf}
 use Rattle.sheet.specs.Refusal.{refusalOf}
-use Rattle.plan.specs.Outcome.{Round, Outcome}
-use Rattle.plan.specs.Plan.{planOf}
-use Rattle.plan.specs.Read.{readPlan, stopsOf, count, planRight}
-use Rattle.plan.specs.Every.{Every}
+use Rattle.sheet.specs.Fleet.{fleetOf}
 use Rattle.lawful.specs.Whole.{Whole}
 use Rattle.lawful.specs.Lawful.{lawful, keepsCapacity, alone, fits, someSeedFirst}
-use Rattle.solomon_i1.specs.Later.{roundAt}
-use Rattle.offers.specs.ByDepot.{fleetOf, outcomeOf}
+use Rattle.constructive.specs.Outcome.{Round, Outcome, stopsOf, roundAt}
+use Rattle.multi_depot_offers.specs.ByDepot.{outcomeOf}
+use Rattle.plan.specs.Plan.{planOf}
+use Rattle.plan.specs.Read.{readPlan, planRight}
 
 -- ---- the answer
 -- with one depot and no stop the Rust returns before it prices

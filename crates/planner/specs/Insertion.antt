@@ -8,36 +8,42 @@ use lib.Dec.{T, leb, ltb, eqb, leb→le}
 use lib.Ieee.{Float}
 use lib.ListN.{length, getD}
 use borrow.Author.Tests.{lt-ltb, eq-eqb}
+use Rattle.lists.specs.Count.{one, count, stop-counted}
+use Rattle.lists.specs.Same.{count-at}
+use Rattle.lists.specs.Every.{Every, every-of, every-at}
+use Rattle.lists.specs.Moved.{inserted, inserted-length, inserted-every}
+use Rattle.lists.specs.Those.{those-all, those-count, those-at}
+use Rattle.lists.specs.Ascending.{those-ascending}
 use Rattle.sheet.specs.Fields.{rowsOf, vehiclesOf, methodOf, rowAt, rowMarks, marked}
 use Rattle.sheet.specs.Depots.{depotsOf}
 use Rattle.sheet.specs.Refusal.{needsVehicle}
 use Rattle.sheet.specs.Accepted.{Accepted}
 use Rattle.sheet.specs.Values.{gateOf, gateAt, windowAt, stopOf, distanceOf, vehicleOf}
 use Rattle.sheet.specs.declared.customer.Window.{Window}
+use Rattle.sheet.specs.Stops.{isStop, allStops}
+use Rattle.sheet.specs.Fleet.{fleetOf}
 use Rattle.evaluation.specs.Limits.{limitsOf}
 use Rattle.evaluation.specs.Feasible.{routeFeasible}
 use Rattle.evaluation.specs.Routed.{Routed}
 use Rattle.evaluation.specs.Checks.{windowed, rowWindowed, someWindowed, hasSoftWindows}
-use Rattle.plan.specs.Outcome.{Round, Outcome}
-use Rattle.plan.specs.Read.{readPlan, stopsOf, isStop, linksRight, one, count}
-use Rattle.plan.specs.Same.{count-at}
-use Rattle.plan.specs.Every.{Every, every-of, every-at, loadOf}
-use Rattle.plan.specs.Moved.{inserted, inserted-load, inserted-length, inserted-every}
-use Rattle.reader.specs.Links.{stop-of, links-at}
 use Rattle.lawful.specs.Whole.{Whole}
 use Rattle.lawful.specs.WholeLaws.{lt-whole, eq-whole}
 use Rattle.lawful.specs.Amounts.{distance-amount}
 use Rattle.lawful.specs.Lawful.{distanceN, homeOf, capacityN, lawful, loadN, keepsCapacity, makesRound, alone, seedFirst, someSeedFirst}
 use Rattle.lawful.specs.Meaning.{feasible-lawful}
+use Rattle.constructive.specs.Outcome.{Round, Outcome, stopsOf, roundAt}
+use Rattle.constructive.specs.Right.{linksRight}
+use Rattle.constructive.specs.Load.{loadOf, inserted-load}
+use Rattle.insertion.specs.Fits.{ClosedTo}
 use Rattle.solomon_i1.specs.Insertion.{planOn, solomonI1}
 use Rattle.solomon_i1.specs.Alone.{NotAlone, insertion-alone}
-use Rattle.solomon_i1.specs.Later.{ClosedTo, seedsFirst, roundAt, ClosedHigher, ClosedAside}
+use Rattle.solomon_i1.specs.Later.{seedsFirst, ClosedHigher, ClosedAside}
 use Rattle.solomon_i1.specs.Closed.{aside-in, round-in, insertion-closed-higher, insertion-closed-aside}
-use Rattle.offers.specs.Those.{those-all, those-count, those-at}
-use Rattle.offers.specs.Ascending.{those-ascending}
-use Rattle.offers.specs.ByDepot.{fleetOf, allStops, withVehicle, withFirst, constructOf, plannedOf, byDepot, outcomeOf}
-use Rattle.offers.specs.Each.{once, stop-counted}
-use Rattle.offers.specs.Rounds.{stops-link, RoundOfSheet, rounds-known}
+use Rattle.multi_depot_offers.specs.ByDepot.{withVehicle, withFirst, constructOf, plannedOf, byDepot, outcomeOf}
+use Rattle.multi_depot_offers.specs.Each.{once}
+use Rattle.multi_depot_offers.specs.Rounds.{stops-link, RoundOfSheet, rounds-known}
+use Rattle.plan.specs.Read.{readPlan}
+use Rattle.plan_reader.specs.Links.{stop-of, links-at}
 use Rattle.planner.specs.Answer.{planFor, firstVehicle, Later, higher, set-aside, FitsNowhere, ClosedRounds}
 use Rattle.planner.specs.Promised.{plan-back, Right, all-right, load-same}
 

@@ -7,12 +7,14 @@ use lib.Dec.{T, leb, leb→le}
 use lib.Ieee.Fits.{and-l, and-r}
 use lib.ListN.{length, getD}
 use borrow.Author.Tests.{le-leb, lt-ltb}
+use Rattle.lists.specs.Count.{count}
+use Rattle.lists.specs.Every.{Every}
 use Rattle.sheet.specs.Fields.{rowsOf}
 use Rattle.sheet.specs.Depots.{depotsOf}
 use Rattle.sheet.specs.Accepted.{Accepted}
+use Rattle.constructive.specs.Right.{outcomeRight}
 use Rattle.plan.specs.Plan.{planOf}
-use Rattle.plan.specs.Read.{readPlan, roundsAt, roundsFrom, count, outcomeRight, planRight}
-use Rattle.plan.specs.Every.{Every}
+use Rattle.plan.specs.Read.{readPlan, roundsAt, roundsFrom, planRight}
 use Rattle.plan.specs.Back.{read-written, written-right}
 use Rattle.fleet.specs.Limit.{limitRoutes}
 use Rattle.fleet.specs.Few.{limit-few, limit-no-more}

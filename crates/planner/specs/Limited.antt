@@ -5,14 +5,15 @@ use mathlib.Core.Bool.{Bool, true, _&&_}
 use mathlib.Core.List.{List}
 use lib.Dec.{leb}
 use lib.ListN.{length}
+use Rattle.lists.specs.Count.{count}
+use Rattle.lists.specs.Every.{Every}
+use Rattle.lists.specs.Ascending.{Ascending}
 use Rattle.sheet.specs.Depots.{depotsOf}
 use Rattle.sheet.specs.Refusal.{headerRight, countsRight, methodRight, lengthsRight, unless, contents}
 use Rattle.plan.specs.Plan.{planOf}
-use Rattle.plan.specs.Read.{readPlan, count, planRight}
-use Rattle.plan.specs.Every.{Every}
+use Rattle.plan.specs.Read.{readPlan, planRight}
 use Rattle.fleet.specs.Limit.{limitRoutes}
 use Rattle.fleet.specs.Kept.{Stood}
-use Rattle.solomon_i1.specs.Later.{Ascending}
 use Rattle.planner.specs.Answer.{Answer, refused, planned, numberOf, bytesOf, Standing}
 
 -- ---- the refusals

@@ -8,38 +8,44 @@ use mathlib.Core.List.{List, [], _∷_}
 use lib.Dec.{T, ltb, eqb, le→leb}
 use lib.ListN.{length, getD, length-append}
 use borrow.Author.Tests.{eqb-true, ltb-true, ltb-false, le-leb, lt-ltb}
+use Rattle.lists.specs.Count.{one}
+use Rattle.lists.specs.Same.{same-length}
+use Rattle.lists.specs.Every.{Every, every-both, every-map}
+use Rattle.lists.specs.Those.{those-all}
 use Rattle.sheet.specs.Fields.{rowsOf, vehiclesOf, methodOf}
 use Rattle.sheet.specs.Depots.{depotsOf}
 use Rattle.sheet.specs.Refusal.{refusalOf}
 use Rattle.sheet.specs.Accepted.{Accepted}
 use Rattle.sheet.specs.Values.{demandOf, vehicleOf}
+use Rattle.sheet.specs.Stops.{isStop, allStops, all-once}
+use Rattle.sheet.specs.Fleet.{fleetOf}
 use Rattle.evaluation.specs.Limits.{limitsOf}
 use Rattle.evaluation.specs.Feasible.{routeFeasible}
 use Rattle.evaluation.specs.Routed.{Routed}
-use Rattle.plan.specs.Outcome.{Round}
-use Rattle.plan.specs.Plan.{planOf}
-use Rattle.plan.specs.Read.{readPlan, chains, stopsOf, isStop, linksRight, one, planRight}
-use Rattle.plan.specs.Same.{same-length}
-use Rattle.plan.specs.Back.{read-written, written-right}
-use Rattle.plan.specs.Every.{Every, every-both, every-map, loadOf, Feasible}
-use Rattle.reader.specs.Links.{links-front, links-back, links-at}
+use Rattle.evaluation.specs.Checks.{hasSoftWindows}
 use Rattle.lawful.specs.Whole.{Whole}
 use Rattle.lawful.specs.Lawful.{homeOf, lawful, loadN, keepsCapacity}
 use Rattle.lawful.specs.Meaning.{feasible-lawful}
+use Rattle.constructive.specs.Outcome.{Round, chains, stopsOf}
+use Rattle.constructive.specs.Right.{linksRight}
+use Rattle.constructive.specs.Load.{loadOf}
+use Rattle.constructive.specs.Rounds.{Feasible}
 use Rattle.nearest_neighbor.specs.Greedy.{growOn, greedy}
 use Rattle.nearest_neighbor.specs.Nearest.{windowRule, nearestNeighbor, nearestNeighborTw}
-use Rattle.evaluation.specs.Checks.{hasSoftWindows}
 use Rattle.nearest_neighbor.specs.Feasible.{window-feasible}
-use Rattle.savings.specs.Savings.{clarkeWright}
-use Rattle.savings.specs.Feasible.{Saved, savings-saved}
+use Rattle.clarke_wright_savings.specs.Savings.{clarkeWright}
+use Rattle.clarke_wright_savings.specs.Feasible.{Saved, savings-saved}
 use Rattle.solomon_i1.specs.Insertion.{solomonI1}
 use Rattle.solomon_i1.specs.Feasible.{insertion-feasible}
 use Rattle.sweep.specs.Sweep.{sweep}
 use Rattle.sweep.specs.Feasible.{sweep-feasible}
-use Rattle.offers.specs.Those.{those-all}
-use Rattle.offers.specs.ByDepot.{fleetOf, allStops, withVehicle, withFirst, constructOf, outcomeOf}
-use Rattle.offers.specs.Each.{all-once, once, links-right}
-use Rattle.offers.specs.Rounds.{RoundFrom, constructs-from, rounds-every, outcome-right, rounds-few}
+use Rattle.multi_depot_offers.specs.ByDepot.{withVehicle, withFirst, constructOf, outcomeOf}
+use Rattle.multi_depot_offers.specs.Each.{once, links-right}
+use Rattle.multi_depot_offers.specs.Rounds.{RoundFrom, constructs-from, rounds-every, outcome-right, rounds-few}
+use Rattle.plan.specs.Plan.{planOf}
+use Rattle.plan.specs.Read.{readPlan, planRight}
+use Rattle.plan.specs.Back.{read-written, written-right}
+use Rattle.plan_reader.specs.Links.{links-front, links-back, links-at}
 use Rattle.planner.specs.Answer.{planFor, toldBy, answerOf, numberOf, Answered, capacityKept, Standing, LawfulRound}
 
 -- the number is the refusal's, or 0

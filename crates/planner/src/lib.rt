@@ -17,7 +17,7 @@ ghost use Rattle.planner.specs.Limited.{LimitAnswered, LimitOnce, LimitF
 pub extern "C" fn check_sheet(sheet: &[u8], plan_len: usize) -> u32
     ensures { λ r. ⌜ r ≡ refusalOf (now (sheet .entry)) «plan_len» ⌝ }
 {
-    refusal::refusal(sheet, plan_len)
+    sheet_refusal::refusal(sheet, plan_len)
 }
 
 // How many rows are no depots.
@@ -103,7 +103,7 @@ pub extern "C" fn plan_rounds(sheet: &[u8], plan: &mut [u8]) -> u32
     ensures { λ r. ⌜ Alone (now (sheet .entry)) r (now (plan .exit)) ⌝ }
     ensures { λ r. ⌜ Closed (now (sheet .entry)) r (now (plan .exit)) ⌝ }
 {
-    let number = refusal::refusal(sheet, plan.len());
+    let number = sheet_refusal::refusal(sheet, plan.len());
     if number != 0 {
         return number;
     }

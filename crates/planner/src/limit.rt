@@ -1,5 +1,5 @@
 // The limiter: the plan in is read into tables, rounds are dropped there, and the plan out is written from them.
-use reader::Reading;
+use plan_reader::Reading;
 use sheet::customer;
 ghost use mathlib.Core.Path.{_≡_};
 ghost use mathlib.Core.Bool.{_&&_};
@@ -21,7 +21,7 @@ fn is_early(number: u32) -> bool
 pub fn unread_refusal(sheet: &[u8], in_len: usize, out_len: usize) -> u32
     ensures { λ r. ⌜ r ≡ unreadRefusal (now (sheet .entry)) «in_len» «out_len» ⌝ }
 {
-    let number = refusal::refusal(sheet, in_len);
+    let number = sheet_refusal::refusal(sheet, in_len);
     if is_early(number) {
         return number;
     }
@@ -53,11 +53,12 @@ fn limit_by(
     requires { ⌜ LimitTables (now stops) (now ends) (now vehicles) (now marks) (now trial) ⌝ }
     ensures { λ r. ⌜ LimitDone (now (sheet .entry)) (now («plan_in» .entry)) greatest (now («plan_out» .entry)) r (now («plan_out» .exit)) ⌝ }
 {
-    let Reading::Right(rounds) = reader::read_plan(sheet, plan_in, stops, ends, vehicles) else {
+    let Reading::Right(rounds) = plan_reader::read_plan(sheet, plan_in, stops, ends, vehicles)
+    else {
         return 10;
     };
     let total = crate::stops_in(sheet);
-    let left = limiter::limit_routes(
+    let left = fleet_limiter::limit_routes(
         sheet,
         greatest,
         stops,

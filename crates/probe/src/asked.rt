@@ -10,7 +10,7 @@ fn accepted(sheet: &[u8]) -> bool
     if sheet.len() < 16 {
         return false;
     }
-    refusal::refusal(sheet, 16 + 80 * sheet::rows(sheet)) == 0
+    sheet_refusal::refusal(sheet, 16 + 80 * sheet::rows(sheet)) == 0
 }
 
 // Whether rounds of a vehicle can be asked about.

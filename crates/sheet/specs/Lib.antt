@@ -5,3 +5,6 @@ pub mod Refusal
 pub mod Accepted
 pub mod Values
 pub mod Finite
+pub mod Fleet
+pub mod SheetA
+pub mod Stops

@@ -1,96 +1,29 @@
 -- The loops over the places of a round and over the stops unrouted. Assumes nothing.
-use mathlib.Core.Path.{_≡_, refl, sym, ap, _∙_}
-use Prim.Native.Nat.{ℕ, suc, _+_, _-_, _*_, _≤_, _<_}
+use mathlib.Core.Path.{_≡_, sym, ap, _∙_}
+use Prim.Native.Nat.{ℕ, suc, _+_, _≤_, _<_}
 use native.Mathlib.Numerals.{add-one}
 use native.Mathlib.Omega.{arith}
 use mathlib.Core.List.{List, [], _∷_}
 use lib.ListN.{length, getD, drop}
 use lib.Seq.{drop-cons, drop-length}
 use borrow.Author.Tests.{lt-leb, le-leb}
+use Rattle.lists.specs.Every.{every-of, every-at}
 use Rattle.sheet.specs.Fields.{rowsOf}
 use Rattle.sheet.specs.Values.{demandOf}
-use Rattle.sheet.specs.Accepted.{Accepted}
 use Rattle.sheet.specs.Finite.{demand-bounded}
-use Rattle.evaluation.specs.Routed.{Routed}
-use Rattle.plan.specs.Every.{Every, every-of, every-at, loadOf}
-use Rattle.plan.specs.Unchecked.{Windowless}
-use Rattle.plan.specs.declared.terms.Terms.{Terms}
-use Rattle.solomon_i1.specs.declared.choice.Choice.{Choice}
-use Rattle.solomon_i1.specs.declared.choice.Choice.the-variants.{Nowhere}
+use Rattle.constructive.specs.Load.{loadOf}
+use Rattle.constructive.specs.Unchecked.{Windowless}
+use Rattle.constructive.specs.declared.terms.Terms.{Terms}
+use Rattle.constructive.proofs.Loading.{load-few}
+use Rattle.insertion.specs.declared.choice.Choice.{Choice}
+use Rattle.insertion.specs.declared.choice.Choice.the-variants.{Nowhere}
+use Rattle.insertion.specs.declared.place.Tried.{Tried}
+use Rattle.insertion.specs.Place.{tryPlaces}
+use Rattle.insertion.specs.Trial.{Trial, Joinable}
+use Rattle.insertion.proofs.Trying.{trial-long, joins}
 use Rattle.solomon_i1.specs.declared.judging.Figures.{Figures}
-use Rattle.solomon_i1.specs.declared.judging.Tried.{Tried}
-use Rattle.solomon_i1.specs.Insertion.{judge, better, tryPlaces, tryStop, tryStops}
-use Rattle.solomon_i1.specs.Trial.{Trial, Joinable, figuresOf}
-use Rattle.solomon_i1.proofs.Trying.{trial-long, joins}
-
--- ---- the load of a round
-pub record Loading (s route : List ℕ) (load i end : ℕ) : Type 0 where
-  pub last : end ≡ length route
-  pub within : i ≤ end
-  pub few : load ≤ 1000000 * i
-  pub same : load + loadOf s (drop i route) ≡ loadOf s route
-
-pub loading : (s route : List ℕ) → Loading s route 0 0 (length route)
-loading s route = record { last = refl; within = omega arith; few = omega arith; same = omega arith }
-
-module _ (s route : List ℕ) (load i end : ℕ) (g : Loading s route load i end) where
-  pub loads : (demand depot : ℕ) → Routed s depot route → i < end → demand ≡ demandOf s (getD route i 0) → Loading s route (load + demand) (i + 1) end
-  unfolding loadOf
-  loads demand depot ok h e =
-      let k : i < length route = omega (arith, g .last) in
-      let rest : loadOf s (drop i route) ≡ demandOf s (getD route i 0) + loadOf s (drop (i + 1) route) = ap (loadOf s) (drop-cons route i 0 k) ∙ ap (λ (n : ℕ). demandOf s (getD route i 0) + loadOf s (drop n route)) (sym (add-one i)) in
-      record {
-        last = g .last;
-        within = omega arith;
-        few = omega (arith, g .few, demand-bounded s (ok .sheet) (getD route i 0) (ok .row i k));
-        same = omega (arith, rest, g .same);
-      }
-
-  pub loaded : end ≤ i → load ≡ loadOf s route
-  unfolding loadOf
-  loaded h =
-      let e : i ≡ length route = omega (arith, g .last, g .within) in
-      let none : loadOf s (drop i route) ≡ 0 = rw (e, drop-length route) in
-      omega (arith, none, g .same)
-
--- and a bound on it
-pub load-few : (s : List ℕ) → Accepted s → (route : List ℕ) → Every (λ (i : ℕ). i < rowsOf s) route → loadOf s route ≤ 1000000 * length route
-unfolding loadOf
-load-few s a [] e = omega arith
-load-few s a (i ∷ is) e = omega (arith, demand-bounded s a i (e .0), load-few s a is (e .1))
-
--- ---- over the places
-pub record Placing (s : List ℕ) (t : Terms) (route : List ℕ) (j row : ℕ) (tried₀ tried : Tried) (trial : List ℕ) (k end : ℕ) : Type 0 where
-  pub last : end ≡ length route + 1
-  pub within : k ≤ end
-  pub holds : Trial route row (tried .at) trial
-  pub same : tryPlaces s t route j row (tried₀ .choice) (suc (length route)) 0 ≡ tryPlaces s t route j row (tried .choice) (end - k) k
-
-pub placing : (s : List ℕ) (t : Terms) (route : List ℕ) (j row : ℕ) (tried : Tried) (trial : List ℕ) → Trial route row (tried .at) trial → Placing s t route j row tried tried trial 0 (length route + 1)
-placing s t route j row tried trial g = record {
-  last = refl;
-  within = omega arith;
-  holds = g;
-  same = ap (λ (n : ℕ). tryPlaces s t route j row (tried .choice) n 0) (let e : suc (length route) ≡ length route + 1 - 0 = omega arith in e);
-}
-
-module _ (s : List ℕ) (t : Terms) (route : List ℕ) (j row : ℕ) (tried₀ tried : Tried) (trial : List ℕ) (k end : ℕ) (g : Placing s t route j row tried₀ tried trial k end) where
-  pub places : (tried′ : Tried) (trial′ : List ℕ) → k < end → tried′ .choice ≡ better (tried .choice) j k (judge s t route row k) → Trial route row (tried′ .at) trial′
-      → Placing s t route j row tried₀ tried′ trial′ (k + 1) end
-  unfolding tryPlaces
-  places tried′ trial′ h e f = record {
-    last = g .last;
-    within = omega arith;
-    holds = f;
-    same =
-        g .same
-        ∙ ap (λ (n : ℕ). tryPlaces s t route j row (tried .choice) n k) (let n : end - k ≡ suc (end - (k + 1)) = omega arith in n)
-        ∙ ap (λ (c : Choice). tryPlaces s t route j row c (end - (k + 1)) (k + 1)) (sym e);
-  }
-
-  pub placed : end ≤ k → tried .choice ≡ tryPlaces s t route j row (tried₀ .choice) (suc (length route)) 0
-  unfolding tryPlaces
-  placed h = let n : end - k ≡ 0 = omega arith in sym (g .same ∙ rw n)
+use Rattle.solomon_i1.specs.Insertion.{tryStop, tryStops}
+use Rattle.solomon_i1.specs.Figures.{figuresOf}
 
 -- ---- one stop
 module _ (s : List ℕ) (t : Terms) (route : List ℕ) (row : ℕ) (figures : Figures) (told : figures ≡ figuresOf s t route) (demand : ℕ) (e : demand ≡ demandOf s row) where

@@ -6,22 +6,22 @@ use mathlib.Core.List.{List, [], _∷_, _++_, append-assoc}
 use lib.ListN.{length, getD, take, drop, length-append, length-drop}
 use lib.Seq.{length-take-le, take-all, take-at, drop-at, drop-cons, take-append-le, take-append-add, drop-append-le, drop-append-add, getD-append-add}
 use lib.Ieee.{Float}
+use Rattle.lists.specs.Every.{Every, every-of, every-at, every-drop}
+use Rattle.lists.specs.Moved.{without, without-length, without-every, inserted, inserted-length, inserted-every}
 use Rattle.wire.specs.Bytes.{write}
 use Rattle.sheet.specs.Accepted.{Accepted}
 use Rattle.sheet.specs.Fields.{rowsOf}
 use Rattle.evaluation.specs.Routed.{Routed}
-use Rattle.plan.specs.Every.{Every, every-of, every-at, every-drop}
-use Rattle.plan.specs.Unchecked.{Windowless}
-use Rattle.plan.specs.Moved.{without, without-length, without-every, inserted, inserted-length, inserted-every}
-use Rattle.plan.specs.declared.terms.Terms.{Terms}
-use Rattle.solomon_i1.specs.declared.choice.Choice.{Choice}
-use Rattle.solomon_i1.specs.declared.choice.Choice.the-variants.{Nowhere, Best}
+use Rattle.constructive.specs.Unchecked.{Windowless}
+use Rattle.constructive.specs.declared.terms.Terms.{Terms}
+use Rattle.insertion.specs.declared.choice.Choice.{Choice}
+use Rattle.insertion.specs.declared.choice.Choice.the-variants.{Nowhere, Best}
+use Rattle.insertion.specs.Trial.{Unwalked, Joinable}
+use Rattle.insertion.proofs.Sliding.{brought}
 use Rattle.solomon_i1.specs.Insertion.{bestOf, Growth, growing, grown, grownBy, grow, growOn, routeIn, leftIn, roundFrom}
 use Rattle.solomon_i1.specs.Chosen.{Chosen, best-chosen}
 use Rattle.solomon_i1.specs.Grown.{stays}
-use Rattle.solomon_i1.specs.Trial.{Unwalked, Joinable}
 use Rattle.solomon_i1.specs.Tabled.{stopsIn}
-use Rattle.solomon_i1.proofs.Sliding.{brought}
 
 -- ---- rows of the sheet
 abbrev pub Row : List ℕ → ℕ → Type 0

@@ -7,24 +7,23 @@ use mathlib.Core.Bool.{Bool, true, false}
 use mathlib.Core.List.{List, [], _∷_, _++_, append-assoc, append-nil}
 use lib.ListN.{length, getD, take, drop, length-append, length-drop, List·getD-append}
 use lib.Seq.{take-at, drop-at, take-append-le, drop-append-le, getD-append-add, append-snoc, drop-length}
+use Rattle.lists.specs.Every.{Every}
+use Rattle.lists.specs.Moved.{without, without-length, without-every, inserted-length}
 use Rattle.wire.specs.Bytes.{write}
 use Rattle.sheet.specs.Accepted.{Accepted}
 use Rattle.sheet.specs.Fields.{rowsOf}
 use Rattle.evaluation.specs.Routed.{Routed}
-use Rattle.plan.specs.declared.tables.Filled.{Filled}
-use Rattle.plan.specs.Outcome.{Round, Outcome}
-use Rattle.plan.specs.Read.{chains, stopsOf}
-use Rattle.plan.specs.Every.{Every}
-use Rattle.plan.specs.Members.{part}
-use Rattle.plan.specs.Moved.{without, without-length, without-every, inserted-length}
-use Rattle.plan.specs.Laid.{routedIn, Room}
-use Rattle.plan.specs.LaidLaws.{chains-aside, chains-append, length-chains, routed-append}
-use Rattle.plan.specs.Entered.{Entered, enters-none, rounds-at, routed-at, ends-long, vehicles-long, enters-one}
-use Rattle.plan.specs.declared.terms.Terms.{Terms}
+use Rattle.constructive.specs.declared.tables.Filled.{Filled}
+use Rattle.constructive.specs.Outcome.{Round, Outcome, chains, stopsOf}
+use Rattle.constructive.specs.Members.{part}
+use Rattle.constructive.specs.Laid.{routedIn, Room}
+use Rattle.constructive.specs.LaidLaws.{chains-aside, chains-append, length-chains, routed-append}
+use Rattle.constructive.specs.Entered.{Entered, enters-none, rounds-at, routed-at, ends-long, vehicles-long, enters-one}
+use Rattle.constructive.specs.declared.terms.Terms.{Terms}
+use Rattle.insertion.specs.Trial.{Joinable}
 use Rattle.solomon_i1.specs.Insertion.{seedOf, goesAlone, Growth, growing, routeIn, leftIn, roundFrom, Step, stepWith, stepFrom, stepOf, leftBy, planBy, planOn}
 use Rattle.solomon_i1.specs.Grown.{grow-on-kept}
 use Rattle.solomon_i1.specs.Planned.{seed-place, round-fewer, step-fewer, enough}
-use Rattle.solomon_i1.specs.Trial.{Joinable}
 use Rattle.solomon_i1.specs.Tabled.{stopsIn}
 use Rattle.solomon_i1.proofs.Grows.{without-behind, joinable-so}
 

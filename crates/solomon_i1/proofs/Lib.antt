@@ -1,6 +1,3 @@
-pub mod Sliding
-pub mod Trying
-pub mod Judged
 pub mod Choosing
 pub mod Seeking
 pub mod Grows

@@ -10,17 +10,17 @@ use Rattle.wire.specs.Bytes.{write}
 use Rattle.sheet.specs.Values.{vehicleOf}
 use Rattle.evaluation.specs.Limits.{limitsOf}
 use Rattle.evaluation.specs.Routed.{Routed}
-use Rattle.plan.specs.declared.tables.Filled.{Filled}
-use Rattle.plan.specs.declared.terms.Terms.{Terms}
-use Rattle.plan.specs.Read.{stopsOf}
-use Rattle.plan.specs.Members.{part, Members}
-use Rattle.plan.specs.Unchecked.{unchecked-free, unchecked-windowless}
-use Rattle.plan.specs.Terms.{termsOf}
-use Rattle.plan.specs.Laid.{filledBy, Laid, Room}
-use Rattle.plan.specs.Entered.{Entered}
+use Rattle.constructive.specs.declared.tables.Filled.{Filled}
+use Rattle.constructive.specs.declared.terms.Terms.{Terms}
+use Rattle.constructive.specs.Outcome.{stopsOf}
+use Rattle.constructive.specs.Members.{part, Members}
+use Rattle.constructive.specs.Unchecked.{unchecked-free, unchecked-windowless}
+use Rattle.constructive.specs.Terms.{termsOf}
+use Rattle.constructive.specs.Laid.{filledBy, Laid, Room}
+use Rattle.constructive.specs.Entered.{Entered}
+use Rattle.insertion.specs.Trial.{Joinable}
 use Rattle.solomon_i1.specs.Insertion.{planOn, solomonI1}
 use Rattle.solomon_i1.specs.Free.{unchecked-hard}
-use Rattle.solomon_i1.specs.Trial.{Joinable}
 
 -- all may join a round that has no stop
 members-joinable : (s : List ℕ) (depot v : ℕ) (members : List ℕ) → Routed s depot members → Joinable s (termsOf s depot v members) [] members

@@ -7,14 +7,15 @@ use mathlib.Core.List.{List, [], _∷_}
 use lib.Dec.{T, leb}
 use lib.ListN.{length}
 use borrow.Author.Tests.{le-leb}
+use Rattle.lists.specs.Every.{Every}
 use Rattle.sheet.specs.Values.{demandOf, vehicleOf}
 use Rattle.evaluation.specs.Limits.{limitsOf}
 use Rattle.evaluation.specs.Feasible.{routeFeasible}
-use Rattle.plan.specs.Outcome.{Outcome}
-use Rattle.plan.specs.Every.{Every}
-use Rattle.plan.specs.declared.terms.Terms.{Terms}
-use Rattle.plan.specs.Terms.{termsOf, Meant, terms-meant}
-use Rattle.solomon_i1.specs.Insertion.{feasibleIn, goesAlone, solomonI1}
+use Rattle.constructive.specs.Outcome.{Outcome}
+use Rattle.constructive.specs.declared.terms.Terms.{Terms}
+use Rattle.constructive.specs.Terms.{termsOf, Meant, terms-meant}
+use Rattle.insertion.specs.Place.{feasibleIn}
+use Rattle.solomon_i1.specs.Insertion.{goesAlone, solomonI1}
 use Rattle.solomon_i1.specs.Planned.{seedIn, Seeds, planned}
 
 -- over capacity alone, or not feasible

@@ -3,11 +3,11 @@
 use mathlib.Core.Path.{_≡_, refl}
 use Prim.Native.Nat.{ℕ}
 use mathlib.Core.List.{List, [], _∷_, _++_}
-use lib.ListN.{replicate}
 use lib.Ieee.{add, sub, mul, div, ofBits, lt, le}
 use Rattle.wire.specs.Bytes.{le as number, bytes, f64At}
 use Rattle.sheet.specs.Fields.{rowsOf, vehiclesOf, timesOf, rowMarks, vehicleMarks, marked}
 use Rattle.sheet.specs.Values.{gateAt, demandOf, stopOf, limitAt, restAfter, vehicleOf, distanceOf, timeOf, fixedInDistance}
+use Rattle.sheet.specs.SheetA.{one, four, ten, f64s, header, row, none, vehicle, table, sheetA, carrying}
 use Rattle.evaluation.specs.Window.{waitingOf, latenessOf, violatedOf}
 use Rattle.evaluation.specs.Serve.{pass, serveOf}
 use Rattle.evaluation.specs.Clock.{stepOf as served}
@@ -15,19 +15,15 @@ use Rattle.evaluation.specs.Walk.{unrested, walkFrom, walkOf}
 use Rattle.evaluation.specs.Limits.{allowOf}
 use Rattle.evaluation.specs.Feasible.{scheduledOf, keptBy, routeFeasible, evalBy, routeEval, costOf, effectiveCost}
 use Rattle.evaluation.specs.Checks.{someWindowed, hasSoftWindows}
-use Rattle.plan.specs.Outcome.{Outcome}
-use Rattle.plan.specs.Every.{loadOf}
-use Rattle.plan.specs.SheetA.{one, four, ten, f64s, header, row, none, rows, vehicle, table, sheetA}
-use Rattle.plan.specs.Terms.{termsOf}
-use Rattle.solomon_i1.specs.Insertion.{farthestFrom, judge, tryPlaces, tryStops, grow, growOn, stepOf, planOn, solomonI1}
+use Rattle.constructive.specs.Outcome.{Outcome}
+use Rattle.constructive.specs.Load.{loadOf}
+use Rattle.constructive.specs.Terms.{termsOf}
+use Rattle.insertion.specs.Place.{judge, tryPlaces}
+use Rattle.solomon_i1.specs.Insertion.{farthestFrom, tryStops, grow, growOn, stepOf, planOn, solomonI1}
 
 -- sheet A with a due time of stop 1
 abbrev pub due : ℕ → List ℕ
 due end = header 3 1 1 ++ ((row 0 0 0 none ++ (row 10 1 2 (0 ∷ 0 ∷ end ∷ 0 ∷ []) ++ row 0xffff_fff6 1 0 none)) ++ (vehicle 0 ++ table))
-
--- with a capacity of its vehicle
-abbrev pub carrying : ℕ → List ℕ
-carrying capacity = header 3 1 1 ++ (rows ++ (bytes 4 7 ++ (bytes 4 0 ++ (bytes 4 capacity ++ (bytes 4 0 ++ (bytes 8 one ++ (replicate 48 0 ++ table)))))))
 
 abbrev planned : List ℕ → Outcome
 planned s = solomonI1 s 0 0 (1 ∷ 2 ∷ [])

@@ -8,11 +8,12 @@ use mathlib.Core.List.{List, [], _∷_}
 use lib.Dec.{T, eqb}
 use lib.ListN.{length, getD}
 use borrow.Author.Tests.{eqb-true, eqb-false}
-use Rattle.plan.specs.Every.{Every}
-use Rattle.plan.specs.declared.terms.Terms.{Terms}
-use Rattle.solomon_i1.specs.declared.choice.Choice.{Choice}
-use Rattle.solomon_i1.specs.declared.choice.Choice.the-variants.{Nowhere, Best}
-use Rattle.solomon_i1.specs.Insertion.{Judged, unfit, costs, judge, wins, better, tryPlaces, carries, tryStop, tryStops, bestOf}
+use Rattle.lists.specs.Every.{Every}
+use Rattle.constructive.specs.declared.terms.Terms.{Terms}
+use Rattle.insertion.specs.declared.choice.Choice.{Choice}
+use Rattle.insertion.specs.declared.choice.Choice.the-variants.{Nowhere, Best}
+use Rattle.insertion.specs.Place.{Judged, unfit, costs, judge, wins, better, tryPlaces, carries}
+use Rattle.solomon_i1.specs.Insertion.{tryStop, tryStops, bestOf}
 
 -- ---- what is chosen
 abbrev pub Fit : Judged → Type 0

@@ -10,25 +10,29 @@ use lib.Dec.{T, eqb}
 use lib.Ieee.{Float}
 use lib.ListN.{length, getD, take, drop}
 use borrow.Author.Tests.{eqb-true, le-leb}
+use Rattle.lists.specs.Count.{one, count}
+use Rattle.lists.specs.Once.{count-append}
+use Rattle.lists.specs.Same.{every-counted}
+use Rattle.lists.specs.Every.{Every, every-of, every-append, every-take, every-drop}
+use Rattle.lists.specs.Moved.{without, without-every, inserted}
+use Rattle.lists.specs.Ascending.{Ascending}
 use Rattle.sheet.specs.Values.{demandOf}
 use Rattle.sheet.specs.Finite.{distance-bounded}
 use Rattle.evaluation.specs.Checks.{hasSoftWindows}
 use Rattle.evaluation.specs.Routed.{Routed}
-use Rattle.plan.specs.Outcome.{Round, Outcome}
-use Rattle.plan.specs.Read.{one, count, chains}
-use Rattle.plan.specs.Once.{count-append}
-use Rattle.plan.specs.Same.{every-counted}
-use Rattle.plan.specs.Every.{Every, every-of, every-append, every-take, every-drop, loadOf}
-use Rattle.plan.specs.Moved.{without, without-every, inserted}
-use Rattle.plan.specs.declared.terms.Terms.{Terms}
-use Rattle.plan.specs.Terms.{termsOf, Meant, terms-meant}
-use Rattle.solomon_i1.specs.Insertion.{feasibleIn, detour, unfit, judged, growing, routeIn, leftIn, seedOf, solomonI1}
-use Rattle.solomon_i1.specs.Judging.{hard-judge}
+use Rattle.constructive.specs.Outcome.{Round, Outcome, chains, roundAt}
+use Rattle.constructive.specs.Load.{loadOf}
+use Rattle.constructive.specs.declared.terms.Terms.{Terms}
+use Rattle.constructive.specs.Terms.{termsOf, Meant, terms-meant}
+use Rattle.insertion.specs.Place.{feasibleIn, detour, unfit, judged}
+use Rattle.insertion.specs.Judging.{hard-judge}
+use Rattle.insertion.specs.Fits.{ClosedTo}
+use Rattle.solomon_i1.specs.Insertion.{growing, routeIn, leftIn, seedOf, solomonI1}
 use Rattle.solomon_i1.specs.Chosen.{Shut}
 use Rattle.solomon_i1.specs.Grown.{grow-on-kept, grow-on-shut}
 use Rattle.solomon_i1.specs.Planned.{seedIn, restIn, roundIn, Seeds, planned}
 use Rattle.solomon_i1.specs.Permutation.{Same, seeds-same}
-use Rattle.solomon_i1.specs.Later.{ClosedTo, seedsFirst, Ascending, roundAt, ClosedHigher, ClosedAside}
+use Rattle.solomon_i1.specs.Later.{seedsFirst, ClosedHigher, ClosedAside}
 use Rattle.solomon_i1.specs.First.{Leg, seed-first}
 
 -- ---- what stands in an outcome

@@ -9,13 +9,16 @@ use lib.Dec.{T, leb, leb→le}
 use lib.Ieee.{Float}
 use lib.Ieee.Fits.{and-l, and-r}
 use lib.ListN.{length, getD}
+use Rattle.lists.specs.Every.{Every, every-map}
+use Rattle.lists.specs.Moved.{inserted-length, inserted}
 use Rattle.sheet.specs.Values.{demandOf}
-use Rattle.plan.specs.Outcome.{Round, Outcome}
-use Rattle.plan.specs.Every.{Every, every-map, loadOf, OfFleet, of-first, Feasible}
-use Rattle.plan.specs.Moved.{inserted-load, inserted-length, inserted}
-use Rattle.plan.specs.declared.terms.Terms.{Terms}
-use Rattle.plan.specs.Terms.{termsOf, Meant, terms-meant}
-use Rattle.solomon_i1.specs.Insertion.{feasibleIn, goesAlone, addedCost, tooDear, judged, fits, judge, growing, routeIn, solomonI1}
+use Rattle.constructive.specs.Outcome.{Round, Outcome}
+use Rattle.constructive.specs.Load.{loadOf, inserted-load}
+use Rattle.constructive.specs.Rounds.{OfFleet, of-first, Feasible}
+use Rattle.constructive.specs.declared.terms.Terms.{Terms}
+use Rattle.constructive.specs.Terms.{termsOf, Meant, terms-meant}
+use Rattle.insertion.specs.Place.{feasibleIn, addedCost, tooDear, judged, fits, judge}
+use Rattle.solomon_i1.specs.Insertion.{goesAlone, growing, routeIn, solomonI1}
 use Rattle.solomon_i1.specs.Chosen.{Fit}
 use Rattle.solomon_i1.specs.Grown.{Keeps, grow-on-kept}
 use Rattle.solomon_i1.specs.Planned.{seedIn, restIn, roundIn, Seeds, planned}

@@ -10,15 +10,16 @@ use lib.ListN.{length, getD, take, drop, length-drop}
 use lib.Seq.{length-take-le, getD-take, getD-drop}
 use lib.Ieee.{Float, nan, inf, fin, lt, eq, up, down, isNan, ofBits, ofFields, odd}
 use borrow.Author.Tests.{ltb-true, eqb-true, eqb-false, le-ltb, ne-eqb}
+use Rattle.lists.specs.Every.{Every, every-of, every-at, every-append}
+use Rattle.lists.specs.Moved.{without}
+use Rattle.lists.specs.Ascending.{Ascending}
 use Rattle.numbers.specs.Upto.{Upto, no-nan}
 use Rattle.numbers.specs.Range.{zero-upto}
 use Rattle.sorting.specs.Descending.{lt-asym, lt-through}
 use Rattle.sheet.specs.Values.{nought, distanceOf}
-use Rattle.plan.specs.Every.{Every, every-of, every-at, every-append}
-use Rattle.plan.specs.Moved.{without}
 use Rattle.solomon_i1.specs.Insertion.{Farthest, farther, farthestFrom, unseen, seedOf}
 use Rattle.solomon_i1.specs.Planned.{seed-place}
-use Rattle.solomon_i1.specs.Later.{seedsFirst, Ascending}
+use Rattle.solomon_i1.specs.Later.{seedsFirst}
 
 -- ---- floats
 same-not-less : (x : Float) → lt x x ≡ false

@@ -8,9 +8,9 @@ use Rattle.sheet.specs.declared.customer.Gate.{Gate}
 use Rattle.sheet.specs.declared.customer.Gate.the-variants.{Open, Hard, Soft}
 use Rattle.evaluation.specs.Limits.{limitsOf, isUnlimited}
 use Rattle.evaluation.specs.Checks.{windowed, rowWindowed, someWindowed, hasTimeWindows, hasSoftWindows, routeChecksNeeded}
-use Rattle.plan.specs.Unchecked.{neither, unchecked-free, unchecked-windowless}
-use Rattle.plan.specs.Terms.{termsOf}
-use Rattle.solomon_i1.specs.Trial.{Unwalked}
+use Rattle.constructive.specs.Unchecked.{neither, unchecked-free, unchecked-windowless}
+use Rattle.constructive.specs.Terms.{termsOf}
+use Rattle.insertion.specs.Trial.{Unwalked}
 
 -- ---- without a window there is no soft one
 not-soft : (g : Gate) → windowed false g ≡ false → windowed true g ≡ false

@@ -4,11 +4,11 @@ use Prim.Native.Nat.{ℕ, zero, suc, _≤_, _<_}
 use native.Mathlib.Omega.{arith}
 use mathlib.Core.List.{List, [], _∷_}
 use lib.ListN.{length, getD}
-use Rattle.plan.specs.Every.{Every}
-use Rattle.plan.specs.Moved.{without, inserted, without-length}
-use Rattle.plan.specs.declared.terms.Terms.{Terms}
-use Rattle.solomon_i1.specs.declared.choice.Choice.{Choice}
-use Rattle.solomon_i1.specs.declared.choice.Choice.the-variants.{Nowhere, Best}
+use Rattle.lists.specs.Every.{Every}
+use Rattle.lists.specs.Moved.{without, inserted, without-length}
+use Rattle.constructive.specs.declared.terms.Terms.{Terms}
+use Rattle.insertion.specs.declared.choice.Choice.{Choice}
+use Rattle.insertion.specs.declared.choice.Choice.the-variants.{Nowhere, Best}
 use Rattle.solomon_i1.specs.Insertion.{bestOf, Growth, growing, grown, grownBy, grow, growOn, routeIn, leftIn}
 use Rattle.solomon_i1.specs.Chosen.{Place, Chosen, best-chosen, Shut, none-shut}
 

@@ -1,7 +1,5 @@
 pub mod Insertion
 pub mod Cases
-pub mod Judging
-pub mod Trial
 pub mod Free
 pub mod Chosen
 pub mod Grown
@@ -13,3 +11,4 @@ pub mod Later
 pub mod First
 pub mod Closed
 pub mod Tabled
+pub mod Figures

@@ -5,12 +5,12 @@ use native.Mathlib.Omega.{arith}
 use mathlib.Core.List.{List, [], _∷_}
 use lib.Dec.{eqb}
 use lib.ListN.{length}
-use Rattle.plan.specs.Outcome.{Round, Outcome}
-use Rattle.plan.specs.Read.{one, count, chains, stopsOf}
-use Rattle.plan.specs.Once.{count-append}
-use Rattle.plan.specs.Moved.{without-count}
-use Rattle.plan.specs.declared.terms.Terms.{Terms}
-use Rattle.plan.specs.Terms.{termsOf}
+use Rattle.lists.specs.Count.{one, count}
+use Rattle.lists.specs.Once.{count-append}
+use Rattle.lists.specs.Moved.{without-count}
+use Rattle.constructive.specs.Outcome.{Round, Outcome, chains, stopsOf}
+use Rattle.constructive.specs.declared.terms.Terms.{Terms}
+use Rattle.constructive.specs.Terms.{termsOf}
 use Rattle.solomon_i1.specs.Insertion.{seedOf, routeIn, planOn, solomonI1}
 use Rattle.solomon_i1.specs.Planned.{seedIn, restIn, roundIn, seed-place, round-count, Seeds, planned}
 

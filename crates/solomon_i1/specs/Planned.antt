@@ -8,11 +8,11 @@ use mathlib.Core.List.{List, [], _∷_}
 use lib.Dec.{T, eqb}
 use lib.Ieee.{lt}
 use lib.ListN.{length, getD}
+use Rattle.lists.specs.Count.{one, count}
+use Rattle.lists.specs.Moved.{without, without-count, without-length, inserted-count}
 use Rattle.sheet.specs.Values.{distanceOf}
-use Rattle.plan.specs.Outcome.{Outcome}
-use Rattle.plan.specs.Read.{one, count}
-use Rattle.plan.specs.Moved.{without, without-count, without-length, inserted-count}
-use Rattle.plan.specs.declared.terms.Terms.{Terms}
+use Rattle.constructive.specs.Outcome.{Outcome}
+use Rattle.constructive.specs.declared.terms.Terms.{Terms}
 use Rattle.solomon_i1.specs.Insertion.{Farthest, farther, farthestFrom, unseen, seedOf, goesAlone, Growth, growing, roundFrom, routeIn, leftIn, lone, closed, stepWith, stepOf, leftBy, planBy, nothing, planOn}
 use Rattle.solomon_i1.specs.Grown.{Keeps, grow-on-kept}
 

@@ -1,21 +1,21 @@
 // Rounds that grow from their seeds.
-use crate::choice::Choice;
 use crate::judging;
 use crate::seed;
-use plan::tables;
-use plan::tables::Filled;
-use plan::terms::Terms;
+use constructive::tables;
+use constructive::tables::Filled;
+use constructive::terms::Terms;
+use insertion::choice::Choice;
 ghost use mathlib.Core.Path.{_≡_};
 ghost use mathlib.Core.List.{[]};
 ghost use Prim.Native.Nat.{_+_, _≤_, _<_};
 ghost use lib.ListN.{length, getD, take, drop};
-ghost use Rattle.plan.specs.Read.{stopsOf};
-ghost use Rattle.plan.specs.Laid.{Room};
-ghost use Rattle.plan.specs.Entered.{Entered};
-ghost use Rattle.plan.specs.Moved.{without};
+ghost use Rattle.lists.specs.Moved.{without};
+ghost use Rattle.constructive.specs.Outcome.{stopsOf};
+ghost use Rattle.constructive.specs.Laid.{Room};
+ghost use Rattle.constructive.specs.Entered.{Entered};
+ghost use Rattle.insertion.specs.Trial.{Joinable};
 ghost use Rattle.solomon_i1.specs.Insertion.{bestOf, roundFrom, routeIn, planOn};
 ghost use Rattle.solomon_i1.specs.Tabled.{stopsIn};
-ghost use Rattle.solomon_i1.specs.Trial.{Joinable};
 
 // The best insertion of a stop from `end` on into the round of those before it.
 fn best_joining(sheet: &[u8], terms: Terms, stops: &[u16], end: usize, trial: &mut [u16]) -> Choice

@@ -1,11 +1,14 @@
 // The best insertion of the stops unrouted: each stop that the round can load, at each place.
-use crate::choice;
-use crate::choice::Choice;
-use crate::trial;
+use constructive::load;
+use constructive::terms::Terms;
 use evaluation::RouteEval;
-use plan::terms::Terms;
+use insertion::choice;
+use insertion::choice::Choice;
+use insertion::place;
+use insertion::place::Prices;
+use insertion::place::Tried;
+use insertion::trial;
 use sheet::customer;
-use sheet::matrix;
 ghost use mathlib.Core.Path.{_≡_};
 ghost use mathlib.Core.Bool.{false};
 ghost use mathlib.Core.List.{[], _∷_};
@@ -13,16 +16,12 @@ ghost use Prim.Native.Nat.{ℕ, suc, _+_, _≤_, _<_};
 ghost use lib.ListN.{length, getD};
 ghost use Rattle.sheet.specs.Fields.{rowsOf};
 ghost use Rattle.evaluation.specs.Routed.{Routed};
-ghost use Rattle.plan.specs.Every.{loadOf};
-ghost use Rattle.solomon_i1.specs.declared.choice.Choice.the-variants.{Nowhere};
-ghost use Rattle.solomon_i1.specs.Insertion.{prevAt, nextAt, detour, judge, better, tryPlaces, tryStop, tryStops, bestOf};
-ghost use Rattle.solomon_i1.specs.Trial.{Trial, Joinable, softCost, figuresOf, aloneCost, pricesOf, judgeTrial};
-
-// The best so far, and where the stop stands in the round on trial.
-pub struct Tried {
-    pub choice: Choice,
-    pub at: usize,
-}
+ghost use Rattle.constructive.specs.Load.{loadOf};
+ghost use Rattle.insertion.specs.declared.choice.Choice.the-variants.{Nowhere};
+ghost use Rattle.insertion.specs.Place.{prevAt, nextAt, detour, judge, better, tryPlaces};
+ghost use Rattle.insertion.specs.Trial.{Trial, Joinable, softCost, aloneCost, pricesOf, judgeTrial};
+ghost use Rattle.solomon_i1.specs.Insertion.{tryStop, tryStops, bestOf};
+ghost use Rattle.solomon_i1.specs.Figures.{figuresOf};
 
 // A round's load, and with soft windows its cost.
 pub struct Figures {
@@ -30,76 +29,12 @@ pub struct Figures {
     pub cost: f64,
 }
 
-// With soft windows: what the round costs without the stop, and what the stop must stay below.
-pub struct Prices {
-    pub round: f64,
-    pub alone: f64,
-}
-
-// The row before place k: the depot before the first stop.
-fn before_at(depot: usize, route: &[u16], k: usize) -> usize
-    requires { ⌜ k ≤ length (now route) ⌝ }
-    ensures { λ r. ⌜ r ≡ prevAt depot (now (route .entry)) k ⌝ }
-{
-    if k == 0 {
-        return depot;
-    }
-    route[k - 1] as usize
-}
-
-// The row after it: the depot after the last.
-fn behind_at(depot: usize, route: &[u16], k: usize) -> usize
-    requires { ⌜ k ≤ length (now route) ⌝ }
-    ensures { λ r. ⌜ r ≡ nextAt depot (now (route .entry)) k ⌝ }
-{
-    if k == route.len() {
-        return depot;
-    }
-    route[k] as usize
-}
-
-// The way past the stop, less the leg that it breaks.
-pub fn detour(sheet: &[u8], depot: usize, route: &[u16], row: usize, k: usize) -> f64
-    requires { ⌜ Routed (now sheet) depot (now route) ⌝ }
-    requires { ⌜ (row < rowsOf (now sheet)) × (k ≤ length (now route)) ⌝ }
-    ensures { λ r. ⌜ r ≡ detour (now (sheet .entry)) depot (now (route .entry)) row k ⌝ }
-{
-    let prev = before_at(depot, route, k);
-    let next = behind_at(depot, route, k);
-    matrix::distance(sheet, prev, row) + matrix::distance(sheet, row, next)
-        - matrix::distance(sheet, prev, next)
-}
-
-// What a round costs, which only the soft rules ask.
-pub fn soft_cost(sheet: &[u8], terms: Terms, route: &[u16]) -> f64
-    requires { ⌜ Routed (now sheet) (terms .depot) (now route) ⌝ }
-    ensures { λ r. ⌜ r ≡ softCost (now (sheet .entry)) terms (now (route .entry)) ⌝ }
-{
-    if !terms.soft {
-        return 0.0;
-    }
-    let limits = terms.limits;
-    evaluation::effective_cost(sheet, route, terms.depot, limits)
-}
-
-// What its stops ask of a vehicle.
-pub fn load_of(sheet: &[u8], route: &[u16]) -> u32
-    requires { ⌜ ((depot : ℕ) × Routed (now sheet) depot (now route)) ⌝ }
-    ensures { λ r. ⌜ r ≡ loadOf (now (sheet .entry)) (now (route .entry)) ⌝ }
-{
-    let mut load: u32 = 0;
-    for i in 0..route.len() {
-        load = load + customer::demand(sheet, route[i] as usize);
-    }
-    load
-}
-
 fn figures_of(sheet: &[u8], terms: Terms, route: &[u16]) -> Figures
     requires { ⌜ Routed (now sheet) (terms .depot) (now route) ⌝ }
     ensures { λ r. ⌜ r ≡ figuresOf (now (sheet .entry)) terms (now (route .entry)) ⌝ }
 {
-    let cost = soft_cost(sheet, terms, route);
-    let load = load_of(sheet, route);
+    let cost = place::soft_cost(sheet, terms, route);
+    let load = load::load_of(sheet, route);
     Figures { load, cost }
 }
 
@@ -109,7 +44,7 @@ fn alone_cost(sheet: &[u8], terms: Terms, row: u16) -> f64
     ensures { λ r. ⌜ r ≡ aloneCost (now (sheet .entry)) terms row ⌝ }
 {
     let lone = [row];
-    soft_cost(sheet, terms, &lone) + terms.fixed
+    place::soft_cost(sheet, terms, &lone) + terms.fixed
 }
 
 // With soft windows: the better of the best so far and the round on trial, walked once for its verdict and its cost.
@@ -155,7 +90,7 @@ fn try_hard(
     ensures { λ r. ⌜ Trial (now (route .entry)) row (r .at) (now (trial .exit)) ⌝ }
 {
     let best = tried.choice;
-    let cost = detour(sheet, terms.depot, route, row as usize, k);
+    let cost = place::detour(sheet, terms.depot, route, row as usize, k);
     if !choice::wins(cost, best) {
         return tried;
     }

@@ -1,17 +1,15 @@
 // Insertion: the farthest stop opens a round, and the cheapest insertion joins it until none is left.
-pub mod choice;
 mod growing;
-pub mod judging;
+mod judging;
 mod seed;
-pub mod trial;
 
-use plan::tables::Filled;
-use plan::terms;
+use constructive::tables::Filled;
+use constructive::terms;
 ghost use mathlib.Core.Path.{_≡_};
 ghost use Prim.Native.Nat.{_<_};
 ghost use Rattle.sheet.specs.Fields.{vehiclesOf};
-ghost use Rattle.plan.specs.Laid.{Laid, Room, filledBy};
-ghost use Rattle.plan.specs.Members.{part, Members};
+ghost use Rattle.constructive.specs.Laid.{Laid, Room, filledBy};
+ghost use Rattle.constructive.specs.Members.{part, Members};
 ghost use Rattle.solomon_i1.specs.Insertion.{solomonI1};
 
 // The members stand in `stops` from where the tables are filled up to `total`, ascending; the vehicle, by its index, makes

@@ -1,5 +1,5 @@
 // The seed of a round: the farthest of the stops left.
-use plan::terms::Terms;
+use constructive::terms::Terms;
 use sheet::customer;
 use sheet::matrix;
 ghost use mathlib.Core.Path.{_≡_};

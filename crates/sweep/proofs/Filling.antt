@@ -7,19 +7,19 @@ use mathlib.Core.Bool.{Bool, true, false}
 use mathlib.Core.List.{List, [], _∷_, _++_, append-assoc, append-nil}
 use lib.ListN.{length, getD, take, drop, length-append}
 use lib.Seq.{take-take, take-append-seam, drop-append-add, drop-drop, getD-append-seam, append-snoc}
+use Rattle.lists.specs.Every.{Every, every-of, every-at, every-append}
 use Rattle.wire.specs.Bytes.{write}
 use Rattle.wire.specs.Overwrite.{write-same}
 use Rattle.sheet.specs.Fields.{rowsOf}
 use Rattle.sheet.specs.Values.{demandOf}
-use Rattle.plan.specs.declared.tables.Filled.{Filled}
-use Rattle.plan.specs.declared.terms.Terms.{Terms}
-use Rattle.plan.specs.Outcome.{Round, Outcome}
-use Rattle.plan.specs.Read.{chains}
-use Rattle.plan.specs.Every.{Every, every-of, every-at, every-append, loadOf, load-append}
-use Rattle.plan.specs.Members.{part, Members}
-use Rattle.plan.specs.Laid.{endsFrom, vehiclesFrom, routedIn, filledBy, Laid, Room}
-use Rattle.plan.specs.LaidLaws.{routed-append}
-use Rattle.plan.specs.Closing.{laid-stops, laid-aside, laid-ends, laid-vehicles, laid-reordered, round-laid, round-counted}
+use Rattle.constructive.specs.declared.tables.Filled.{Filled}
+use Rattle.constructive.specs.declared.terms.Terms.{Terms}
+use Rattle.constructive.specs.Outcome.{Round, Outcome, chains}
+use Rattle.constructive.specs.Load.{loadOf, load-append}
+use Rattle.constructive.specs.Members.{part, Members}
+use Rattle.constructive.specs.Laid.{endsFrom, vehiclesFrom, routedIn, filledBy, Laid, Room}
+use Rattle.constructive.specs.LaidLaws.{routed-append}
+use Rattle.constructive.specs.Closing.{laid-stops, laid-aside, laid-ends, laid-vehicles, laid-reordered, round-laid, round-counted}
 use Rattle.sweep.specs.declared.rounds.Packing.{Packing}
 use Rattle.sweep.specs.Sweep.{hopeless, closes, Swept, roundOf, step, stepped, sweptFrom, nothing, last, finished, sweptBy}
 use Rattle.sweep.specs.Feasible.{closes-some}

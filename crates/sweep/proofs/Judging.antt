@@ -8,9 +8,9 @@ use lib.ListN.{length, getD}
 use borrow.Author.Tests.{lt-ltb, le-ltb}
 use Rattle.sheet.specs.Values.{demandOf}
 use Rattle.evaluation.specs.Feasible.{routeFeasible}
-use Rattle.plan.specs.declared.terms.Terms.{Terms}
-use Rattle.plan.specs.Every.{loadOf}
-use Rattle.plan.specs.Members.{part}
+use Rattle.constructive.specs.declared.terms.Terms.{Terms}
+use Rattle.constructive.specs.Load.{loadOf}
+use Rattle.constructive.specs.Members.{part}
 use Rattle.sweep.specs.Sweep.{fits, hopeless, closes}
 use Rattle.sweep.proofs.Parts.{part-none, part-one, part-more, part-some}
 

@@ -9,10 +9,10 @@ use Rattle.wire.specs.Bytes.{write}
 use Rattle.sheet.specs.Fields.{rowsOf}
 use Rattle.sheet.specs.Values.{demandOf}
 use Rattle.evaluation.specs.Routed.{Routed}
-use Rattle.plan.specs.declared.tables.Filled.{Filled}
-use Rattle.plan.specs.declared.terms.Terms.{Terms}
-use Rattle.plan.specs.Every.{loadOf}
-use Rattle.plan.specs.Members.{part, Members}
+use Rattle.constructive.specs.declared.tables.Filled.{Filled}
+use Rattle.constructive.specs.declared.terms.Terms.{Terms}
+use Rattle.constructive.specs.Load.{loadOf}
+use Rattle.constructive.specs.Members.{part, Members}
 use Rattle.sweep.specs.declared.rounds.Packing.{Packing}
 use Rattle.sweep.specs.Sweep.{hopeless, closes}
 use Rattle.sweep.specs.Met.{routeIn, nextIn, Midway, Met}

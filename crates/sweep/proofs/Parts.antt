@@ -5,14 +5,15 @@ use native.Mathlib.Omega.{arith}
 use mathlib.Core.List.{List, [], _∷_, _++_, append-assoc}
 use lib.ListN.{length, getD, take, drop, length-append, length-drop, take-append-drop}
 use lib.Seq.{length-take-le, take-suc, getD-drop, getD-take, take-take, take-add, drop-at, drop-append-le}
+use Rattle.lists.specs.Every.{Every, every-of}
 use Rattle.wire.specs.Bytes.{write}
 use Rattle.sheet.specs.Fields.{rowsOf}
 use Rattle.sheet.specs.Finite.{demand-bounded}
 use Rattle.sheet.specs.Accepted.{Accepted}
 use Rattle.sheet.specs.Values.{demandOf}
 use Rattle.evaluation.specs.Routed.{Routed}
-use Rattle.plan.specs.Every.{Every, every-of, loadOf, load-append}
-use Rattle.plan.specs.Members.{part, Members}
+use Rattle.constructive.specs.Load.{loadOf, load-append}
+use Rattle.constructive.specs.Members.{part, Members}
 
 pub part-none : (stops : List ℕ) (at : ℕ) → part stops at at ≡ []
 part-none stops at = let e : at - at ≡ 0 = omega arith in rw e

@@ -8,16 +8,18 @@ use mathlib.Core.List.{List, [], _∷_, _++_}
 use lib.Dec.{T, ltb}
 use lib.ListN.{length}
 use borrow.Author.Tests.{ltb-false}
+use Rattle.lists.specs.Every.{Every, every-append, every-map}
 use Rattle.sorting.specs.Stable.{sorted}
 use Rattle.sorting.specs.Laws.{Each, sorted-each}
 use Rattle.sheet.specs.Values.{vehicleOf, demandOf}
 use Rattle.evaluation.specs.declared.limits.RouteLimits.{RouteLimits}
 use Rattle.evaluation.specs.Limits.{limitsOf}
-use Rattle.plan.specs.Outcome.{Round}
-use Rattle.plan.specs.Every.{Every, every-append, every-map, loadOf, load-append, OfFleet, of-first, Carried, Feasible}
-use Rattle.plan.specs.Checked.{Known, members-known, stands-feasible}
-use Rattle.plan.specs.declared.terms.Terms.{Terms}
-use Rattle.plan.specs.Terms.{termsOf}
+use Rattle.constructive.specs.Outcome.{Round}
+use Rattle.constructive.specs.Load.{loadOf, load-append}
+use Rattle.constructive.specs.Rounds.{OfFleet, of-first, Carried, Feasible}
+use Rattle.constructive.specs.Checked.{Known, members-known, stands-feasible}
+use Rattle.constructive.specs.declared.terms.Terms.{Terms}
+use Rattle.constructive.specs.Terms.{termsOf}
 use Rattle.sweep.specs.Angle.{before}
 use Rattle.sweep.specs.Sweep.{fits, hopeless, closes, Swept, step, stepped, sweptFrom, nothing, last, finished, sweptBy, sweep}
 

@@ -6,9 +6,9 @@ use mathlib.Core.List.{List, [], _∷_, _++_}
 use lib.ListN.{getD}
 use Rattle.wire.specs.Bytes.{write}
 use Rattle.sheet.specs.Values.{demandOf}
-use Rattle.plan.specs.declared.terms.Terms.{Terms}
-use Rattle.plan.specs.Every.{loadOf}
-use Rattle.plan.specs.Members.{part}
+use Rattle.constructive.specs.declared.terms.Terms.{Terms}
+use Rattle.constructive.specs.Load.{loadOf}
+use Rattle.constructive.specs.Members.{part}
 use Rattle.sweep.specs.declared.rounds.Packing.{Packing}
 use Rattle.sweep.specs.Sweep.{hopeless, closes}
 

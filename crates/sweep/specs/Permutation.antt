@@ -6,13 +6,13 @@ use mathlib.Core.Bool.{Bool, true, false, cond}
 use mathlib.Core.List.{List, [], _∷_, _++_, append-nil}
 use lib.Dec.{eqb}
 use lib.ListN.{length}
+use Rattle.lists.specs.Count.{one, count}
+use Rattle.lists.specs.Once.{count-append}
 use Rattle.sorting.specs.Stable.{sorted}
 use Rattle.sorting.specs.Laws.{kept, sorted-count}
-use Rattle.plan.specs.Outcome.{Round}
-use Rattle.plan.specs.Read.{one, count, chains, stopsOf}
-use Rattle.plan.specs.Once.{count-append}
-use Rattle.plan.specs.declared.terms.Terms.{Terms}
-use Rattle.plan.specs.Terms.{termsOf}
+use Rattle.constructive.specs.Outcome.{Round, chains, stopsOf}
+use Rattle.constructive.specs.declared.terms.Terms.{Terms}
+use Rattle.constructive.specs.Terms.{termsOf}
 use Rattle.sweep.specs.Angle.{before}
 use Rattle.sweep.specs.Sweep.{hopeless, closes, Swept, roundOf, step, stepped, sweptFrom, nothing, last, finished, sweptBy, sweep}
 

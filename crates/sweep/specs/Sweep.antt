@@ -6,10 +6,10 @@ use lib.Dec.{ltb}
 use Rattle.sorting.specs.Stable.{sorted}
 use Rattle.sheet.specs.Values.{demandOf}
 use Rattle.evaluation.specs.Feasible.{routeFeasible}
-use Rattle.plan.specs.Outcome.{Round, Outcome}
-use Rattle.plan.specs.Every.{loadOf}
-use Rattle.plan.specs.declared.terms.Terms.{Terms}
-use Rattle.plan.specs.Terms.{termsOf}
+use Rattle.constructive.specs.Outcome.{Round, Outcome}
+use Rattle.constructive.specs.Load.{loadOf}
+use Rattle.constructive.specs.declared.terms.Terms.{Terms}
+use Rattle.constructive.specs.Terms.{termsOf}
 use Rattle.sweep.specs.Angle.{before}
 
 -- ---- the tests

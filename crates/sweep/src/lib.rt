@@ -3,13 +3,13 @@ mod angle;
 mod by_angle;
 mod rounds;
 
-use plan::tables::Filled;
-use plan::terms;
+use constructive::tables::Filled;
+use constructive::terms;
 ghost use mathlib.Core.Path.{_≡_};
 ghost use Prim.Native.Nat.{_<_};
 ghost use Rattle.sheet.specs.Fields.{vehiclesOf};
-ghost use Rattle.plan.specs.Laid.{Laid, Room, filledBy};
-ghost use Rattle.plan.specs.Members.{part, Members};
+ghost use Rattle.constructive.specs.Laid.{Laid, Room, filledBy};
+ghost use Rattle.constructive.specs.Members.{part, Members};
 ghost use Rattle.sweep.specs.Sweep.{sweep};
 
 // The members stand in `stops` from where the tables are filled up to `total`, ascending; the vehicle is the depot's first, by

@@ -1,8 +1,8 @@
 // Stops packed into rounds in the order in which they stand, in place: the rounds closed come first, then the one that is
 // being filled, the stops not met yet, and those set aside.
-use plan::tables;
-use plan::tables::Filled;
-use plan::terms::Terms;
+use constructive::tables;
+use constructive::tables::Filled;
+use constructive::terms::Terms;
 use sheet::customer;
 ghost use mathlib.Core.Path.{_≡_};
 ghost use mathlib.Core.List.{[], _∷_, _++_};
@@ -11,9 +11,9 @@ ghost use lib.ListN.{length, getD};
 ghost use Rattle.wire.specs.Bytes.{write};
 ghost use Rattle.sheet.specs.Values.{demandOf};
 ghost use Rattle.evaluation.specs.Routed.{Routed};
-ghost use Rattle.plan.specs.Every.{loadOf};
-ghost use Rattle.plan.specs.Laid.{Laid, Room, filledBy};
-ghost use Rattle.plan.specs.Members.{part, Members};
+ghost use Rattle.constructive.specs.Load.{loadOf};
+ghost use Rattle.constructive.specs.Laid.{Laid, Room, filledBy};
+ghost use Rattle.constructive.specs.Members.{part, Members};
 ghost use Rattle.sweep.specs.Sweep.{fits, hopeless, closes, sweptBy};
 ghost use Rattle.sweep.specs.Met.{Midway, Met};
 

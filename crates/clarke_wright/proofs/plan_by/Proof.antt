@@ -4,10 +4,10 @@ use native.Mathlib.Omega.{arith}
 use lib.Seq.{length-take-le}
 use borrow.Author.Needs.{needs}
 use Rattle.evaluation.specs.Routed.{Routed}
-use Rattle.plan.specs.Terms.{termsOf}
-use Rattle.plan.specs.Members.{part}
-use Rattle.savings.specs.declared.terms.Directed.{Directed}
-use Rattle.savings.specs.Savings.{directedOf}
+use Rattle.constructive.specs.Terms.{termsOf}
+use Rattle.constructive.specs.Members.{part}
+use Rattle.clarke_wright_savings.specs.declared.terms.Directed.{Directed}
+use Rattle.clarke_wright_savings.specs.Savings.{directedOf}
 use Rattle.clarke_wright.proofs.Planned.{members-long, laying, aside-within, aside-fits, planned-count, planned-laid}
 use Rattle.clarke_wright.proofs.plan_by.Statement.{statement}
 use Rattle.clarke_wright.proofs.plan_by.Tie as tie

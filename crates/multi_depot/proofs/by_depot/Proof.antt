@@ -5,11 +5,11 @@ use native.Mathlib.Omega.{arith}
 use lib.ListN.{length, replicate}
 use lib.Seq.{length-take-le}
 use borrow.Author.Tests.{not-true}
-use Rattle.sheet.specs.Fields.{rowsOf}
-use Rattle.offers.specs.ByDepot.{planned, byDepot}
-use Rattle.offers.specs.Asked.{Lent, Planned}
-use Rattle.multi_depot.proofs.Settling.{planned-still, room-aside, gathered-held}
 use borrow.Author.Needs.{needs}
+use Rattle.sheet.specs.Fields.{rowsOf}
+use Rattle.multi_depot_offers.specs.ByDepot.{planned, byDepot}
+use Rattle.multi_depot_offers.specs.Asked.{Lent, Planned}
+use Rattle.multi_depot.proofs.Settling.{planned-still, room-aside, gathered-held}
 use Rattle.multi_depot.proofs.by_depot.Statement.{statement}
 use Rattle.multi_depot.proofs.by_depot.Tie as tie
 

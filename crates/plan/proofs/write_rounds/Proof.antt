@@ -4,8 +4,9 @@ use Prim.Native.Nat.{_-_, _≤_, _<_}
 use native.Mathlib.Omega.{arith}
 use lib.ListN.{length, getD}
 use borrow.Author.Needs.{needs}
+use Rattle.constructive.proofs.InTables.{part, round-of}
 use Rattle.plan.specs.Written.{writable}
-use Rattle.plan.proofs.Counting.{Counting, part, round-of, begins, goes-on, ends-plan, ends-price}
+use Rattle.plan.proofs.Counting.{Counting, begins, goes-on, ends-plan, ends-price}
 use Rattle.plan.proofs.write_rounds.Statement.{statement}
 use Rattle.plan.proofs.write_rounds.Tie as tie
 

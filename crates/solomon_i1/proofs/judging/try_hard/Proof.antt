@@ -4,9 +4,9 @@ use mathlib.Core.Path.{refl, sym, ap, _∙_}
 use native.Mathlib.Omega.{arith}
 use mathlib.Core.Bool.{true}
 use borrow.Author.Tests.{not-true, not-false}
-use Rattle.solomon_i1.specs.Insertion.{feasibleIn}
-use Rattle.solomon_i1.proofs.Trying.{trial-long, slides, joins, routed}
-use Rattle.solomon_i1.proofs.Judged.{hard-lost, hard-out, hard-won, free-passes}
+use Rattle.insertion.specs.Place.{feasibleIn}
+use Rattle.insertion.proofs.Trying.{trial-long, slides, joins, routed}
+use Rattle.insertion.proofs.Judged.{hard-lost, hard-out, hard-won, free-passes}
 use Rattle.solomon_i1.proofs.judging.try_hard.Statement.{statement}
 use Rattle.solomon_i1.proofs.judging.try_hard.Tie as tie
 

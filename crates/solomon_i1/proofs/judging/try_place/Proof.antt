@@ -3,9 +3,9 @@ use borrow.Author.Needs.{needs}
 use mathlib.Core.Path.{ap, _∙_}
 use native.Mathlib.Omega.{arith}
 use borrow.Author.Tests.{not-true, not-false}
-use Rattle.solomon_i1.specs.Insertion.{better}
-use Rattle.solomon_i1.proofs.Trying.{trial-long, slides, routed}
-use Rattle.solomon_i1.proofs.Judged.{soft-told}
+use Rattle.insertion.specs.Place.{better}
+use Rattle.insertion.proofs.Trying.{trial-long, slides, routed}
+use Rattle.insertion.proofs.Judged.{soft-told}
 use Rattle.solomon_i1.proofs.judging.try_place.Statement.{statement}
 use Rattle.solomon_i1.proofs.judging.try_place.Tie as tie
 

@@ -3,8 +3,8 @@ use borrow.Author.Needs.{needs}
 use mathlib.Core.Path.{sym, _∙_}
 use Prim.Native.Nat.{_-_}
 use native.Mathlib.Omega.{arith}
-use Rattle.solomon_i1.proofs.Trying.{trial-long}
-use Rattle.solomon_i1.proofs.Choosing.{Placing, placing, places, placed}
+use Rattle.insertion.proofs.Trying.{trial-long}
+use Rattle.insertion.proofs.Placing.{Placing, placing, places, placed}
 use Rattle.solomon_i1.proofs.judging.try_places.Statement.{statement}
 use Rattle.solomon_i1.proofs.judging.try_places.Tie as tie
 

@@ -2,7 +2,7 @@
 use borrow.Author.Needs.{needs}
 use mathlib.Core.Path.{sym, _∙_}
 use native.Mathlib.Omega.{arith}
-use Rattle.solomon_i1.proofs.Trying.{trial-long, any-stop, written, joins}
+use Rattle.insertion.proofs.Trying.{trial-long, any-stop, written, joins}
 use Rattle.solomon_i1.proofs.Choosing.{load-fits, left-out, taken-in}
 use Rattle.solomon_i1.proofs.judging.try_stop.Statement.{statement}
 use Rattle.solomon_i1.proofs.judging.try_stop.Tie as tie

@@ -3,7 +3,7 @@ use borrow.Author.Needs.{needs}
 use mathlib.Core.Path.{_∙_, ap}
 use lib.Ieee.{Float}
 use Rattle.evaluation.specs.Sums.{_⊖_}
-use Rattle.solomon_i1.proofs.Judged.{not-allowed, too-dear, cheap-enough}
+use Rattle.insertion.proofs.Judged.{not-allowed, too-dear, cheap-enough}
 use Rattle.solomon_i1.proofs.judging.weigh.Statement.{statement}
 use Rattle.solomon_i1.proofs.judging.weigh.Tie as tie
 

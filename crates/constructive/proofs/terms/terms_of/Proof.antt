@@ -1,0 +1,35 @@
+-- `constructive::terms::terms_of` meets its contract. Assumes nothing.
+use borrow.Author.Needs.{needs}
+use Rattle.constructive.specs.Terms.{termsOf}
+use Rattle.constructive.proofs.terms.terms_of.Statement.{statement}
+use Rattle.constructive.proofs.terms.terms_of.Tie as tie
+
+vehicle-at-requires : tie.Need-vehicle-at-requires
+vehicle-at-requires c κs = search needs
+
+limits-of-requires : tie.Need-limits-of-requires
+limits-of-requires c κs = search needs
+
+route-checks-needed-requires : tie.Need-route-checks-needed-requires
+route-checks-needed-requires c κs = search needs
+
+has-soft-windows-requires : tie.Need-has-soft-windows-requires
+has-soft-windows-requires c κs = search needs
+
+fixed-cost-in-distance-requires : tie.Need-fixed-cost-in-distance-requires
+fixed-cost-in-distance-requires c κs = search needs
+
+returns : tie.Need-returns
+unfolding termsOf
+returns c = rw (c .before .before .route-checks-needed .ensures, c .before .has-soft-windows .ensures, c .fixed-cost-in-distance .ensures, c .before .before .before .limits-of .ensures, c .before .before .before .before .vehicle-at .ensures)
+
+pub terms-of-spec : {M : Type 1} → statement M
+terms-of-spec =
+    tie.close
+    (tie.spec
+    vehicle-at-requires
+    limits-of-requires
+    route-checks-needed-requires
+    has-soft-windows-requires
+    fixed-cost-in-distance-requires
+    returns)

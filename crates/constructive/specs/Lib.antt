@@ -1,0 +1,16 @@
+pub mod Load
+pub mod Marks
+pub mod Members
+pub mod Outcome
+pub mod Laid
+pub mod LaidLaws
+pub mod Entered
+pub mod Closing
+pub mod Right
+pub mod Rounds
+pub mod Tables
+pub mod Holds
+pub mod TableStops
+pub mod Terms
+pub mod Unchecked
+pub mod Checked

@@ -1,0 +1,4 @@
+pub mod Judged
+pub mod Placing
+pub mod Sliding
+pub mod Trying

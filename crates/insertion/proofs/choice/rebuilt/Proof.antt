@@ -1,0 +1,20 @@
+-- `insertion::choice::rebuilt` meets its contract. Assumes nothing.
+use mathlib.Core.Path.{sym}
+use borrow.Author.Needs.{needs}
+use Rattle.insertion.proofs.choice.rebuilt.Statement.{statement}
+use Rattle.insertion.proofs.choice.rebuilt.Tie as tie
+
+enum-told : tie.Need-enum-told
+enum-told c = search needs
+
+enum-known-best : tie.Need-enum-known-best
+enum-known-best c = search needs
+
+returns : tie.Need-returns
+returns c = search needs
+
+returns-2 : tie.Need-returns-2
+returns-2 c = sym (c .before .best .given .1)
+
+pub rebuilt-spec : {M : Type 1} → statement M
+rebuilt-spec = tie.close (tie.spec enum-told enum-known-best returns returns-2)

@@ -1,0 +1,4 @@
+pub mod Fits
+pub mod Place
+pub mod Judging
+pub mod Trial

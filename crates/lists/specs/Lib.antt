@@ -1,0 +1,7 @@
+pub mod Count
+pub mod Every
+pub mod Once
+pub mod Moved
+pub mod Same
+pub mod Those
+pub mod Ascending

@@ -1,9 +1,0 @@
-pub mod Those
-pub mod Ascending
-pub mod ByDepot
-pub mod Sooner
-pub mod Settled
-pub mod Each
-pub mod Rounds
-pub mod Asked
-pub mod Marked

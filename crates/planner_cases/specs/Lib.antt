@@ -1,0 +1,4 @@
+pub mod Cases
+pub mod LimitCases
+pub mod Table
+pub mod Wrong
