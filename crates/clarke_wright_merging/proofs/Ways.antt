@@ -7,10 +7,10 @@ use mathlib.Core.Logic.{_⊎_, inl, inr}
 use mathlib.Core.List.{List, [], _∷_, _++_, reverse}
 use lib.Dec.{eqb}
 use lib.ListN.{length, getD, length-append, length-reverse}
+use Rattle.lists.specs.Fold.{lastOf}
 use Rattle.lists.specs.Count.{count}
 use Rattle.lists.specs.Once.{count-append}
 use Rattle.lists.specs.Every.{Every, every-append}
-use Rattle.evaluation.specs.Longer.{lastOf}
 use Rattle.constructive.specs.Load.{loadOf, load-append}
 use Rattle.clarke_wright_savings.specs.Savings.{routeAt, firstIs, lastIs, apart, joined, joining}
 use Rattle.clarke_wright_savings.specs.Joined.{Slots, Stops, count-reverse, load-reverse, every-reverse}

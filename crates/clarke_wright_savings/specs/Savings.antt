@@ -5,13 +5,13 @@ use mathlib.Core.List.{List, [], _∷_, _++_, map, reverse}
 use lib.Dec.{leb, ltb, eqb}
 use lib.ListN.{length, getD, set}
 use lib.Ieee.{Float, lt, le, eq}
+use Rattle.lists.specs.Fold.{lastOf}
 use Rattle.lists.specs.Count.{count}
 use Rattle.sorting.specs.Stable.{sorted}
 use Rattle.sorting.specs.Descending.{greater}
 use Rattle.sheet.specs.Values.{nought, distanceOf}
 use Rattle.evaluation.specs.Sums.{_⊕_, _⊖_}
 use Rattle.evaluation.specs.Feasible.{routeFeasible, effectiveCost}
-use Rattle.evaluation.specs.Longer.{lastOf}
 use Rattle.constructive.specs.declared.terms.Terms.{Terms}
 use Rattle.constructive.specs.Terms.{termsOf}
 use Rattle.constructive.specs.Outcome.{Round, Outcome}

@@ -1,69 +1,27 @@
 -- Where the Rust checks no round, `route_feasible` would pass every one: no stop has a window, and the vehicle sets no limit. Assumes nothing.
-use mathlib.Core.Path.{_≡_, refl, sym, subst}
+use mathlib.Core.Path.{_≡_, refl}
 use Prim.Native.Nat.{ℕ}
-use mathlib.Core.Bool.{Bool, true, false, not, _&&_, _||_, true≢false}
+use mathlib.Core.Bool.{Bool, true, false, not, _||_, true≢false}
 use mathlib.Core.List.{List, [], _∷_}
 use lib.Dec.{T}
-use lib.Ieee.{Float}
 use Rattle.lists.specs.Every.{Every}
-use Rattle.sheet.specs.Values.{nought, stopOf, distanceOf, timeOf}
-use Rattle.sheet.specs.declared.customer.Gate.{Gate}
-use Rattle.sheet.specs.declared.customer.Gate.the-variants.{Open, Hard, Soft}
-use Rattle.sheet.specs.declared.vehicle.Limit.{Limit}
-use Rattle.sheet.specs.declared.vehicle.Limit.the-variants.{Unlimited, Max}
-use Rattle.sheet.specs.declared.vehicle.Rest.{Rest}
-use Rattle.sheet.specs.declared.vehicle.Rest.the-variants.{NoRest, Required}
-use Rattle.evaluation.specs.declared.label.Label.{Label}
-use Rattle.evaluation.specs.declared.label.Served.{Served}
-use Rattle.evaluation.specs.declared.label.Served.the-variants.{Done}
 use Rattle.evaluation.specs.declared.limits.RouteLimits.{RouteLimits}
-use Rattle.evaluation.specs.Sums.{_⊕_}
-use Rattle.evaluation.specs.Serve.{atDepot, leavingAt, pass, serveOf}
-use Rattle.evaluation.specs.Clock.{stepOf}
-use Rattle.evaluation.specs.Walk.{unrested, walkFrom, walkOf}
-use Rattle.evaluation.specs.Limits.{noMaximum, noRest, isUnlimited, withinOf, allowOf}
-use Rattle.evaluation.specs.Feasible.{scheduledOf, keptBy, routeFeasible}
-use Rattle.evaluation.specs.Checks.{windowed, rowWindowed, someWindowed, hasTimeWindows, routeChecksNeeded}
+use Rattle.evaluation.specs.Limits.{isUnlimited}
+use Rattle.evaluation.specs.Feasible.{routeFeasible}
+use Rattle.evaluation.specs.Laws.Verdict.{unwindowed-feasible}
+use Rattle.evaluation.specs.Checks.{rowWindowed, someWindowed, hasTimeWindows, routeChecksNeeded}
 
 -- a row without a window
 abbrev pub Windowless : List ℕ → ℕ → Type 0
 Windowless s row = rowWindowed false s row ≡ false
 
--- ---- no limit
-within-all : (d u : Limit) (r : Rest) → T (noMaximum d && (noMaximum u && noRest r)) → (x y : Float) → T (withinOf d x && withinOf u y)
-within-all Unlimited Unlimited r h x y = tt
-within-all Unlimited (Max end) r h x y = absurd h
-within-all (Max end) u r h x y = absurd h
+windowless-some : (s route : List ℕ) → Every (Windowless s) route → someWindowed false s route ≡ false
+unfolding someWindowed
+windowless-some s [] e = refl
+windowless-some s (row ∷ rows) e = rw (e .0) (windowless-some s rows (e .1))
 
-rest-none : (d u : Limit) (r : Rest) → T (noMaximum d && (noMaximum u && noRest r)) → r ≡ NoRest
-rest-none Unlimited Unlimited NoRest h = refl
-rest-none Unlimited Unlimited (Required b) h = absurd h
-rest-none Unlimited (Max end) r h = absurd h
-rest-none (Max end) u r h = absurd h
-
--- ---- no window
-open-passes : (l : Label) (arrival service : Float) (g : Gate) → windowed false g ≡ false → pass l arrival service g ≡ Done (leavingAt l (arrival ⊕ service))
-unfolding pass
-open-passes l arrival service Open e = refl
-open-passes l arrival service (Hard w) e = absurd (true≢false e)
-open-passes l arrival service (Soft w penalty) e = absurd (true≢false e)
-
-module _ (s : List ℕ) (depot : ℕ) (limits : RouteLimits) (free : T (isUnlimited limits)) where
-  walk-kept : (l : Label) (distance : Float) (prev : ℕ) (rows : List ℕ) → Every (Windowless s) rows → T (keptBy limits (walkFrom s depot (Done l) distance prev rows))
-  unfolding walkFrom unrested keptBy allowOf isUnlimited stepOf serveOf
-  walk-kept l distance prev [] e = within-all (limits .«max_distance») (limits .«max_duration») (limits .rest) free (distance ⊕ distanceOf s prev depot) (l .time ⊕ timeOf s prev depot)
-  walk-kept l distance prev (row ∷ rows) e =
-      let arrival = l .time ⊕ timeOf s prev row in
-      let stop = stopOf s row in
-      subst (λ (x : Served). T (keptBy limits (walkFrom s depot x (distance ⊕ distanceOf s prev row) row rows)))
-      (sym (open-passes l arrival (stop .service) (stop .gate) (e .0)))
-      (walk-kept (leavingAt l (arrival ⊕ stop .service)) (distance ⊕ distanceOf s prev row) row rows (e .1))
-
-  pub free-feasible : (route : List ℕ) → Every (Windowless s) route → T (routeFeasible s depot limits route)
-  unfolding routeFeasible scheduledOf walkOf isUnlimited
-  free-feasible route e =
-      subst (λ (r : Rest). T (keptBy limits (scheduledOf s depot r route))) (sym (rest-none (limits .«max_distance») (limits .«max_duration») (limits .rest) free))
-      (walk-kept atDepot nought depot route e)
+pub free-feasible : (s : List ℕ) (depot : ℕ) (limits : RouteLimits) → T (isUnlimited limits) → (route : List ℕ) → Every (Windowless s) route → T (routeFeasible s depot limits route)
+free-feasible s depot limits free route e = unwindowed-feasible s depot limits free route (windowless-some s route e)
 
 -- ---- what it means that no check is needed
 pub neither : (a b : Bool) → (a || b) ≡ false → (a ≡ false) × (b ≡ false)

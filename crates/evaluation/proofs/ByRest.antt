@@ -1,18 +1,13 @@
--- Which walk a round is held to, by its vehicle's rest. Assumes nothing.
-use mathlib.Core.Path.{_≡_}
+-- The verdict on a round, by its vehicle's rest. Assumes nothing.
+use mathlib.Core.Path.{_≡_, sym}
 use Prim.Native.Nat.{ℕ}
 use mathlib.Core.List.{List}
-use Rattle.sheet.specs.declared.vehicle.VehicleBreak.{VehicleBreak}
 use Rattle.sheet.specs.declared.vehicle.Rest.{Rest}
-use Rattle.sheet.specs.declared.vehicle.Rest.the-variants.{NoRest, Required}
-use Rattle.evaluation.specs.Walk.{walkOf, scheduleOf}
-use Rattle.evaluation.specs.Feasible.{scheduledOf}
+use Rattle.evaluation.specs.declared.clock.Scheduled.{Scheduled}
+use Rattle.evaluation.specs.declared.limits.RouteLimits.{RouteLimits}
+use Rattle.evaluation.specs.Walk.{scheduledOf}
+use Rattle.evaluation.specs.Verdict.{heldTo, verdictOn}
+use Rattle.evaluation.specs.Laws.Verdict.{verdict-scheduled}
 
-module _ (s : List ℕ) (depot : ℕ) (route : List ℕ) (rest : Rest) where
-  pub without-rest : rest ≡ NoRest → walkOf s depot route ≡ scheduledOf s depot rest route
-  unfolding scheduledOf
-  without-rest e = rw e
-
-  pub with-rest : (b : VehicleBreak) → rest ≡ Required b → scheduleOf s depot b route ≡ scheduledOf s depot rest route
-  unfolding scheduledOf
-  with-rest b e = rw e
+pub by-rest : (s : List ℕ) (depot : ℕ) (limits : RouteLimits) (route : List ℕ) (rest : Rest) (x : Scheduled) → limits .rest ≡ rest → x ≡ scheduledOf s depot rest route → heldTo limits x ≡ verdictOn s depot limits route
+by-rest s depot limits route rest x r e = rw (e, ← r) (sym (verdict-scheduled s depot limits route))

@@ -2,4 +2,3 @@ pub mod Walking
 pub mod Onward
 pub mod Windowed
 pub mod ByRest
-pub mod WalkingOn

@@ -1,4 +1,5 @@
 -- On an accepted sheet every figure of a round is finite, not negative and no NaN, so that it can be compared and written. Assumes nothing.
+use mathlib.Core.Path.{sym, subst}
 use Prim.Native.Nat.{ℕ, suc, _+_, _*_, _^_, _≤_, _<_, suc-le-suc}
 use native.Mathlib.Nat.{zero-lt-suc}
 use native.Mathlib.Omega.{arith}
@@ -12,7 +13,7 @@ use Rattle.numbers.specs.Range.{zero-upto}
 use Rattle.sheet.specs.Fields.{rowsOf}
 use Rattle.sheet.specs.Accepted.{Accepted}
 use Rattle.sheet.specs.Finite.{StopBounded, BreakBounded, RestBounded, stop-bounded, distance-bounded, time-bounded}
-use Rattle.sheet.specs.Values.{nought, stopOf, distanceOf, timeOf}
+use Rattle.sheet.specs.Values.{stopOf, distanceOf, timeOf}
 use Rattle.sheet.specs.declared.customer.Stop.{Stop}
 use Rattle.sheet.specs.declared.vehicle.VehicleBreak.{VehicleBreak}
 use Rattle.sheet.specs.declared.vehicle.Rest.{Rest}
@@ -25,17 +26,18 @@ use Rattle.evaluation.specs.declared.label.Served.the-variants.{Done, Re
 use Rattle.evaluation.specs.declared.clock.Schedule.{Schedule}
 use Rattle.evaluation.specs.declared.clock.Scheduled.{Scheduled}
 use Rattle.evaluation.specs.declared.clock.Scheduled.the-variants.{Lawful, Unlawful}
-use Rattle.evaluation.specs.declared.clock.BreakClock.{BreakClock}
 use Rattle.evaluation.specs.declared.limits.RouteLimits.{RouteLimits}
 use Rattle.evaluation.specs.declared.RouteEval.{RouteEval}
 use Rattle.evaluation.specs.declared.RouteEval.the-variants.{Allowed, NotAllowed}
 use Rattle.evaluation.specs.Sums.{_⊕_}
 use Rattle.evaluation.specs.Routed.{Routed}
 use Rattle.evaluation.specs.Serve.{restStart, atDepot}
-use Rattle.evaluation.specs.Clock.{stepOf, stepRested, ahead, earlierOf, started, movedOf, aliveOf, nextOf, homeOf, endOf, homeward, finishOf}
-use Rattle.evaluation.specs.Walk.{unrested, walkFrom, walkOf, ifAlive, onward, scheduleOf}
+use Rattle.evaluation.specs.Clock.{Clock, stepOf, stepRested, ahead, earlierOf, takenOf, movedOf, homeOf, unrested, endOf, homeward, returned}
+use Rattle.evaluation.specs.Walk.{Position, startAt, driveTo, walkedOver, homeFrom, scheduledOf}
 use Rattle.evaluation.specs.Limits.{allowOf}
-use Rattle.evaluation.specs.Feasible.{scheduledOf, evalBy, routeEval, pricedDistance, costOf, effectiveCost}
+use Rattle.evaluation.specs.Verdict.{Verdict, allowed, overLimit, heldTo, evalOf}
+use Rattle.evaluation.specs.Feasible.{routeEval, pricedDistance, costOf, effectiveCost}
+use Rattle.evaluation.specs.Laws.Verdict.{verdict-scheduled}
 use Rattle.evaluation.specs.Bounds.{Times, one-time, AnswerBounded, LabelBounded, ServedBounded, serve-bounded, rested-bounded}
 
 -- ---- one stop of the clock
@@ -60,19 +62,25 @@ earlier-bounded a b (Done x) (Done y) u v = go (ahead y x)
     go true = v
     go false = u
 
-pub record ClockBounded (a b : ℕ) (c : BreakClock) : Type 0 where
-  pub rest : BreakBounded (c .rest)
+taken-bounded : (a b : ℕ) (r : Rest) (x y : Served) (travel : Float) (s : Stop) (place : ℕ) → a ≤ 996 → b + 1000 < 2 ^ 40 → RestBounded r → ServedBounded a b x → ServedBounded a b y → Times 1 travel → StopBounded s
+    → ServedBounded (a + 4) (b + 1000) (takenOf r x y travel s place)
+unfolding takenOf
+taken-bounded a b restless x y travel s place h k rok u v leg sok = tt
+taken-bounded a b (Required r) x y travel s place h k rok u v leg sok =
+    earlier-bounded (a + 4) (b + 1000) (stepOf y travel s) (stepRested x travel s place r)
+    (step-bounded a b y travel s h k v leg sok) (step-rested-bounded a b x travel s place r h k u leg sok rok)
+
+pub record ClockBounded (a b : ℕ) (c : Clock) : Type 0 where
+  pub rest : RestBounded (c .rest)
   pub before : ServedBounded a b (c .before)
   pub after : ServedBounded a b (c .after)
 
-pub moved-bounded : (a b : ℕ) (c : BreakClock) (travel : Float) (s : Stop) (row : ℕ) → a ≤ 996 → b + 1000 < 2 ^ 40 → ClockBounded a b c → Times 1 travel → StopBounded s → ClockBounded (a + 4) (b + 1000) (movedOf c travel s row)
+pub moved-bounded : (a b : ℕ) (c : Clock) (travel : Float) (s : Stop) (row : ℕ) → a ≤ 996 → b + 1000 < 2 ^ 40 → ClockBounded a b c → Times 1 travel → StopBounded s → ClockBounded (a + 4) (b + 1000) (movedOf c travel s row)
 unfolding movedOf
 moved-bounded a b c travel s row h k ok leg sok = record {
   rest = ok .rest;
   before = step-bounded a b (c .before) travel s h k (ok .before) leg sok;
-  after = earlier-bounded (a + 4) (b + 1000) (stepOf (c .after) travel s) (stepRested (c .before) travel s (c .place) (c .rest))
-      (step-bounded a b (c .after) travel s h k (ok .after) leg sok)
-      (step-rested-bounded a b (c .before) travel s (c .place) (c .rest) h k (ok .before) leg sok (ok .rest));
+  after = taken-bounded a b (c .rest) (c .before) (c .after) travel s (c .place) h k (ok .rest) (ok .before) (ok .after) leg sok;
 }
 
 -- ---- what a round comes to
@@ -121,14 +129,15 @@ module _ (a b n : ℕ) (distance back : Float) (h : a < 1000) (k : b ≤ 2 ^ 17)
       go true = home-bounded l NoRest u tt
       go false = end-bounded y v
 
-alive-bounded : (t : Bool) (x : Scheduled) → ScheduledBounded x → ScheduledBounded (ifAlive t x)
-alive-bounded true x u = u
-alive-bounded false x u = tt
+  returned-bounded : (r : Rest) (x y : Served) → ServedBounded a b x → ServedBounded a b y → ScheduledBounded (returned r x y distance back)
+  unfolding returned
+  returned-bounded restless x y u v = unrested-bounded x u
+  returned-bounded (Required r) x y u v = homeward-bounded r x y u v
 
 pub start-bounded : LabelBounded 0 0 atDepot
 start-bounded = record { time = zero-upto (0 * 2 ^ 30); lateness = zero-upto (0 * 2 ^ 30); cost = zero-upto (0 * 2 ^ 50); rest = tt }
 
--- ---- the walks
+-- ---- the walk
 module _ (s : List ℕ) (depot : ℕ) (fine : Accepted s) (D : depot < rowsOf s) where
   leg-time : (i j : ℕ) → i < rowsOf s → j < rowsOf s → Times 1 (timeOf s i j)
   leg-time i j h k = one-time (timeOf s i j) (time-bounded s fine i j h k)
@@ -137,34 +146,21 @@ module _ (s : List ℕ) (depot : ℕ) (fine : Accepted s) (D : depot < rowsOf s)
   further : (n : ℕ) (distance : Float) (i j : ℕ) → n < 1000 → i < rowsOf s → j < rowsOf s → Times n distance → Times (n + 1) (distance ⊕ distanceOf s i j)
   further n distance i j l h k u = add-units 30 n 1 distance (distanceOf s i j) (omega arith) (omega arith) u (one-time (distanceOf s i j) (distance-bounded s fine i j h k))
 
-  walk-bounded : (rows : List ℕ) (a b n : ℕ) (x : Served) (distance : Float) (prev : ℕ) → a + 4 * length rows < 1000 → b + 1000 * length rows ≤ 2 ^ 17 → n + length rows < 1000
-      → ((k : ℕ) → k < length rows → getD rows k 0 < rowsOf s) → prev < rowsOf s → ServedBounded a b x → Times n distance
-      → ScheduledBounded (walkFrom s depot x distance prev rows)
-  unfolding walkFrom
-  walk-bounded [] a b n x distance prev h k m inside from ok far =
-      unrested-bounded a b (n + 1) (distance ⊕ distanceOf s prev depot) (timeOf s prev depot) (omega arith) (omega arith) (omega arith)
-      (further n distance prev depot (omega arith) from D far) (leg-time prev depot from D) x ok
-  walk-bounded (row ∷ rows) a b n x distance prev h k m inside from ok far =
+  walked-bounded : (rows : List ℕ) (a b n : ℕ) (p : Position) → a + 4 * length rows < 1000 → b + 1000 * length rows ≤ 2 ^ 17 → n + length rows < 1000
+      → ((k : ℕ) → k < length rows → getD rows k 0 < rowsOf s) → p .clock .prev < rowsOf s → ClockBounded a b (p .clock) → Times n (p .distance)
+      → ScheduledBounded (homeFrom s depot (walkedOver s p rows))
+  unfolding homeFrom driveTo movedOf
+  walked-bounded [] a b n p h k m inside from ok far =
+      let prev = p .clock .prev in
+      returned-bounded a b (n + 1) (p .distance ⊕ distanceOf s prev depot) (timeOf s prev depot) (omega arith) (omega arith) (omega arith)
+      (further n (p .distance) prev depot (omega arith) from D far) (leg-time prev depot from D) (p .clock .rest) (p .clock .before) (p .clock .after) (ok .before) (ok .after)
+  walked-bounded (row ∷ rows) a b n p h k m inside from ok far =
+      let prev = p .clock .prev in
       let here = inside 0 (zero-lt-suc (length rows)) in
-      walk-bounded rows (a + 4) (b + 1000) (n + 1) (stepOf x (timeOf s prev row) (stopOf s row)) (distance ⊕ distanceOf s prev row) row (omega arith) (omega arith) (omega arith)
+      walked-bounded rows (a + 4) (b + 1000) (n + 1) (driveTo s p row) (omega arith) (omega arith) (omega arith)
       (λ i l. inside (suc i) (suc-le-suc l)) here
-      (step-bounded a b x (timeOf s prev row) (stopOf s row) (omega arith) (omega arith) ok (leg-time prev row from here) (stop-bounded s fine row here))
-      (further n distance prev row (omega arith) from here far)
-
-  onward-bounded : (rows : List ℕ) (a b n : ℕ) (c : BreakClock) (distance : Float) → a + 4 * length rows < 1000 → b + 1000 * length rows ≤ 2 ^ 17 → n + length rows < 1000
-      → ((k : ℕ) → k < length rows → getD rows k 0 < rowsOf s) → c .prev < rowsOf s → ClockBounded a b c → Times n distance
-      → ScheduledBounded (onward s depot c distance rows)
-  unfolding onward finishOf movedOf
-  onward-bounded [] a b n c distance h k m inside from ok far =
-      homeward-bounded a b (n + 1) (distance ⊕ distanceOf s (c .prev) depot) (timeOf s (c .prev) depot) (omega arith) (omega arith) (omega arith)
-      (further n distance (c .prev) depot (omega arith) from D far) (leg-time (c .prev) depot from D) (c .rest) (c .before) (c .after) (ok .before) (ok .after)
-  onward-bounded (row ∷ rows) a b n c distance h k m inside from ok far =
-      let here = inside 0 (zero-lt-suc (length rows)) in
-      alive-bounded (aliveOf (nextOf s c row)) (onward s depot (nextOf s c row) (distance ⊕ distanceOf s (c .prev) row) rows)
-      (onward-bounded rows (a + 4) (b + 1000) (n + 1) (nextOf s c row) (distance ⊕ distanceOf s (c .prev) row) (omega arith) (omega arith) (omega arith)
-      (λ i l. inside (suc i) (suc-le-suc l)) here
-      (moved-bounded a b c (timeOf s (c .prev) row) (stopOf s row) row (omega arith) (omega arith) ok (leg-time (c .prev) row from here) (stop-bounded s fine row here))
-      (further n distance (c .prev) row (omega arith) from here far))
+      (moved-bounded a b (p .clock) (timeOf s prev row) (stopOf s row) row (omega arith) (omega arith) ok (leg-time prev row from here) (stop-bounded s fine row here))
+      (further n (p .distance) prev row (omega arith) from here far)
 
 abbrev pub EvalBounded : RouteEval → Type 0
 EvalBounded (Allowed k) = ScheduleBounded k
@@ -182,25 +178,25 @@ cost-of-number NotAllowed ok = tt
 -- ---- a round of an accepted sheet, for a vehicle whose rest is in range, as `vehicle-bounded` has it
 module _ (s : List ℕ) (depot : ℕ) (route : List ℕ) (ok : Routed s depot route) where
   pub scheduled-bounded : (rest : Rest) → RestBounded rest → ScheduledBounded (scheduledOf s depot rest route)
-  unfolding scheduledOf walkOf scheduleOf
-  scheduled-bounded restless u =
-      walk-bounded s depot (ok .sheet) (ok .home) route 0 0 0 (Done atDepot) nought depot (omega (arith, ok .few)) (omega (arith, ok .few)) (omega (arith, ok .few)) (ok .row) (ok .home) start-bounded (zero-upto (0 * 2 ^ 30))
-  scheduled-bounded (Required b) u =
-      onward-bounded s depot (ok .sheet) (ok .home) route 0 0 0 (started b depot) nought (omega (arith, ok .few)) (omega (arith, ok .few)) (omega (arith, ok .few)) (ok .row) (ok .home)
+  unfolding scheduledOf
+  scheduled-bounded rest u =
+      walked-bounded s depot (ok .sheet) (ok .home) route 0 0 0 (startAt rest depot) (omega (arith, ok .few)) (omega (arith, ok .few)) (omega (arith, ok .few)) (ok .row) (ok .home)
       (record { rest = u; before = start-bounded; after = tt }) (zero-upto (0 * 2 ^ 30))
 
-  eval-by-bounded : (limits : RouteLimits) (x : Scheduled) → ScheduledBounded x → EvalBounded (evalBy limits x)
-  unfolding evalBy
-  eval-by-bounded limits Unlawful u = tt
-  eval-by-bounded limits (Lawful k) u = go (allowOf limits (k .distance) (k .duration))
+  held-bounded : (limits : RouteLimits) (x : Scheduled) → ScheduledBounded x → EvalBounded (evalOf (heldTo limits x))
+  unfolding heldTo
+  held-bounded limits Unlawful u = tt
+  held-bounded limits (Lawful k) u = go (allowOf limits (k .distance) (k .duration))
     where
-      go : (t : Bool) → EvalBounded (cond t (Allowed k) NotAllowed)
+      go : (t : Bool) → EvalBounded (evalOf (cond t (allowed k) (overLimit k)))
       go true = u
       go false = tt
 
   pub eval-bounded : (limits : RouteLimits) → RestBounded (limits .rest) → EvalBounded (routeEval s depot limits route)
   unfolding routeEval
-  eval-bounded limits u = eval-by-bounded limits (scheduledOf s depot (limits .rest) route) (scheduled-bounded (limits .rest) u)
+  eval-bounded limits u =
+      subst (λ (v : Verdict). EvalBounded (evalOf v)) (sym (verdict-scheduled s depot limits route))
+      (held-bounded limits (scheduledOf s depot (limits .rest) route) (scheduled-bounded (limits .rest) u))
 
   -- an effective cost can be compared: it is a number, or the infinity of a round that is not allowed
   pub cost-number : (limits : RouteLimits) → RestBounded (limits .rest) → T (not (isNan (effectiveCost s depot limits route)))

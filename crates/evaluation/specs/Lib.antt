@@ -5,9 +5,9 @@ pub mod Serve
 pub mod Clock
 pub mod Walk
 pub mod Limits
+pub mod Verdict
 pub mod Feasible
-pub mod Ahead
-pub mod Longer
 pub mod Checks
+pub mod Laws
 pub mod Bounds
 pub mod Finite

@@ -1,47 +1,34 @@
--- The walk of a round from its depot and back, stop by stop.
+-- The walk of a round from its depot and back, stop by stop, with a rest and without one.
 use Prim.Native.Nat.{ℕ}
-use mathlib.Core.Bool.{Bool, true, false}
-use mathlib.Core.List.{List, [], _∷_}
+use mathlib.Core.List.{List, foldl}
 use lib.Ieee.{Float}
-use Rattle.sheet.specs.Values.{nought, stopOf, distanceOf, timeOf}
-use Rattle.sheet.specs.declared.vehicle.VehicleBreak.{VehicleBreak}
-use Rattle.evaluation.specs.declared.label.RestAnswer.the-variants.{NoRest}
-use Rattle.evaluation.specs.declared.label.Served.{Served}
-use Rattle.evaluation.specs.declared.label.Served.the-variants.{Done, Refused}
+use Rattle.sheet.specs.Values.{nought, distanceOf, timeOf}
+use Rattle.sheet.specs.declared.vehicle.Rest.{Rest}
 use Rattle.evaluation.specs.declared.clock.Scheduled.{Scheduled}
-use Rattle.evaluation.specs.declared.clock.Scheduled.the-variants.{Lawful, Unlawful}
-use Rattle.evaluation.specs.declared.clock.BreakClock.{BreakClock}
 use Rattle.evaluation.specs.Sums.{_⊕_}
-use Rattle.evaluation.specs.Serve.{atDepot}
-use Rattle.evaluation.specs.Clock.{stepOf, homeOf, started, aliveOf, nextOf, finishOf}
+use Rattle.evaluation.specs.Clock.{Clock, started, nextOf, finishOf}
 
--- ---- without a rest
--- home with no rest taken
-unfoldable pub unrested : Served → Float → Float → Scheduled
-unrested (Done l) distance back = Lawful (homeOf l distance back NoRest)
-unrested Refused distance back = Unlawful
-
--- the stops left, from row `prev` with `distance` behind it, the rest skipped at each
-unfoldable pub walkFrom : List ℕ → ℕ → Served → Float → ℕ → List ℕ → Scheduled
-walkFrom s depot x distance prev [] = unrested x (distance ⊕ distanceOf s prev depot) (timeOf s prev depot)
-walkFrom s depot x distance prev (row ∷ rows) =
-    walkFrom s depot (stepOf x (timeOf s prev row) (stopOf s row)) (distance ⊕ distanceOf s prev row) row rows
+-- the vehicle with its stops so far done: its clock, and the legs that it has driven
+pub record Position : Type 0 where
+  pub clock : Clock
+  pub distance : Float
 
 -- "It leaves the vehicle's depot at 0."
-unfoldable pub walkOf : List ℕ → ℕ → List ℕ → Scheduled
-walkOf s depot route = walkFrom s depot (Done atDepot) nought depot route
+abbrev pub startAt : Rest → ℕ → Position
+startAt rest depot = record { clock = started rest depot; distance = nought }
 
--- ---- with a rest
-abbrev pub ifAlive : Bool → Scheduled → Scheduled
-ifAlive true x = x
-ifAlive false x = Unlawful
+-- one stop further
+unfoldable pub driveTo : List ℕ → Position → ℕ → Position
+driveTo s p row = record { clock = nextOf s (p .clock) row; distance = p .distance ⊕ distanceOf s (p .clock .prev) row }
 
--- the stops left, from the clock on with `distance` behind it: no schedule once no label is left
-unfoldable pub onward : List ℕ → ℕ → BreakClock → Float → List ℕ → Scheduled
-onward s depot c distance [] = finishOf s c (distance ⊕ distanceOf s (c .prev) depot) depot
-onward s depot c distance (row ∷ rows) =
-    ifAlive (aliveOf (nextOf s c row)) (onward s depot (nextOf s c row) (distance ⊕ distanceOf s (c .prev) row) rows)
+-- on over some rows
+abbrev pub walkedOver : List ℕ → Position → List ℕ → Position
+walkedOver s p rows = foldl (driveTo s) p rows
 
--- the whole round, by the clock
-unfoldable pub scheduleOf : List ℕ → ℕ → VehicleBreak → List ℕ → Scheduled
-scheduleOf s depot b route = onward s depot (started b depot) nought route
+-- "Duration is the last departure plus the time home, distance the sum of all legs."
+unfoldable pub homeFrom : List ℕ → ℕ → Position → Scheduled
+homeFrom s depot p = finishOf (p .clock) (p .distance ⊕ distanceOf s (p .clock .prev) depot) (timeOf s (p .clock .prev) depot)
+
+-- the whole round
+unfoldable pub scheduledOf : List ℕ → ℕ → Rest → List ℕ → Scheduled
+scheduledOf s depot rest route = homeFrom s depot (walkedOver s (startAt rest depot) route)

@@ -12,8 +12,10 @@ ghost use mathlib.Core.Path.{_≡_};
 ghost use Prim.Native.Nat.{_+_, _<_};
 ghost use Rattle.sheet.specs.Fields.{rowsOf};
 ghost use Rattle.evaluation.specs.Routed.{Clocked};
-ghost use Rattle.evaluation.specs.Clock.{stepOf, stepRested, earlierOf, homeOf, endOf, started, movedOf, aliveOf, nextOf, pushedOf, finishOf};
-ghost use Rattle.evaluation.specs.Feasible.{keptBy};
+ghost use Rattle.sheet.specs.Values.{timeOf};
+ghost use Rattle.sheet.specs.declared.vehicle.Rest.the-variants.{Required};
+ghost use Rattle.evaluation.specs.Clock.{takenOf, started, movedOf, nextOf, aliveOf, homeOf, endOf, finishOf, clockOf, breakClock, nextBy, pushedOf};
+ghost use Rattle.evaluation.specs.Verdict.{heldTo, verdictOf, passes};
 
 // What a round comes to, depot to depot.
 pub struct Schedule {
@@ -70,7 +72,7 @@ fn ended(after: Served, distance: f64, back: f64) -> Scheduled
 impl BreakClock {
     // At the depot at 0, with the rest to take.
     pub fn new(rest: VehicleBreak, depot: usize) -> Self
-        ensures { λ r. ⌜ r ≡ started rest depot ⌝ }
+        ensures { λ r. ⌜ r ≡ breakClock rest (started (Required rest) depot) ⌝ }
     {
         BreakClock {
             rest,
@@ -84,7 +86,7 @@ impl BreakClock {
     // One stop further, at `row`.
     fn moved(self, travel: f64, stop: Stop, row: usize) -> Self
         requires { ⌜ self .place < 0xffff ⌝ }
-        ensures { λ r. ⌜ r ≡ movedOf self travel stop row ⌝ }
+        ensures { λ r. ⌜ r ≡ breakClock (self .rest) (movedOf (clockOf self) travel stop row) ⌝ }
     {
         let rest = self.rest;
         let before = self.before;
@@ -106,7 +108,7 @@ impl BreakClock {
 
     // Whether some way of placing the rest serves the stops so far.
     fn alive(self) -> bool
-        ensures { λ r. ⌜ r ≡ aliveOf self ⌝ }
+        ensures { λ r. ⌜ r ≡ aliveOf (clockOf self) ⌝ }
     {
         let before = self.before;
         let after = self.after;
@@ -138,7 +140,7 @@ impl BreakClock {
     pub fn next(self, sheet: &[u8], row: usize) -> Self
         requires { ⌜ Clocked (now sheet) self ⌝ }
         requires { ⌜ row < rowsOf (now sheet) ⌝ }
-        ensures { λ r. ⌜ r ≡ nextOf (now (sheet .entry)) self row ⌝ }
+        ensures { λ r. ⌜ r ≡ nextBy (now (sheet .entry)) self row ⌝ }
     {
         let travel = matrix::travel_time(sheet, self.prev, row);
         let stop = customer::stop_at(sheet, row);
@@ -169,7 +171,7 @@ impl BreakClock {
         distance: f64,
         limits: RouteLimits,
     ) -> bool
-        ensures { λ r. ⌜ r ≡ keptBy limits (endOf (earlierOf (stepOf (self .after) travel stop) (stepRested (self .before) travel stop (self .place) (self .rest))) distance back) ⌝ }
+        ensures { λ r. ⌜ r ≡ passes (heldTo limits (endOf (takenOf (Required (self .rest)) (self .before) (self .after) travel stop (self .place)) distance back)) ⌝ }
     {
         let rest = self.rest;
         let before = self.before;
@@ -195,7 +197,7 @@ impl BreakClock {
     ) -> bool
         requires { ⌜ Clocked (now sheet) self ⌝ }
         requires { ⌜ (row < rowsOf (now sheet)) × (depot < rowsOf (now sheet)) ⌝ }
-        ensures { λ r. ⌜ r ≡ keptBy limits (finishOf (now (sheet .entry)) (nextOf (now (sheet .entry)) self row) distance depot) ⌝ }
+        ensures { λ r. ⌜ r ≡ passes (verdictOf limits (nextOf (now (sheet .entry)) (clockOf self) row) distance (timeOf (now (sheet .entry)) row depot)) ⌝ }
     {
         let travel = matrix::travel_time(sheet, self.prev, row);
         let back = matrix::travel_time(sheet, row, depot);
@@ -217,7 +219,7 @@ impl BreakClock {
     pub fn finish(self, sheet: &[u8], distance: f64, depot: usize) -> Scheduled
         requires { ⌜ Clocked (now sheet) self ⌝ }
         requires { ⌜ depot < rowsOf (now sheet) ⌝ }
-        ensures { λ r. ⌜ r ≡ finishOf (now (sheet .entry)) self distance depot ⌝ }
+        ensures { λ r. ⌜ r ≡ finishOf (clockOf self) distance (timeOf (now (sheet .entry)) (self .prev) depot) ⌝ }
     {
         let back = matrix::travel_time(sheet, self.prev, depot);
         let before = self.before;

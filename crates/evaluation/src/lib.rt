@@ -1,5 +1,4 @@
 // What a round is worth: its times, its lateness and its rest, and whether its vehicle allows it.
-pub mod ahead;
 pub mod checks;
 pub mod clock;
 pub mod label;
@@ -14,19 +13,38 @@ use limits::RouteLimits;
 use sheet::vehicle::Rest;
 ghost use mathlib.Core.Path.{_≡_};
 ghost use Rattle.evaluation.specs.Routed.{Routed};
-ghost use Rattle.evaluation.specs.Feasible.{keptBy, routeFeasible, evalBy, routeEval, pricedDistance, costOf, effectiveCost};
+ghost use Rattle.evaluation.specs.Verdict.{heldTo, passes, evalOf};
+ghost use Rattle.evaluation.specs.Feasible.{routeFeasible, routeEval, pricedDistance, costOf, effectiveCost};
 
 pub enum RouteEval {
     Allowed(Schedule),
     NotAllowed,
 }
 
-fn kept_by(limits: RouteLimits, scheduled: Scheduled) -> bool
-    ensures { λ r. ⌜ r ≡ keptBy limits scheduled ⌝ }
+// The schedule held to the limits.
+pub fn eval_by(limits: RouteLimits, scheduled: Scheduled) -> RouteEval
+    ensures { λ r. ⌜ r ≡ evalOf (heldTo limits scheduled) ⌝ }
 {
     match scheduled {
-        Scheduled::Lawful(s) => limits.allow(s.distance, s.duration),
-        Scheduled::Unlawful => false,
+        Scheduled::Lawful(s) => {
+            if limits.allow(s.distance, s.duration) {
+                return RouteEval::Allowed(s);
+            }
+            RouteEval::NotAllowed
+        }
+        Scheduled::Unlawful => RouteEval::NotAllowed,
+    }
+}
+
+// Whether it keeps them.
+pub fn kept_by(limits: RouteLimits, scheduled: Scheduled) -> bool
+    ensures { λ r. ⌜ r ≡ passes (heldTo limits scheduled) ⌝ }
+{
+    let eval = eval_by(limits, scheduled);
+    if let RouteEval::Allowed(_) = eval {
+        true
+    } else {
+        false
     }
 }
 
@@ -40,20 +58,6 @@ pub fn route_feasible(sheet: &[u8], route: &[u16], depot: usize, limits: RouteLi
     match rest {
         Rest::NoRest => kept_by(limits, schedule::walk(sheet, route, depot)),
         Rest::Required(b) => kept_by(limits, schedule::schedule(sheet, route, depot, b)),
-    }
-}
-
-fn eval_by(limits: RouteLimits, scheduled: Scheduled) -> RouteEval
-    ensures { λ r. ⌜ r ≡ evalBy limits scheduled ⌝ }
-{
-    match scheduled {
-        Scheduled::Lawful(s) => {
-            if limits.allow(s.distance, s.duration) {
-                return RouteEval::Allowed(s);
-            }
-            RouteEval::NotAllowed
-        }
-        Scheduled::Unlawful => RouteEval::NotAllowed,
     }
 }
 

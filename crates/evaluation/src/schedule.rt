@@ -10,12 +10,13 @@ use sheet::matrix;
 use sheet::vehicle::VehicleBreak;
 ghost use mathlib.Core.Path.{_≡_};
 ghost use Rattle.evaluation.specs.Routed.{Routed};
-ghost use Rattle.evaluation.specs.Walk.{walkOf, scheduleOf};
+ghost use Rattle.sheet.specs.declared.vehicle.Rest.the-variants.{NoRest as restless, Required};
+ghost use Rattle.evaluation.specs.Walk.{scheduledOf};
 
 // Without a rest, up to the first hard window that is missed.
 pub fn walk(sheet: &[u8], route: &[u16], depot: usize) -> Scheduled
     requires { ⌜ Routed (now sheet) depot (now route) ⌝ }
-    ensures { λ r. ⌜ r ≡ walkOf (now (sheet .entry)) depot (now (route .entry)) ⌝ }
+    ensures { λ r. ⌜ r ≡ scheduledOf (now (sheet .entry)) depot restless (now (route .entry)) ⌝ }
 {
     let mut label = label::start();
     let mut distance = 0.0;
@@ -38,7 +39,7 @@ pub fn walk(sheet: &[u8], route: &[u16], depot: usize) -> Scheduled
 // With a rest, for as long as the clock is alive.
 pub fn schedule(sheet: &[u8], route: &[u16], depot: usize, rest: VehicleBreak) -> Scheduled
     requires { ⌜ Routed (now sheet) depot (now route) ⌝ }
-    ensures { λ r. ⌜ r ≡ scheduleOf (now (sheet .entry)) depot rest (now (route .entry)) ⌝ }
+    ensures { λ r. ⌜ r ≡ scheduledOf (now (sheet .entry)) depot (Required rest) (now (route .entry)) ⌝ }
 {
     let mut clock = BreakClock::new(rest, depot);
     let mut distance = 0.0;

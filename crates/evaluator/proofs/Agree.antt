@@ -9,29 +9,32 @@ use borrow.Author.Tests.{eq-eqb, ne-eqb}
 use Rattle.sheet.specs.Values.{nought, stopOf, distanceOf, timeOf}
 use Rattle.sheet.specs.declared.customer.Gate.{Gate}
 use Rattle.sheet.specs.declared.customer.Gate.the-variants.{Open, Hard, Soft}
+use Rattle.sheet.specs.declared.vehicle.VehicleBreak.{VehicleBreak}
 use Rattle.sheet.specs.declared.vehicle.Rest.{Rest}
 use Rattle.sheet.specs.declared.vehicle.Rest.the-variants.{NoRest as Unrested, Required}
 use Rattle.evaluation.specs.Sums.{_⊕_}
 use Rattle.evaluation.specs.Window.{violatedOf}
-use Rattle.evaluation.specs.Feasible.{scheduledOf, routeEval, allowed-figures}
+use Rattle.evaluation.specs.Verdict.{heldTo, verdictOn, answerOf}
+use Rattle.evaluation.specs.Feasible.{routeEval}
 use Rattle.evaluation.specs.declared.limits.RouteLimits.{RouteLimits}
 use Rattle.evaluation.specs.declared.RouteEval.the-variants.{Allowed}
-use Rattle.evaluation.specs.Serve.{atDepot, pass, leavingAt, departureOf, laterOf, restedAt, serveOf, serveRested}
-use Rattle.evaluation.specs.Clock.{stepOf, stepRested, ahead, earlierOf, started, movedOf, aliveOf, nextOf, homeOf, endOf, homeward, finishOf}
+use Rattle.evaluation.specs.Serve.{pass, leavingAt, departureOf, laterOf, restedAt, serveOf, serveRested}
+use Rattle.evaluation.specs.Clock.{Clock, stepOf, stepRested, ahead, earlierOf, takenOf, movedOf, homeOf, unrested, endOf, homeward, returned}
 use Rattle.evaluation.specs.declared.label.Label.{Label}
 use Rattle.evaluation.specs.declared.label.RestAnswer.{RestAnswer}
 use Rattle.evaluation.specs.declared.label.RestAnswer.the-variants.{NoRest, Before}
 use Rattle.evaluation.specs.declared.label.Served.{Served}
 use Rattle.evaluation.specs.declared.label.Served.the-variants.{Done, Refused}
-use Rattle.evaluation.specs.declared.clock.BreakClock.{BreakClock}
 use Rattle.evaluation.specs.declared.clock.Schedule.{Schedule}
 use Rattle.evaluation.specs.declared.clock.Scheduled.{Scheduled}
 use Rattle.evaluation.specs.declared.clock.Scheduled.the-variants.{Lawful, Unlawful}
-use Rattle.evaluation.specs.Walk.{unrested, walkFrom, walkOf, ifAlive, onward, scheduleOf}
+use Rattle.evaluation.specs.Walk.{Position, startAt, driveTo, walkedOver, homeFrom, scheduledOf}
+use Rattle.evaluation.specs.Laws.Walk.{unrested-answer}
+use Rattle.evaluation.specs.Laws.Verdict.{verdict-scheduled, allowed-figures, held-rest}
 use Rattle.evaluator.specs.declared.Progress.{Progress}
 use Rattle.evaluator.specs.declared.Placed.{Placed}
 use Rattle.evaluator.specs.declared.Record.{Record}
-use Rattle.evaluator.specs.Record.{readyFor, departsAt, lateAfter, costAfter, visitedOf, beginOf, progressOf, recordOf, placedOf, buildRoute}
+use Rattle.evaluator.specs.Record.{readyFor, departsAt, lateAfter, costAfter, visitedOf, beginOf, progressOf, recordOf, placedBy, placedOf, buildRoute}
 
 -- ---- a label and a record that agree
 pub record Agree (l : Label) (p : Progress) : Type 0 where
@@ -110,7 +113,7 @@ either P (Done a) (Done b) u v = go (ahead b a)
     go true = v
     go false = u
 
--- ---- the clock, and the records of every rest at once: f gives the one of a rest that stands so
+-- ---- the walk, and the records of every rest at once: f gives the one of a rest that stands so
 pub record Rested (place : ℕ) (f : RestAnswer → Progress) (l : Label) : Type 0 where
   pub at : ℕ
   pub start : Float
@@ -118,92 +121,112 @@ pub record Rested (place : ℕ) (f : RestAnswer → Progress) (l : Label) : Type
   pub past : at < place
   pub agree : Agree l (f (Before at start))
 
-pub record Tracks (c : BreakClock) (distance : Float) (f : RestAnswer → Progress) : Type 0 where
-  pub prev : (r : RestAnswer) → f r .prev ≡ c .prev
-  pub place : (r : RestAnswer) → f r .place ≡ c .place
-  pub travelled : (r : RestAnswer) → f r .distance ≡ distance
-  pub future : (at : ℕ) (start : Float) → c .place ≤ at → f (Before at start) ≡ f NoRest
-  pub before : IfDone (λ (l : Label). Agree l (f NoRest)) (c .before)
-  pub after : IfDone (Rested (c .place) f) (c .after)
+-- how long a vehicle rests
+abbrev lasts : Rest → Float
+lasts Unrested = nought
+lasts (Required b) = b .duration
 
-module _ (s : List ℕ) (row : ℕ) (c : BreakClock) (distance : Float) (f : RestAnswer → Progress) (k : Tracks c distance f) where
-  next : RestAnswer → Progress
-  next r = visitedOf s (placed (c .rest .duration) r) (f r) row
+pub record Tracks (kept : Rest) (p : Position) (f : RestAnswer → Progress) : Type 0 where
+  pub rest : p .clock .rest ≡ kept
+  pub prev : (r : RestAnswer) → f r .prev ≡ p .clock .prev
+  pub place : (r : RestAnswer) → f r .place ≡ p .clock .place
+  pub travelled : (r : RestAnswer) → f r .distance ≡ p .distance
+  pub future : (at : ℕ) (start : Float) → p .clock .place ≤ at → f (Before at start) ≡ f NoRest
+  pub before : IfDone (λ (l : Label). Agree l (f NoRest)) (p .clock .before)
+  pub after : IfDone (Rested (p .clock .place) f) (p .clock .after)
+
+-- one stop further
+abbrev next : List ℕ → ℕ → Float → (RestAnswer → Progress) → RestAnswer → Progress
+next s row duration f r = visitedOf s (placed duration r) (f r) row
+
+module _ (s : List ℕ) (row : ℕ) (rest : Rest) (p : Position) (f : RestAnswer → Progress) (k : Tracks rest p f) where
+  abbrev c : Clock
+  c = p .clock
+
+  abbrev travel : Float
+  travel = timeOf s (c .prev) row
 
   -- when the vehicle is there, by the record and by a label
-  arrives : (r : RestAnswer) (l : Label) → Agree l (f r) → f r .departure ⊕ timeOf s (f r .prev) row ≡ l .time ⊕ timeOf s (c .prev) row
+  arrives : (r : RestAnswer) (l : Label) → Agree l (f r) → f r .departure ⊕ timeOf s (f r .prev) row ≡ l .time ⊕ travel
   arrives r l a = rw (a .time, k .prev r)
 
-  skipped : IfDone (λ (l : Label). Agree l (next NoRest)) (stepOf (c .before) (timeOf s (c .prev) row) (stopOf s row))
-  unfolding next stepOf serveOf readyFor
-  skipped = go (c .before) (k .before)
+  skipped : (duration : Float) → IfDone (λ (l : Label). Agree l (next s row duration f NoRest)) (stepOf (c .before) travel (stopOf s row))
+  unfolding stepOf serveOf readyFor
+  skipped duration = go (c .before) (k .before)
     where
-      go : (x : Served) → IfDone (λ (l : Label). Agree l (f NoRest)) x → IfDone (λ (l : Label). Agree l (visitedOf s (placed (c .rest .duration) NoRest) (f NoRest) row)) (stepOf x (timeOf s (c .prev) row) (stopOf s row))
+      go : (x : Served) → IfDone (λ (l : Label). Agree l (f NoRest)) x → IfDone (λ (l : Label). Agree l (next s row duration f NoRest)) (stepOf x travel (stopOf s row))
       go Refused a = tt
       go (Done l) a =
-          if-done (λ (m : Label). Agree m (visitedOf s (placed (c .rest .duration) NoRest) (f NoRest) row)) (pass l (l .time ⊕ timeOf s (c .prev) row) (stopOf s row .service) (stopOf s row .gate))
-          (λ m e. visit s (placed (c .rest .duration) NoRest) (f NoRest) row (l .time ⊕ timeOf s (c .prev) row) l m (arrives NoRest l a) (a .lateness) (a .cost) e)
+          if-done (λ (m : Label). Agree m (next s row duration f NoRest)) (pass l (l .time ⊕ travel) (stopOf s row .service) (stopOf s row .gate))
+          (λ m e. visit s (placed duration NoRest) (f NoRest) row (l .time ⊕ travel) l m (arrives NoRest l a) (a .lateness) (a .cost) e)
 
-  carried : IfDone (Rested (c .place + 1) next) (stepOf (c .after) (timeOf s (c .prev) row) (stopOf s row))
-  unfolding next stepOf serveOf readyFor
-  carried = go (c .after) (k .after)
+  carried : (duration : Float) → IfDone (Rested (c .place + 1) (next s row duration f)) (stepOf (c .after) travel (stopOf s row))
+  unfolding stepOf serveOf readyFor
+  carried duration = go (c .after) (k .after)
     where
-      go : (x : Served) → IfDone (Rested (c .place) f) x → IfDone (Rested (c .place + 1) next) (stepOf x (timeOf s (c .prev) row) (stopOf s row))
+      go : (x : Served) → IfDone (Rested (c .place) f) x → IfDone (Rested (c .place + 1) (next s row duration f)) (stepOf x travel (stopOf s row))
       go Refused a = tt
       go (Done l) a =
-          if-done (Rested (c .place + 1) next) (pass l (l .time ⊕ timeOf s (c .prev) row) (stopOf s row .service) (stopOf s row .gate))
+          if-done (Rested (c .place + 1) (next s row duration f)) (pass l (l .time ⊕ travel) (stopOf s row .service) (stopOf s row .gate))
           (λ m e. record {
             at = a .at;
             start = a .start;
-            rest = sym (passed (stopOf s row .gate) (l .time ⊕ timeOf s (c .prev) row) (stopOf s row .service) l m e .rest) ∙ a .rest;
+            rest = sym (passed (stopOf s row .gate) (l .time ⊕ travel) (stopOf s row .service) l m e .rest) ∙ a .rest;
             past = omega (arith, a .past);
-            agree = visit s (placed (c .rest .duration) (Before (a .at) (a .start))) (f (Before (a .at) (a .start))) row (l .time ⊕ timeOf s (c .prev) row) l m
+            agree = visit s (placed duration (Before (a .at) (a .start))) (f (Before (a .at) (a .start))) row (l .time ⊕ travel) l m
                 (rw (ne-eqb (a .at) (f (Before (a .at) (a .start)) .place) (λ q. omega (arith, a .past, q, k .place (Before (a .at) (a .start))))) (arrives (Before (a .at) (a .start)) l (a .agree)))
                 (a .agree .lateness) (a .agree .cost) e;
           })
 
   -- the rest taken before this stop: until here it did not matter
-  here : IfDone (Rested (c .place + 1) next) (stepRested (c .before) (timeOf s (c .prev) row) (stopOf s row) (c .place) (c .rest))
-  unfolding next stepRested serveRested readyFor
-  here = go (c .before) (k .before)
+  here : (b : VehicleBreak) → IfDone (Rested (c .place + 1) (next s row (b .duration) f)) (stepRested (c .before) travel (stopOf s row) (c .place) b)
+  unfolding stepRested serveRested readyFor
+  here b = go (c .before) (k .before)
     where
-      go : (x : Served) → IfDone (λ (l : Label). Agree l (f NoRest)) x → IfDone (Rested (c .place + 1) next) (stepRested x (timeOf s (c .prev) row) (stopOf s row) (c .place) (c .rest))
+      go : (x : Served) → IfDone (λ (l : Label). Agree l (f NoRest)) x → IfDone (Rested (c .place + 1) (next s row (b .duration) f)) (stepRested x travel (stopOf s row) (c .place) b)
       go Refused a = tt
-      go (Done l) a = begun (lt (c .rest .latest) start) (λ m e. record {
+      go (Done l) a = begun (lt (b .latest) start) (λ m e. record {
         at = c .place;
         start = start;
-        rest = sym (passed (stopOf s row .gate) (start ⊕ c .rest .duration) (stopOf s row .service) (restedAt l (c .place) start) m e .rest);
+        rest = sym (passed (stopOf s row .gate) (start ⊕ b .duration) (stopOf s row .service) (restedAt l (c .place) start) m e .rest);
         past = omega arith;
-        agree = visit s (placed (c .rest .duration) (Before (c .place) start)) (f (Before (c .place) start)) row (start ⊕ c .rest .duration) (restedAt l (c .place) start) m
-            (rw (eq-eqb (c .place) (f (Before (c .place) start) .place) (sym (k .place (Before (c .place) start))))) (ap (λ (p : Progress). p .lateness) same ∙ a .lateness) (ap (λ (p : Progress). p .«lateness_cost») same ∙ a .cost) e;
+        agree = visit s (placed (b .duration) (Before (c .place) start)) (f (Before (c .place) start)) row (start ⊕ b .duration) (restedAt l (c .place) start) m
+            (rw (eq-eqb (c .place) (f (Before (c .place) start) .place) (sym (k .place (Before (c .place) start))))) (ap (λ (q : Progress). q .lateness) same ∙ a .lateness) (ap (λ (q : Progress). q .«lateness_cost») same ∙ a .cost) e;
       })
         where
           start : Float
-          start = laterOf (l .time ⊕ timeOf s (c .prev) row) (c .rest .earliest)
+          start = laterOf (l .time ⊕ travel) (b .earliest)
 
           same : f (Before (c .place) start) ≡ f NoRest
           same = k .future (c .place) start (omega arith)
 
-          begun : (t : Bool) → ((m : Label) → pass (restedAt l (c .place) start) (start ⊕ c .rest .duration) (stopOf s row .service) (stopOf s row .gate) ≡ Done m → Rested (c .place + 1) next m)
-              → IfDone (Rested (c .place + 1) next) (cond t Refused (pass (restedAt l (c .place) start) (start ⊕ c .rest .duration) (stopOf s row .service) (stopOf s row .gate)))
+          begun : (t : Bool) → ((m : Label) → pass (restedAt l (c .place) start) (start ⊕ b .duration) (stopOf s row .service) (stopOf s row .gate) ≡ Done m → Rested (c .place + 1) (next s row (b .duration) f) m)
+              → IfDone (Rested (c .place + 1) (next s row (b .duration) f)) (cond t Refused (pass (restedAt l (c .place) start) (start ⊕ b .duration) (stopOf s row .service) (stopOf s row .gate)))
           begun true h = tt
-          begun false h = if-done (Rested (c .place + 1) next) (pass (restedAt l (c .place) start) (start ⊕ c .rest .duration) (stopOf s row .service) (stopOf s row .gate)) h
+          begun false h = if-done (Rested (c .place + 1) (next s row (b .duration) f)) (pass (restedAt l (c .place) start) (start ⊕ b .duration) (stopOf s row .service) (stopOf s row .gate)) h
 
-  tracked : Tracks (nextOf s c row) (distance ⊕ distanceOf s (c .prev) row) next
-  unfolding next visitedOf movedOf
+  taken : (r : Rest) → IfDone (Rested (c .place + 1) (next s row (lasts r) f)) (takenOf r (c .before) (c .after) travel (stopOf s row) (c .place))
+  unfolding takenOf
+  taken Unrested = tt
+  taken (Required b) =
+      either (Rested (c .place + 1) (next s row (b .duration) f)) (stepOf (c .after) travel (stopOf s row)) (stepRested (c .before) travel (stopOf s row) (c .place) b) (carried (b .duration)) (here b)
+
+  tracked : Tracks rest (driveTo s p row) (next s row (lasts rest) f)
+  unfolding visitedOf driveTo movedOf
   tracked = record {
+    rest = k .rest;
     prev = λ r. refl;
     place = λ r. ap (λ (n : ℕ). n + 1) (k .place r);
     travelled = λ r. rw (k .travelled r, k .prev r);
     future = λ at start h. further at start h;
-    before = skipped;
-    after = either (Rested (c .place + 1) next) (stepOf (c .after) (timeOf s (c .prev) row) (stopOf s row)) (stepRested (c .before) (timeOf s (c .prev) row) (stopOf s row) (c .place) (c .rest)) carried here;
+    before = skipped (lasts rest);
+    after = rw (k .rest) (taken rest);
   }
     where
-      further : (at : ℕ) (start : Float) → c .place + 1 ≤ at → next (Before at start) ≡ next NoRest
+      further : (at : ℕ) (start : Float) → c .place + 1 ≤ at → next s row (lasts rest) f (Before at start) ≡ next s row (lasts rest) f NoRest
       further at start h =
-          elsewhere s (c .rest .duration) (f (Before at start)) row at start (λ q. omega (arith, h, q, k .place (Before at start)))
-          ∙ ap (λ (p : Progress). visitedOf s (placed (c .rest .duration) NoRest) p row) (k .future at start (omega arith))
+          elsewhere s (lasts rest) (f (Before at start)) row at start (λ q. omega (arith, h, q, k .place (Before at start)))
+          ∙ ap (λ (q : Progress). visitedOf s (placed (lasts rest) NoRest) q row) (k .future at start (omega arith))
 
 -- ---- home
 -- a record's figures, as a schedule says them
@@ -226,75 +249,62 @@ abbrev Ends : List ℕ → ℕ → (RestAnswer → Progress) → Schedule → Ty
 Ends s depot f k = figures (recordOf s depot (k .rest) (f (k .rest))) ≡ k
 
 module _ (s : List ℕ) (depot : ℕ) where
-  finished : (c : BreakClock) (distance : Float) (f : RestAnswer → Progress) → Tracks c distance f → (k : Schedule) → finishOf s c (distance ⊕ distanceOf s (c .prev) depot) depot ≡ Lawful k → Ends s depot f k
-  unfolding finishOf homeward endOf kept
-  finished c distance f t k e = go (c .before) (c .after) (t .before) (t .after) e
+  finished : (rest : Rest) (p : Position) (f : RestAnswer → Progress) → Tracks rest p f → (k : Schedule) → homeFrom s depot p ≡ Lawful k → Ends s depot f k
+  unfolding homeFrom returned unrested homeward endOf kept
+  finished rest p f t k e = by rest (rw (t .rest) at e)
     where
       far : Float
-      far = distance ⊕ distanceOf s (c .prev) depot
+      far = p .distance ⊕ distanceOf s (p .clock .prev) depot
 
       back : Float
-      back = timeOf s (c .prev) depot
+      back = timeOf s (p .clock .prev) depot
 
       early-home : (l : Label) → Agree l (f NoRest) → Lawful (homeOf l far back NoRest) ≡ Lawful k → Ends s depot f k
-      early-home l a q = subst (Ends s depot f) (ap (kept k) q) (home s depot (c .prev) distance NoRest l (f NoRest) a (t .prev NoRest) (t .travelled NoRest))
+      early-home l a q = subst (Ends s depot f) (ap (kept k) q) (home s depot (p .clock .prev) (p .distance) NoRest l (f NoRest) a (t .prev NoRest) (t .travelled NoRest))
 
-      ended : (x : Served) → IfDone (Rested (c .place) f) x → endOf x far back ≡ Lawful k → Ends s depot f k
+      ended : (x : Served) → IfDone (Rested (p .clock .place) f) x → endOf x far back ≡ Lawful k → Ends s depot f k
       ended Refused a q = absurd (unlawful k q)
       ended (Done l) a q =
           subst (Ends s depot f) (ap (kept k) (sym (ap (λ (r : RestAnswer). Lawful (homeOf l far back r)) (a .rest)) ∙ q))
-          (home s depot (c .prev) distance (Before (a .at) (a .start)) l (f (Before (a .at) (a .start))) (a .agree) (t .prev _) (t .travelled _))
+          (home s depot (p .clock .prev) (p .distance) (Before (a .at) (a .start)) l (f (Before (a .at) (a .start))) (a .agree) (t .prev _) (t .travelled _))
 
-      go : (x y : Served) → IfDone (λ (l : Label). Agree l (f NoRest)) x → IfDone (Rested (c .place) f) y → homeward (c .rest) x y far back ≡ Lawful k → Ends s depot f k
-      go Refused y a b q = ended y b q
-      go (Done l) y a b q = early (le (l .time ⊕ back) (c .rest .earliest)) q
+      plain : (x : Served) → IfDone (λ (l : Label). Agree l (f NoRest)) x → unrested x far back ≡ Lawful k → Ends s depot f k
+      plain Refused a q = absurd (unlawful k q)
+      plain (Done l) a q = early-home l a q
+
+      rested : (b : VehicleBreak) (x y : Served) → IfDone (λ (l : Label). Agree l (f NoRest)) x → IfDone (Rested (p .clock .place) f) y → homeward b x y far back ≡ Lawful k → Ends s depot f k
+      rested b Refused y u v q = ended y v q
+      rested b (Done l) y u v q = early (le (l .time ⊕ back) (b .earliest)) q
         where
-          early : (u : Bool) → cond u (Lawful (homeOf l far back NoRest)) (endOf y far back) ≡ Lawful k → Ends s depot f k
-          early true r = early-home l a r
-          early false r = ended y b r
+          early : (w : Bool) → cond w (Lawful (homeOf l far back NoRest)) (endOf y far back) ≡ Lawful k → Ends s depot f k
+          early true r = early-home l u r
+          early false r = ended y v r
 
-  rested-ends : (route : List ℕ) (c : BreakClock) (distance : Float) (f : RestAnswer → Progress) → Tracks c distance f → (k : Schedule) → onward s depot c distance route ≡ Lawful k
-      → Ends s depot (λ (r : RestAnswer). progressOf s (placed (c .rest .duration) r) (f r) route) k
-  unfolding onward progressOf movedOf next
-  rested-ends [] c distance f t k e = finished c distance f t k e
-  rested-ends (row ∷ rows) c distance f t k e =
-      rested-ends rows (nextOf s c row) (distance ⊕ distanceOf s (c .prev) row) (next s row c distance f t) (tracked s row c distance f t) k (go (aliveOf (nextOf s c row)) e)
-    where
-      go : (b : Bool) → ifAlive b (onward s depot (nextOf s c row) (distance ⊕ distanceOf s (c .prev) row) rows) ≡ Lawful k → onward s depot (nextOf s c row) (distance ⊕ distanceOf s (c .prev) row) rows ≡ Lawful k
-      go true q = q
-      go false q = absurd (unlawful k q)
+      by : (r : Rest) → returned r (p .clock .before) (p .clock .after) far back ≡ Lawful k → Ends s depot f k
+      by Unrested q = plain (p .clock .before) (t .before) q
+      by (Required b) q = rested b (p .clock .before) (p .clock .after) (t .before) (t .after) q
 
-  -- ---- without a rest
-  gone : (route : List ℕ) (distance : Float) (prev : ℕ) → walkFrom s depot Refused distance prev route ≡ Unlawful
-  unfolding walkFrom stepOf unrested
-  gone [] distance prev = refl
-  gone (row ∷ rows) distance prev = gone rows (distance ⊕ distanceOf s prev row) row
-
-  plain-ends : (route : List ℕ) (l : Label) (distance : Float) (prev : ℕ) (p : Progress) → Agree l p → p .prev ≡ prev → p .distance ≡ distance → (k : Schedule)
-      → walkFrom s depot (Done l) distance prev route ≡ Lawful k → figures (recordOf s depot NoRest (progressOf s (placed nought NoRest) p route)) ≡ k
-  unfolding walkFrom unrested progressOf kept stepOf serveOf readyFor visitedOf
-  plain-ends [] l distance prev p a e d k q = home s depot prev distance NoRest l p a e d ∙ ap (kept k) q
-  plain-ends (row ∷ rows) l distance prev p a e d k q =
-      go (pass l (l .time ⊕ timeOf s prev row) (stopOf s row .service) (stopOf s row .gate)) refl
-      (λ m u. plain-ends rows m (distance ⊕ distanceOf s prev row) row (visitedOf s (placed nought NoRest) p row) (visit s (placed nought NoRest) p row (l .time ⊕ timeOf s prev row) l m ready (a .lateness) (a .cost) u) refl (rw (d, e)) k (rw u at q))
-    where
-      ready : readyFor NoRest nought (p .place) (p .departure ⊕ timeOf s (p .prev) row) ≡ l .time ⊕ timeOf s prev row
-      ready = rw (a .time, e)
-
-      go : (x : Served) → pass l (l .time ⊕ timeOf s prev row) (stopOf s row .service) (stopOf s row .gate) ≡ x
-          → ((m : Label) → pass l (l .time ⊕ timeOf s prev row) (stopOf s row .service) (stopOf s row .gate) ≡ Done m → figures (recordOf s depot NoRest (progressOf s (placed nought NoRest) p (row ∷ rows))) ≡ k)
-          → figures (recordOf s depot NoRest (progressOf s (placed nought NoRest) p (row ∷ rows))) ≡ k
-      go Refused u h = absurd (unlawful k (sym (gone rows (distance ⊕ distanceOf s prev row) row) ∙ (rw u at q)))
-      go (Done m) u h = h m u
+  walk-ends : (route : List ℕ) (rest : Rest) (p : Position) (f : RestAnswer → Progress) → Tracks rest p f → (k : Schedule) → homeFrom s depot (walkedOver s p route) ≡ Lawful k
+      → Ends s depot (λ (r : RestAnswer). progressOf s (placed (lasts rest) r) (f r) route) k
+  walk-ends [] rest p f t k e = finished rest p f t k e
+  walk-ends (row ∷ rows) rest p f t k e = walk-ends rows rest (driveTo s p row) (next s row (lasts rest) f) (tracked s row rest p f t) k e
 
 -- ---- the whole round
-scheduled-agree : (s : List ℕ) (depot : ℕ) (rest : Rest) (route : List ℕ) (k : Schedule) → scheduledOf s depot rest route ≡ Lawful k → figures (buildRoute s depot rest route) ≡ k
-unfolding scheduledOf walkOf scheduleOf buildRoute placedOf
-scheduled-agree s depot Unrested route k e = plain-ends s depot route atDepot nought depot (beginOf depot) (record { time = refl; lateness = refl; cost = refl }) refl refl k e
-scheduled-agree s depot (Required b) route k e =
-    rw e
-    (rested-ends s depot route (started b depot) nought (λ (r : RestAnswer). beginOf depot)
-    (record { prev = λ r. refl; place = λ r. refl; travelled = λ r. refl; future = λ at start h. refl; before = record { time = refl; lateness = refl; cost = refl }; after = tt }) k e)
+-- the rest stands where the schedule has it
+placed-lawful : (s : List ℕ) (depot : ℕ) (limits : RouteLimits) (route : List ℕ) (k : Schedule) → scheduledOf s depot (limits .rest) route ≡ Lawful k → placedOf s depot limits route ≡ placed (lasts (limits .rest)) (k .rest)
+unfolding placedOf
+placed-lawful s depot limits route k e =
+    by (limits .rest) (λ r. unrested-answer s depot route k (ap (λ (x : Rest). scheduledOf s depot x route) (sym r) ∙ e))
+    (ap answerOf (verdict-scheduled s depot limits route ∙ ap (heldTo limits) e) ∙ held-rest limits k)
+  where
+    by : (r : Rest) → (r ≡ Unrested → k .rest ≡ NoRest) → answerOf (verdictOn s depot limits route) ≡ k .rest → placedBy r (verdictOn s depot limits route) ≡ placed (lasts r) (k .rest)
+    by Unrested none there = ap (placed nought) (sym (none refl))
+    by (Required b) none there = ap (placed (b .duration)) there
 
-pub eval-agree : (s : List ℕ) (depot : ℕ) (limits : RouteLimits) (route : List ℕ) (k : Schedule) → routeEval s depot limits route ≡ Allowed k → figures (buildRoute s depot (limits .rest) route) ≡ k
-eval-agree s depot limits route k e = scheduled-agree s depot (limits .rest) route k (allowed-figures s depot limits route k e)
+pub eval-agree : (s : List ℕ) (depot : ℕ) (limits : RouteLimits) (route : List ℕ) (k : Schedule) → routeEval s depot limits route ≡ Allowed k → figures (buildRoute s depot limits route) ≡ k
+unfolding buildRoute scheduledOf
+eval-agree s depot limits route k a =
+    let e = allowed-figures s depot limits route k a in
+    rw (placed-lawful s depot limits route k e)
+    (walk-ends s depot route (limits .rest) (startAt (limits .rest) depot) (λ (r : RestAnswer). beginOf depot)
+    (record { rest = refl; prev = λ r. refl; place = λ r. refl; travelled = λ r. refl; future = λ at start h. refl; before = record { time = refl; lateness = refl; cost = refl }; after = tt }) k e)

@@ -1,11 +1,10 @@
 -- The loop over a round's stops: the record so far, walked on over the stops left, is that of the whole round. Assumes nothing.
 use mathlib.Core.Path.{_≡_, refl, sym, ap, _∙_, subst}
 use Prim.Native.Nat.{ℕ, _+_, _*_, _≤_, _<_}
-use native.Mathlib.Numerals.{add-one}
 use native.Mathlib.Omega.{arith}
 use mathlib.Core.List.{List}
-use lib.ListN.{length, drop, getD, drop-of-length-le}
-use lib.Seq.{drop-cons}
+use lib.ListN.{length, drop, getD}
+use Rattle.lists.specs.Fold.{fold-turn, fold-done}
 use Rattle.sheet.specs.Fields.{rowsOf}
 use Rattle.sheet.specs.Accepted.{Accepted}
 use Rattle.sheet.specs.Values.{stopOf}
@@ -42,7 +41,7 @@ module _ (s : List ℕ) (depot : ℕ) (t : Placed) (route : List ℕ) (ok : Rout
   }
 
   pub goes-on : (p q : Progress) (i : ℕ) → Going s depot t route p i → i < length route → q ≡ visitedOf s t p (getD route i 0) → Going s depot t route q (i + 1)
-  unfolding visitedOf progressOf
+  unfolding visitedOf
   goes-on p q i g h e =
       let d = stop-demand s (ok .sheet) (getD route i 0) (ok .row i h) (stopOf s (getD route i 0)) refl in
       record {
@@ -50,9 +49,8 @@ module _ (s : List ℕ) (depot : ℕ) (t : Placed) (route : List ℕ) (ok : Rout
         from = subst (λ (r : Progress). r .prev < rowsOf s) (sym e) (ok .row i h);
         place = ap (λ (r : Progress). r .place) e ∙ omega (arith, g .place);
         load = subst (λ (r : Progress). r .load ≤ 1000000 * (i + 1)) (sym e) (omega (arith, g .load, d));
-        same = rw (add-one i, e) (sym (ap (progressOf s t p) (drop-cons route i 0 h)) ∙ g .same);
+        same = rw e (sym (fold-turn (visitedOf s t) p route i 0 h) ∙ g .same);
       }
 
   pub ends : (p : Progress) (i : ℕ) → Going s depot t route p i → length route ≤ i → p ≡ progressOf s t (beginOf depot) route
-  unfolding progressOf
-  ends p i g h = sym (ap (progressOf s t p) (drop-of-length-le route h)) ∙ g .same
+  ends p i g h = sym (fold-done (visitedOf s t) p route i h) ∙ g .same

@@ -26,9 +26,11 @@ use Rattle.evaluation.specs.Sums.{_⊕_, _⊗_}
 use Rattle.evaluation.specs.Window.{violatedOf, waitingOf, latenessOf}
 use Rattle.evaluation.specs.Bounds.{Times, one-time, one-penalty, waiting-bounded, lateness-bounded}
 use Rattle.evaluation.specs.Finite.{ScheduledBounded, scheduled-bounded}
-use Rattle.evaluation.specs.Feasible.{scheduledOf}
 use Rattle.evaluation.specs.Serve.{restStart}
-use Rattle.evaluation.specs.Walk.{scheduleOf}
+use Rattle.evaluation.specs.Walk.{scheduledOf}
+use Rattle.evaluation.specs.Verdict.{Verdict, heldTo, verdictOn, answerOf}
+use Rattle.evaluation.specs.Laws.Verdict.{verdict-scheduled, held-none, held-rest}
+use Rattle.evaluation.specs.declared.limits.RouteLimits.{RouteLimits}
 use Rattle.evaluation.specs.Routed.{Routed}
 use Rattle.evaluation.specs.declared.clock.Scheduled.{Scheduled}
 use Rattle.evaluation.specs.declared.clock.Scheduled.the-variants.{Lawful, Unlawful}
@@ -37,7 +39,7 @@ use Rattle.evaluation.specs.declared.label.RestAnswer.the-variants.{NoRest, Bef
 use Rattle.evaluator.specs.declared.Progress.{Progress}
 use Rattle.evaluator.specs.declared.Placed.{Placed}
 use Rattle.evaluator.specs.declared.Record.{Record}
-use Rattle.evaluator.specs.Record.{answerOf, placedOf, readyFor, departsAt, lateAfter, costAfter, beginOf, visitedOf, progressOf, recordOf, buildRoute, routeCost, priceStart, priceWith}
+use Rattle.evaluator.specs.Record.{placedBy, placedOf, readyFor, departsAt, lateAfter, costAfter, beginOf, visitedOf, progressOf, recordOf, buildRoute, routeCost, priceStart, priceWith}
 
 -- ---- a visit, of a stop that the vehicle is ready for at `ready`
 module _ (n : ℕ) (ready : Float) (few : n < 2 ^ 40) (here : Times n ready) where
@@ -120,7 +122,7 @@ module _ (s : List ℕ) (a : Accepted s) (k : ℕ) (small : k < 2 ^ 20) (t : Pla
   -- the same over the stops left
   pub progress-bounded : (route : List ℕ) (p : Progress) (i : ℕ) → i + length route ≤ 101 → p .prev < rowsOf s → ((j : ℕ) → j < length route → getD route j 0 < rowsOf s) → ProgressBounded k i p
       → ProgressBounded k (i + length route) (progressOf s t p route) × (progressOf s t p route .prev < rowsOf s)
-  unfolding progressOf visitedOf
+  unfolding visitedOf
   progress-bounded [] p i few from rows b = (subst (λ (n : ℕ). ProgressBounded k n p) (sym (add-zero i)) b, from)
   progress-bounded (row ∷ route) p i few from rows b =
       subst (λ (n : ℕ). ProgressBounded k n (progressOf s t p (row ∷ route)) × (progressOf s t p (row ∷ route) .prev < rowsOf s)) (count i (length route))
@@ -150,26 +152,32 @@ record-of-bounded s a k depot r p n small few home from start b = record {
 }
 
 -- ---- the rest that a round takes starts within 2 ^ 40, which is 1024 units
-answer-bounded : (x : Scheduled) → ScheduledBounded x → StartBounded 1024 (answerOf x)
-answer-bounded Unlawful u = tt
-answer-bounded (Lawful k) u = go (k .rest) (u .rest)
+answer-bounded : (limits : RouteLimits) (x : Scheduled) → ScheduledBounded x → StartBounded 1024 (answerOf (heldTo limits x))
+answer-bounded limits Unlawful u = rw (held-none limits) tt
+answer-bounded limits (Lawful k) u = subst (StartBounded 1024) (sym (held-rest limits k)) (go (k .rest) (u .rest))
   where
     go : (r : RestAnswer) → Upto (2 ^ 40) (restStart r) → StartBounded 1024 r
     go NoRest v = tt
     go (Before at start) v = v
 
 module _ (s : List ℕ) (depot : ℕ) (route : List ℕ) (ok : Routed s depot route) where
-  pub placed-bounded : (rest : Rest) → RestBounded rest → StartBounded 1024 (placedOf s depot rest route .answer) × Times 1 (placedOf s depot rest route .duration)
-  unfolding placedOf scheduledOf
-  placed-bounded Unrested u = (tt, zero-upto (1 * 2 ^ 30))
-  placed-bounded (Required b) u = (answer-bounded (scheduleOf s depot b route) (scheduled-bounded s depot route ok (Required b) u), one-time (b .duration) (u .duration))
+  rest-bounded : (v : Verdict) → StartBounded 1024 (answerOf v) → (rest : Rest) → RestBounded rest → StartBounded 1024 (placedBy rest v .answer) × Times 1 (placedBy rest v .duration)
+  rest-bounded v a Unrested u = (tt, zero-upto (1 * 2 ^ 30))
+  rest-bounded v a (Required b) u = (a, one-time (b .duration) (u .duration))
+
+  pub placed-bounded : (limits : RouteLimits) → RestBounded (limits .rest) → StartBounded 1024 (placedOf s depot limits route .answer) × Times 1 (placedOf s depot limits route .duration)
+  unfolding placedOf
+  placed-bounded limits u =
+      rest-bounded (verdictOn s depot limits route)
+      (subst (λ (v : Verdict). StartBounded 1024 (answerOf v)) (sym (verdict-scheduled s depot limits route))
+      (answer-bounded limits (scheduledOf s depot (limits .rest) route) (scheduled-bounded s depot route ok (limits .rest) u))) (limits .rest) u
 
   -- every figure of a round's record
-  pub record-bounded : (rest : Rest) → RestBounded rest → RecordBounded 1024 (length route) (buildRoute s depot rest route)
+  pub record-bounded : (limits : RouteLimits) → RestBounded (limits .rest) → RecordBounded 1024 (length route) (buildRoute s depot limits route)
   unfolding buildRoute
-  record-bounded rest u =
-      let t = placedOf s depot rest route in
-      let v = placed-bounded rest u in
+  record-bounded limits u =
+      let t = placedOf s depot limits route in
+      let v = placed-bounded limits u in
       let p = progress-bounded s (ok .sheet) 1024 (omega arith) t (v .0) (v .1) route (beginOf depot) 0 (omega (arith, ok .few)) (ok .home) (ok .row) (begin-bounded 1024 depot) in
       record-of-bounded s (ok .sheet) 1024 depot (t .answer) (progressOf s t (beginOf depot) route) (length route) (omega arith) (ok .few) (ok .home) (p .1) (v .0)
       (subst (λ (n : ℕ). ProgressBounded 1024 n (progressOf s t (beginOf depot) route)) (zero-add (length route)) (p .0))

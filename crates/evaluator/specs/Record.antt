@@ -1,7 +1,7 @@
 -- "`build_route` gives a round's figures, `price` the plan's cost, each in the Rust's order of operations".
 use Prim.Native.Nat.{ℕ, _+_}
 use mathlib.Core.Bool.{cond}
-use mathlib.Core.List.{List, [], _∷_}
+use mathlib.Core.List.{List, foldl}
 use lib.Dec.{eqb}
 use lib.Ieee.{Float, binary64, ofBits}
 use Rattle.sheet.specs.Values.{nought, stopOf, distanceOf, timeOf}
@@ -13,25 +13,23 @@ use Rattle.sheet.specs.declared.vehicle.Vehicle.{Vehicle}
 use Rattle.evaluation.specs.Sums.{_⊕_, _⊗_}
 use Rattle.evaluation.specs.Window.{violatedOf, latenessOf}
 use Rattle.evaluation.specs.Serve.{departureOf}
-use Rattle.evaluation.specs.Walk.{scheduleOf}
+use Rattle.evaluation.specs.Verdict.{Verdict, verdictOn, answerOf}
 use Rattle.evaluation.specs.declared.label.RestAnswer.{RestAnswer}
 use Rattle.evaluation.specs.declared.label.RestAnswer.the-variants.{NoRest as Unrested, Before}
-use Rattle.evaluation.specs.declared.clock.Scheduled.{Scheduled}
-use Rattle.evaluation.specs.declared.clock.Scheduled.the-variants.{Lawful, Unlawful}
+use Rattle.evaluation.specs.declared.limits.RouteLimits.{RouteLimits}
 use Rattle.evaluator.specs.declared.Progress.{Progress}
 use Rattle.evaluator.specs.declared.Record.{Record}
 use Rattle.evaluator.specs.declared.Placed.{Placed}
 
 -- ---- the rest
--- where the schedule puts it; a round without a schedule has none
-abbrev pub answerOf : Scheduled → RestAnswer
-answerOf (Lawful k) = k .rest
-answerOf Unlawful = Unrested
+-- where the verdict on a round puts it
+abbrev pub placedBy : Rest → Verdict → Placed
+placedBy NoRest v = record { answer = Unrested; duration = nought }
+placedBy (Required b) v = record { answer = answerOf v; duration = b .duration }
 
 -- the rest that a vehicle takes on a round
-unfoldable pub placedOf : List ℕ → ℕ → Rest → List ℕ → Placed
-placedOf s depot NoRest route = record { answer = Unrested; duration = nought }
-placedOf s depot (Required b) route = record { answer = answerOf (scheduleOf s depot b route); duration = b .duration }
+unfoldable pub placedOf : List ℕ → ℕ → RouteLimits → List ℕ → Placed
+placedOf s depot limits route = placedBy (limits .rest) (verdictOn s depot limits route)
 
 -- "its end then counts as arrival" at the stop that the rest stands before
 unfoldable pub readyFor : RestAnswer → Float → ℕ → Float → Float
@@ -79,9 +77,8 @@ abbrev pub beginOf : ℕ → Progress
 beginOf depot = record { arrival = nought; departure = nought; load = 0; distance = nought; lateness = nought; «lateness_cost» = nought; prev = depot; place = 1 }
 
 -- the round after the stops left
-unfoldable pub progressOf : List ℕ → Placed → Progress → List ℕ → Progress
-progressOf s t p [] = p
-progressOf s t p (row ∷ rows) = progressOf s t (visitedOf s t p row) rows
+abbrev pub progressOf : List ℕ → Placed → Progress → List ℕ → Progress
+progressOf s t p rows = foldl (visitedOf s t) p rows
 
 -- ---- the round
 unfoldable pub recordOf : List ℕ → ℕ → RestAnswer → Progress → Record
@@ -94,9 +91,9 @@ recordOf s depot rest p = record {
   rest = rest;
 }
 
-unfoldable pub buildRoute : List ℕ → ℕ → Rest → List ℕ → Record
-buildRoute s depot rest route =
-    let t = placedOf s depot rest route in
+unfoldable pub buildRoute : List ℕ → ℕ → RouteLimits → List ℕ → Record
+buildRoute s depot limits route =
+    let t = placedOf s depot limits route in
     recordOf s depot (t .answer) (progressOf s t (beginOf depot) route)
 
 -- ---- the plan's cost

@@ -1,6 +1,7 @@
 // A round's record: what each stop's visit and the whole round come to, and what a plan costs.
 use evaluation::clock::Scheduled;
 use evaluation::label::RestAnswer;
+use evaluation::limits::RouteLimits;
 use evaluation::schedule;
 use evaluation::window;
 use sheet::customer;
@@ -13,7 +14,8 @@ ghost use Prim.Native.Nat.{_+_, _*_, _≤_, _<_};
 ghost use Rattle.sheet.specs.Accepted.{Accepted};
 ghost use Rattle.sheet.specs.Fields.{rowsOf};
 ghost use Rattle.evaluation.specs.Routed.{Routed};
-ghost use Rattle.evaluator.specs.Record.{answerOf, placedOf, readyFor, departsAt, lateAfter, costAfter, beginOf, visitedOf, recordOf, buildRoute, routeCost, priceStart, priceWith};
+ghost use Rattle.evaluation.specs.Verdict.{heldTo, answerOf};
+ghost use Rattle.evaluator.specs.Record.{placedOf, readyFor, departsAt, lateAfter, costAfter, beginOf, visitedOf, recordOf, buildRoute, routeCost, priceStart, priceWith};
 ghost use Rattle.evaluator.specs.Driven.{Driven};
 
 // The round so far: its last visit, and what it has come to. `load` is after that visit.
@@ -44,8 +46,9 @@ pub struct Placed {
     pub duration: f64,
 }
 
+// Where the schedule has its rest, whatever the limits say of it.
 fn answer(scheduled: Scheduled) -> RestAnswer
-    ensures { λ r. ⌜ r ≡ answerOf scheduled ⌝ }
+    ensures { λ r. ⌜ ((limits : RouteLimits) → r ≡ answerOf (heldTo limits scheduled)) ⌝ }
 {
     match scheduled {
         Scheduled::Lawful(s) => s.rest,
@@ -54,10 +57,11 @@ fn answer(scheduled: Scheduled) -> RestAnswer
 }
 
 // The rest that a vehicle takes on a round; none where the round has no schedule.
-pub fn place_rest(sheet: &[u8], route: &[u16], depot: usize, rest: Rest) -> Placed
+pub fn place_rest(sheet: &[u8], route: &[u16], depot: usize, limits: RouteLimits) -> Placed
     requires { ⌜ Routed (now sheet) depot (now route) ⌝ }
-    ensures { λ r. ⌜ r ≡ placedOf (now (sheet .entry)) depot rest (now (route .entry)) ⌝ }
+    ensures { λ r. ⌜ r ≡ placedOf (now (sheet .entry)) depot limits (now (route .entry)) ⌝ }
 {
+    let rest = limits.rest;
     match rest {
         Rest::NoRest => {
             let none = RestAnswer::NoRest;
@@ -191,11 +195,11 @@ impl Progress {
 }
 
 // The figures of a round from `depot` and back.
-pub fn build_route(sheet: &[u8], route: &[u16], depot: usize, rest: Rest) -> Record
+pub fn build_route(sheet: &[u8], route: &[u16], depot: usize, limits: RouteLimits) -> Record
     requires { ⌜ Routed (now sheet) depot (now route) ⌝ }
-    ensures { λ r. ⌜ r ≡ buildRoute (now (sheet .entry)) depot rest (now (route .entry)) ⌝ }
+    ensures { λ r. ⌜ r ≡ buildRoute (now (sheet .entry)) depot limits (now (route .entry)) ⌝ }
 {
-    let placed = place_rest(sheet, route, depot, rest);
+    let placed = place_rest(sheet, route, depot, limits);
     let mut progress = Progress::new(depot);
     for i in 0..route.len() {
         progress = progress.visited(sheet, placed, route[i] as usize);

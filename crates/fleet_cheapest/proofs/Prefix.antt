@@ -1,21 +1,20 @@
 -- The walk up to a place, for the round and for the round with a stop behind that place. Assumes nothing.
-use mathlib.Core.Path.{_≡_, refl, sym, ap, _∙_, subst}
+use mathlib.Core.Path.{_≡_, refl, sym, _∙_, subst}
 use Prim.Native.Nat.{ℕ, _≤_}
 use native.Mathlib.Omega.{arith}
-use mathlib.Core.List.{List, _∷_, _++_}
+use mathlib.Core.Bool.{true≢false}
+use mathlib.Core.List.{List, _∷_}
 use lib.ListN.{length, take, drop}
 use lib.Seq.{length-take-le, take-append-le, take-take}
 use Rattle.lists.specs.Moved.{inserted, inserted-length}
 use Rattle.evaluation.specs.Routed.{Routed}
-use Rattle.evaluation.specs.Walk.{walkOf}
-use Rattle.evaluation.specs.Ahead.{atStart, Behind}
 use Rattle.evaluation.specs.declared.limits.RouteLimits.{RouteLimits}
-use Rattle.evaluation.specs.declared.ahead.Ahead.{Ahead}
+use Rattle.evaluation_ahead.specs.Ahead.{atStart, Behind}
+use Rattle.evaluation_ahead.specs.declared.Ahead.{Ahead}
 
 module _ (s : List ℕ) (depot : ℕ) (limits : RouteLimits) (route : List ℕ) (ok : Routed s depot route) where
   pub at-start : Behind s depot limits route (atStart depot)
-  unfolding walkOf
-  at-start = record { from = ok .home; place = omega arith; unrested = λ h. absurd (omega arith); same = λ more. refl }
+  at-start = record { from = ok .home; place = omega arith; unrested = λ h. absurd (omega arith); stands = record { there = λ _. refl; lost = λ e. absurd (true≢false (sym e)) } }
 
   module _ (a : Ahead) (g : Behind s depot limits route a) where
     pub from-there : Routed s (a .prev) route
@@ -30,5 +29,5 @@ module _ (s : List ℕ) (depot : ℕ) (limits : RouteLimits) (route : List ℕ) 
           from = g .from;
           place = omega (arith, inserted-length k row route, g .place);
           unrested = g .unrested;
-          same = λ more. ap (λ (x : List ℕ). walkOf s depot (x ++ more)) front ∙ g .same more;
+          stands = rw front (g .stands);
         })

@@ -16,7 +16,8 @@ use Rattle.sheet.specs.Values.{vehicleOf}
 use Rattle.evaluation.specs.Sums.{_⊕_, _⊖_}
 use Rattle.evaluation.specs.Limits.{limitsOf}
 use Rattle.evaluation.specs.Routed.{Routed}
-use Rattle.evaluation.specs.Feasible.{pricedDistance, routeEval, costOf, effectiveCost, isAllowed, allowed-feasible}
+use Rattle.evaluation.specs.Feasible.{pricedDistance, routeEval, costOf, effectiveCost, isAllowed}
+use Rattle.evaluation.specs.Laws.Verdict.{allowed-feasible}
 use Rattle.evaluation.specs.Finite.{EvalBounded, priced-bounded, eval-bounded}
 use Rattle.evaluation.specs.declared.RouteEval.{RouteEval}
 use Rattle.evaluation.specs.declared.RouteEval.the-variants.{Allowed, NotAllowed}

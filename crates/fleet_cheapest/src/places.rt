@@ -3,8 +3,8 @@
 // are walked once for all places after it (docs/BENCHMARKS.md).
 use constructive::terms::Terms;
 use evaluation::RouteEval;
-use evaluation::ahead;
-use evaluation::ahead::Ahead;
+use evaluation_ahead;
+use evaluation_ahead::Ahead;
 use insertion::choice;
 use insertion::choice::Choice;
 use insertion::place;
@@ -17,7 +17,7 @@ ghost use mathlib.Core.List.{[], _∷_};
 ghost use Prim.Native.Nat.{suc, _≤_};
 ghost use lib.ListN.{length};
 ghost use Rattle.evaluation.specs.Routed.{Routed};
-ghost use Rattle.evaluation.specs.Ahead.{Behind};
+ghost use Rattle.evaluation_ahead.specs.Ahead.{Behind};
 ghost use Rattle.insertion.specs.Place.{judge, better, tryPlaces};
 ghost use Rattle.insertion.specs.Trial.{Trial, Joinable, pricesOf, judgeTrial};
 
@@ -72,7 +72,7 @@ fn weigh(
     ensures { λ r. ⌜ r ≡ better best j k (judgeTrial (now (sheet .entry)) terms prices (now (trial .entry))) ⌝ }
 {
     let limits = terms.limits;
-    let eval = ahead::eval_on(sheet, trial, walk, terms.depot, limits);
+    let eval = evaluation_ahead::eval_on(sheet, trial, walk, terms.depot, limits);
     let RouteEval::Allowed(figures) = eval else {
         return best;
     };
@@ -111,8 +111,8 @@ fn try_hard(
     }
     trial::slide(trial, tried.at, k);
     let limits = terms.limits;
-    let next = ahead::towards(sheet, route, walk, k, limits);
-    if !ahead::feasible_on(sheet, trial, next, terms.depot, limits) {
+    let next = evaluation_ahead::towards(sheet, route, walk, k, limits);
+    if !evaluation_ahead::feasible_on(sheet, trial, next, terms.depot, limits) {
         return walked_to(best, k, next);
     }
     walked_to(Choice::Best(j, k, cost), k, next)
@@ -146,7 +146,7 @@ fn try_place(
     let walk = walked.walk;
     trial::slide(trial, tried.at, k);
     let limits = terms.limits;
-    let next = ahead::towards(sheet, route, walk, k, limits);
+    let next = evaluation_ahead::towards(sheet, route, walk, k, limits);
     let choice = weigh(sheet, terms, prices, trial, next, best, j, k);
     walked_to(choice, k, next)
 }
@@ -188,7 +188,7 @@ pub fn try_places(
     ensures { λ r. ⌜ r .choice ≡ tryPlaces (now (sheet .entry)) terms (now (route .entry)) j row (tried .choice) (suc (length (now (route .entry)))) 0 ⌝ }
     ensures { λ r. ⌜ Trial (now (route .entry)) row (r .at) (now (trial .exit)) ⌝ }
 {
-    let walk = ahead::start(terms.depot);
+    let walk = evaluation_ahead::start(terms.depot);
     let mut done = Walked { tried, walk };
     for k in 0..route.len() + 1 {
         let next = try_place(sheet, terms, prices, route, row, trial, done, j, k);

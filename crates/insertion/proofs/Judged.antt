@@ -12,7 +12,8 @@ use Rattle.lists.specs.Moved.{inserted, inserted-every}
 use Rattle.sheet.specs.Fields.{rowsOf}
 use Rattle.evaluation.specs.Routed.{Routed}
 use Rattle.evaluation.specs.Sums.{_⊖_}
-use Rattle.evaluation.specs.Feasible.{isAllowed, routeEval, pricedDistance, costOf, effectiveCost, allowed-feasible}
+use Rattle.evaluation.specs.Feasible.{isAllowed, routeEval, pricedDistance, costOf, effectiveCost}
+use Rattle.evaluation.specs.Laws.Verdict.{allowed-feasible}
 use Rattle.evaluation.specs.declared.clock.Schedule.{Schedule}
 use Rattle.evaluation.specs.declared.RouteEval.{RouteEval}
 use Rattle.evaluation.specs.declared.RouteEval.the-variants.{Allowed, NotAllowed}

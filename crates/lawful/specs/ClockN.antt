@@ -1,7 +1,7 @@
 -- The clock of two labels over natural numbers: the earliest departure with the rest still to take, and with it taken.
 -- It is the Rust's clock where no window is soft, so that a label is its time alone.
 use Prim.Native.Nat.{ℕ}
-use mathlib.Core.Bool.{Bool, true, false, _||_, cond}
+use mathlib.Core.Bool.{Bool, true, false, cond}
 use mathlib.Core.List.{List, [], _∷_}
 use lib.Dec.{ltb}
 use Rattle.lawful.specs.Lawful.{Walk, failed, left, homeOf, rests, stopN, homeN, keepsMaxima, unneeded, plainWalk}
@@ -35,22 +35,6 @@ homeward s v before after = cond (unneeded s v before) before after
 unfoldable pub onwardN : List ℕ → ℕ → ClockN → ℕ → List ℕ → Walk
 onwardN s v c prev [] = homeward s v (homeN s v prev (c .before)) (homeN s v prev (c .after))
 onwardN s v c prev (i ∷ is) = onwardN s v (pushN s v prev i c) i is
-
--- the same, given up once both walks have failed
-abbrev pub going : Walk → Bool
-going failed = false
-going (left time) = true
-
-abbrev pub alive : ClockN → Bool
-alive c = going (c .before) || going (c .after)
-
-abbrev pub whileAlive : Bool → Walk → Walk
-whileAlive true w = w
-whileAlive false w = failed
-
-unfoldable pub hastyN : List ℕ → ℕ → ClockN → ℕ → List ℕ → Walk
-hastyN s v c prev [] = homeward s v (homeN s v prev (c .before)) (homeN s v prev (c .after))
-hastyN s v c prev (i ∷ is) = whileAlive (alive (pushN s v prev i c)) (hastyN s v (pushN s v prev i c) i is)
 
 -- whether the walk, by the clock where the vehicle has a rest, keeps the maxima
 unfoldable pub feasibleN : List ℕ → ℕ → List ℕ → Bool

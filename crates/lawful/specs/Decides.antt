@@ -2,11 +2,11 @@
 use mathlib.Core.Path.{_≡_, refl, sym, ap, _∙_}
 use Prim.Native.Nat.{ℕ}
 use mathlib.Core.Bool.{Bool, true, false, _&&_, _||_, cond}
-use mathlib.Core.List.{List, [], _∷_}
+use mathlib.Core.List.{List}
 use lib.Dec.{T}
 use lib.ListN.{length}
-use Rattle.lawful.specs.Lawful.{Walk, failed, left, homeOf, rests, stopN, keepsMaxima, unneeded, durationN, plainWalk, somePlace, lawful}
-use Rattle.lawful.specs.ClockN.{ClockN, startN, earlierN, pushN, onwardN, going, alive, whileAlive, hastyN, feasibleN}
+use Rattle.lawful.specs.Lawful.{Walk, left, homeOf, rests, keepsMaxima, unneeded, durationN, plainWalk, somePlace, lawful}
+use Rattle.lawful.specs.ClockN.{startN, onwardN, feasibleN}
 use Rattle.lawful.specs.Order.{walk-failed}
 use Rattle.lawful.specs.Places.{anyPlace, unrested-keeps, some-any, onward-places}
 
@@ -32,23 +32,3 @@ module _ (s : List ℕ) (v : ℕ) where
   pub lawful-feasible : (is : List ℕ) → lawful s v is ≡ feasibleN s v is
   unfolding lawful feasibleN
   lawful-feasible is = ap (λ (b : Bool). cond (rests s v) b (plainWalk s v is)) (rested-decides is)
-
-  -- ---- to give up once both walks have failed changes nothing
-  onward-failed : (prev : ℕ) (is : List ℕ) → onwardN s v (record { before = failed; after = failed }) prev is ≡ failed
-  unfolding onwardN pushN stopN earlierN
-  onward-failed prev [] = refl
-  onward-failed prev (i ∷ is) = onward-failed i is
-
-  given-up : (before after : Walk) (prev : ℕ) (is : List ℕ) →
-      whileAlive (going before || going after) (onwardN s v (record { before = before; after = after }) prev is)
-      ≡ onwardN s v (record { before = before; after = after }) prev is
-  given-up (left a) after prev is = refl
-  given-up failed (left b) prev is = refl
-  given-up failed failed prev is = sym (onward-failed prev is)
-
-  pub hasty-onward : (c : ClockN) (prev : ℕ) (is : List ℕ) → hastyN s v c prev is ≡ onwardN s v c prev is
-  unfolding hastyN onwardN
-  hasty-onward c prev [] = refl
-  hasty-onward c prev (i ∷ is) =
-      let d = pushN s v prev i c in
-      ap (λ (w : Walk). whileAlive (alive d) w) (hasty-onward d i is) ∙ given-up (d .before) (d .after) i is

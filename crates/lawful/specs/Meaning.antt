@@ -11,6 +11,7 @@ use Rattle.wire.specs.Bytes.{f64At}
 use Rattle.numbers.specs.Upto.{Upto}
 use Rattle.sheet.specs.Fields.{rowsOf, vehiclesOf, vehicleAt, vehicleMarks, maxDistanceAt, maxDurationAt, marked}
 use Rattle.sheet.specs.Finite.{vehicle-finite}
+use Rattle.sheet.specs.declared.vehicle.Rest.the-variants.{NoRest as restless, Required}
 use Rattle.sheet.specs.Values.{nought, limitOf, limitAt, restOf, restAfter, vehicleOf}
 use Rattle.evaluation.specs.declared.clock.Scheduled.{Scheduled}
 use Rattle.evaluation.specs.declared.clock.Scheduled.the-variants.{Lawful, Unlawful}
@@ -18,12 +19,14 @@ use Rattle.evaluation.specs.declared.label.Served.the-variants.{Done, Refused}
 use Rattle.evaluation.specs.Routed.{Routed}
 use Rattle.evaluation.specs.Serve.{atDepot}
 use Rattle.evaluation.specs.Limits.{limitsOf, withinOf, allowOf}
-use Rattle.evaluation.specs.Walk.{walkOf, scheduleOf}
-use Rattle.evaluation.specs.Feasible.{scheduledOf, keptBy, routeFeasible}
+use Rattle.evaluation.specs.Walk.{scheduledOf}
+use Rattle.evaluation.specs.Verdict.{heldTo, passes}
+use Rattle.evaluation.specs.Feasible.{routeFeasible}
+use Rattle.evaluation.specs.Laws.Verdict.{verdict-scheduled, held-none, held-passes}
 use Rattle.lawful.specs.Whole.{Whole}
 use Rattle.lawful.specs.Lawful.{Walk, failed, left, homeOf, rests, travelN, notOver, keepsMaxima, durationN, plainWalk, lawful}
-use Rattle.lawful.specs.ClockN.{startN, onwardN, hastyN, feasibleN}
-use Rattle.lawful.specs.Decides.{lawful-feasible, hasty-onward}
+use Rattle.lawful.specs.ClockN.{startN, onwardN, feasibleN}
+use Rattle.lawful.specs.Decides.{lawful-feasible}
 use Rattle.lawful.specs.WholeLaws.{Is, le-maximum}
 use Rattle.lawful.specs.Windows.{Same, nought-is}
 use Rattle.lawful.specs.Stops.{breakOf}
@@ -40,16 +43,17 @@ within-whole true n x end u v = le-maximum (10 ^ 12) n x end u v
 within-whole false n x end u v = refl
 
 module _ (s : List ℕ) (v : ℕ) (is : List ℕ) (whole : Whole s) (is-vehicle : v < vehiclesOf s) (round : Routed s (homeOf s v) is) where
-  kept-whole : (w : Walk) (x : Scheduled) → Comes (travelN s v (homeOf s v) is) w x → keptBy (limitsOf (vehicleOf s v)) x ≡ keepsMaxima s v is w
-  unfolding keptBy allowOf vehicleOf limitAt
-  kept-whole failed Unlawful u = refl
+  kept-whole : (w : Walk) (x : Scheduled) → Comes (travelN s v (homeOf s v) is) w x → passes (heldTo (limitsOf (vehicleOf s v)) x) ≡ keepsMaxima s v is w
+  unfolding allowOf vehicleOf limitAt
+  kept-whole failed Unlawful u = ap passes (held-none (limitsOf (vehicleOf s v)))
   kept-whole failed (Lawful k) u = absurd u
   kept-whole (left t) Unlawful u = absurd u
   kept-whole (left t) (Lawful k) u =
       let f = vehicle-finite s (vehicleAt s v) (round .sheet .vehicle v is-vehicle) in
       let at = vehicleAt s v in
       let mark = vehicleMarks s at in
-      rw (
+      held-passes (limitsOf (vehicleOf s v)) k
+      ∙ rw (
         within-whole (marked 1 mark) (travelN s v (homeOf s v) is) (k .distance) (f64At s (maxDistanceAt at)) (u .1) (f .distance),
         within-whole (marked 2 mark) t (k .duration) (f64At s (maxDurationAt at)) (u .0) (f .duration),
       )
@@ -61,27 +65,26 @@ module _ (s : List ℕ) (v : ℕ) (is : List ℕ) (whole : Whole s) (is-vehicle 
   undriven : Driven 0 0 nought
   undriven = record { is = nought-is; near = zero-le }
 
-  walk-whole : keptBy (limitsOf (vehicleOf s v)) (walkOf s (homeOf s v) is) ≡ plainWalk s v is
-  unfolding walkOf
+  walk-whole : passes (heldTo (limitsOf (vehicleOf s v)) (scheduledOf s (homeOf s v) restless is)) ≡ plainWalk s v is
+  unfolding scheduledOf
   walk-whole =
       kept-whole (durationN s v 0 is) _
-      (rw zero-add at (walk-comes s v (round .sheet) whole is-vehicle (round .home) 0 0 (homeOf s v) (left 0) (Done atDepot) nought is
+      (rw zero-add at (walk-comes s v (round .sheet) whole is-vehicle (round .home) 0 0 1 (homeOf s v) (left 0) (Done atDepot) Refused nought is
       (omega (arith, round .few)) (round .home) (rows-of s is (round .row)) start undriven))
 
-  clock-whole : keptBy (limitsOf (vehicleOf s v)) (scheduleOf s (homeOf s v) (breakOf s v) is) ≡ keepsMaxima s v is (onwardN s v startN (homeOf s v) is)
-  unfolding scheduleOf
+  clock-whole : passes (heldTo (limitsOf (vehicleOf s v)) (scheduledOf s (homeOf s v) (Required (breakOf s v)) is)) ≡ keepsMaxima s v is (onwardN s v startN (homeOf s v) is)
+  unfolding scheduledOf
   clock-whole =
-      kept-whole (hastyN s v startN (homeOf s v) is) _
+      kept-whole (onwardN s v startN (homeOf s v) is) _
       (rw zero-add at (clock-comes s v (round .sheet) whole is-vehicle (round .home) 0 0 1 (homeOf s v) (left 0) failed (Done atDepot) Refused nought is
       (omega (arith, round .few)) (round .home) (rows-of s is (round .row)) start tt undriven))
-      ∙ ap (λ (w : Walk). keepsMaxima s v is w) (hasty-onward s v startN (homeOf s v) is)
 
   -- route_feasible of a round for a vehicle, both ways
   pub feasible-lawful : routeFeasible s (homeOf s v) (limitsOf (vehicleOf s v)) is ≡ lawful s v is
-  unfolding routeFeasible scheduledOf feasibleN vehicleOf restAfter
-  feasible-lawful = go (rests s v) ∙ sym (lawful-feasible s v is)
+  unfolding routeFeasible feasibleN vehicleOf restAfter
+  feasible-lawful = ap passes (verdict-scheduled s (homeOf s v) (limitsOf (vehicleOf s v)) is) ∙ go (rests s v) ∙ sym (lawful-feasible s v is)
     where
-      go : (mark : Bool) → keptBy (limitsOf (vehicleOf s v)) (scheduledOf s (homeOf s v) (restOf mark (breakOf s v)) is)
+      go : (mark : Bool) → passes (heldTo (limitsOf (vehicleOf s v)) (scheduledOf s (homeOf s v) (restOf mark (breakOf s v)) is))
           ≡ cond mark (keepsMaxima s v is (onwardN s v startN (homeOf s v) is)) (plainWalk s v is)
       go true = clock-whole
       go false = walk-whole

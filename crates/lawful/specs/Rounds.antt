@@ -1,9 +1,8 @@
 -- The f64 walk of a round, and its clock with a rest, are those over natural numbers, where the numbers are whole and no window is soft. Assumes nothing.
-use mathlib.Core.Path.{_≡_, refl, subst}
 use Prim.Native.Nat.{ℕ, suc, _+_, _*_, _≤_, _<_}
 use native.Mathlib.Nat.{add-assoc}
 use native.Mathlib.Omega.{arith}
-use mathlib.Core.Bool.{Bool, true, false, _||_, cond}
+use mathlib.Core.Bool.{Bool, true, false, cond}
 use mathlib.Core.List.{List, [], _∷_}
 use lib.Dec.{leb}
 use lib.ListN.{length}
@@ -11,19 +10,20 @@ use lib.Ieee.{Float}
 use Rattle.sheet.specs.Fields.{rowsOf, vehiclesOf}
 use Rattle.sheet.specs.Accepted.{Accepted}
 use Rattle.sheet.specs.Values.{distanceOf, timeOf, stopOf}
+use Rattle.sheet.specs.declared.vehicle.Rest.{Rest}
+use Rattle.sheet.specs.declared.vehicle.Rest.the-variants.{NoRest as restless, Required}
 use Rattle.evaluation.specs.declared.label.Label.{Label}
 use Rattle.evaluation.specs.declared.label.Served.{Served}
 use Rattle.evaluation.specs.declared.label.Served.the-variants.{Done, Refused}
 use Rattle.evaluation.specs.declared.label.RestAnswer.the-variants.{NoRest}
-use Rattle.evaluation.specs.declared.clock.BreakClock.{BreakClock}
 use Rattle.evaluation.specs.declared.clock.Scheduled.{Scheduled}
 use Rattle.evaluation.specs.declared.clock.Scheduled.the-variants.{Lawful, Unlawful}
 use Rattle.evaluation.specs.Sums.{_⊕_}
-use Rattle.evaluation.specs.Clock.{stepOf, movedOf, served, aliveOf, nextOf, homeOf as returned, endOf, homeward as homewardOf, finishOf}
-use Rattle.evaluation.specs.Walk.{unrested, walkFrom, ifAlive, onward}
+use Rattle.evaluation.specs.Clock.{stepOf, takenOf, movedOf, homeOf as broughtHome, unrested, endOf, homeward as homewardOf, returned}
+use Rattle.evaluation.specs.Walk.{Position, driveTo, walkedOver, homeFrom}
 use Rattle.lawful.specs.Whole.{Whole}
 use Rattle.lawful.specs.Lawful.{Walk, failed, left, timeN, distanceN, homeOf, earliestN, stopN, homeN, walkN, travelN}
-use Rattle.lawful.specs.ClockN.{pushN, homeward, going, alive, whileAlive, hastyN}
+use Rattle.lawful.specs.ClockN.{pushN, homeward, onwardN}
 use Rattle.lawful.specs.WholeLaws.{Is, add-whole, le-whole}
 use Rattle.lawful.specs.Amounts.{Amount, RestAmounts, row-amounts, rest-amounts, distance-amount, time-amount}
 use Rattle.lawful.specs.Windows.{Tracks, Same}
@@ -50,23 +50,6 @@ drive n d leg x y few u v =
     let a = u .near in
     let b = v .small in
     record { is = add-whole d leg x y (u .is) (v .is) (omega arith); near = omega arith }
-
--- ---- whether a walk goes on
-going-same : (n : ℕ) (w : Walk) (x : Served) → Same n w x → going w ≡ served x
-going-same n failed Refused u = refl
-going-same n failed (Done l) u = absurd u
-going-same n (left t) Refused u = absurd u
-going-same n (left t) (Done l) u = refl
-
-alive-same : (n : ℕ) (w z : Walk) (x y : Served) → Same n w x → Same n z y → (going w || going z) ≡ (served x || served y)
-alive-same n w z x y p q = rw (going-same n w x p, going-same n z y q)
-
-while-alive : (far : ℕ) (p q : Bool) (w : Walk) (x : Scheduled) → p ≡ q → Comes far w x → Comes far (whileAlive p w) (ifAlive q x)
-while-alive far p q w x e u = subst (λ (b : Bool). Comes far (whileAlive p w) (ifAlive b x)) e (go p)
-  where
-    go : (p : Bool) → Comes far (whileAlive p w) (ifAlive p x)
-    go true = u
-    go false = tt
 
 module _ (s : List ℕ) (v : ℕ) (a : Accepted s) (whole : Whole s) (is-vehicle : v < vehiclesOf s) (at-home : homeOf s v < rowsOf s) where
   rest : RestAmounts s v
@@ -104,31 +87,32 @@ module _ (s : List ℕ) (v : ℕ) (a : Accepted s) (whole : Whole s) (is-vehicle
     clock-home (left t) z (Done l) y p q =
         rw (le-whole (t + timeN s prev (homeOf s v)) (earliestN s v) (l .time ⊕ timeOf s prev (homeOf s v)) (breakOf s v .earliest) (home-time t l p) (rest .earliest .is)) (go (leb (t + timeN s prev (homeOf s v)) (earliestN s v)))
       where
-        go : (b : Bool) → Comes far (cond b (left (t + timeN s prev (homeOf s v))) (homeN s v prev z)) (cond b (Lawful (returned l distance (timeOf s prev (homeOf s v)) NoRest)) (endOf y distance (timeOf s prev (homeOf s v))))
+        go : (b : Bool) → Comes far (cond b (left (t + timeN s prev (homeOf s v))) (homeN s v prev z)) (cond b (Lawful (broughtHome l distance (timeOf s prev (homeOf s v)) NoRest)) (endOf y distance (timeOf s prev (homeOf s v))))
         go true = (home-time t l p, total)
         go false = rested-home z y q
 
-  -- ---- the walk without a rest
-  pub walk-comes : (n d prev : ℕ) (w : Walk) (x : Served) (distance : Float) (is : List ℕ) → n + length is ≤ 101 → prev < rowsOf s → Rows s is
-      → Same n w x → Driven n d distance → Comes (d + travelN s v prev is) (walkN s v 0 w prev is) (walkFrom s (homeOf s v) x distance prev is)
-  unfolding walkN walkFrom travelN
-  walk-comes n d prev w x distance [] few from rows u r =
+  -- ---- the walk, its row, its labels and its distance given each by itself
+  abbrev positionAt : Rest → ℕ → ℕ → Served → Served → Float → Position
+  positionAt resting place prev x y distance = record { clock = record { rest = resting; before = x; after = y; prev = prev; place = place }; distance = distance }
+
+  -- without a rest
+  pub walk-comes : (n d place prev : ℕ) (w : Walk) (x y : Served) (distance : Float) (is : List ℕ) → n + length is ≤ 101 → prev < rowsOf s → Rows s is
+      → Same n w x → Driven n d distance → Comes (d + travelN s v prev is) (walkN s v 0 w prev is) (homeFrom s (homeOf s v) (walkedOver s (positionAt restless place prev x y distance) is))
+  unfolding walkN homeFrom returned driveTo movedOf takenOf travelN
+  walk-comes n d place prev w x y distance [] few from rows u r =
       unrested-home n _ prev (omega arith) _ from (drive n d (distanceN s prev (homeOf s v)) distance _ (omega arith) r (distance-amount s a whole prev (homeOf s v) from at-home) .is) w x u
-  walk-comes n d prev w x distance (i ∷ is) few from rows u r =
+  walk-comes n d place prev w x y distance (i ∷ is) few from rows u r =
       rw (← add-assoc)
-      (walk-comes (suc n) (d + distanceN s prev i) i (stopN false s v prev i w) (stepOf x (timeOf s prev i) (stopOf s i)) (distance ⊕ distanceOf s prev i) is
+      (walk-comes (suc n) (d + distanceN s prev i) (place + 1) i (stopN false s v prev i w) (stepOf x (timeOf s prev i) (stopOf s i)) Refused (distance ⊕ distanceOf s prev i) is
       (omega arith) (rows .0) (rows .1)
       (step-same s v i (row-amounts s a whole i (rows .0)) rest n (omega arith) prev (time-amount s a whole prev i from (rows .0)) w x u)
       (drive n d (distanceN s prev i) distance (distanceOf s prev i) (omega arith) r (distance-amount s a whole prev i from (rows .0))))
 
-  -- ---- the clock with a rest
-  abbrev clockOf : ℕ → ℕ → Served → Served → BreakClock
-  clockOf place prev x y = record { rest = breakOf s v; before = x; after = y; prev = prev; place = place }
-
+  -- with one
   pub clock-comes : (n d place prev : ℕ) (w z : Walk) (x y : Served) (distance : Float) (is : List ℕ) → n + length is ≤ 101 → prev < rowsOf s → Rows s is
       → Same n w x → Same n z y → Driven n d distance
-      → Comes (d + travelN s v prev is) (hastyN s v (record { before = w; after = z }) prev is) (onward s (homeOf s v) (clockOf place prev x y) distance is)
-  unfolding hastyN pushN onward movedOf aliveOf finishOf travelN
+      → Comes (d + travelN s v prev is) (onwardN s v (record { before = w; after = z }) prev is) (homeFrom s (homeOf s v) (walkedOver s (positionAt (Required (breakOf s v)) place prev x y distance) is))
+  unfolding onwardN pushN homeFrom returned driveTo movedOf takenOf travelN
   clock-comes n d place prev w z x y distance [] few from rows p q r =
       clock-home n _ prev (omega arith) _ from (drive n d (distanceN s prev (homeOf s v)) distance _ (omega arith) r (distance-amount s a whole prev (homeOf s v) from at-home) .is) w z x y p q
   clock-comes n d place prev w z x y distance (i ∷ is) few from rows p q r =
@@ -136,12 +120,8 @@ module _ (s : List ℕ) (v : ℕ) (a : Accepted s) (whole : Whole s) (is-vehicle
       let row = row-amounts s a whole i (rows .0) in
       let skip = step-same s v i row rest n (omega arith) prev leg in
       let c = pushN s v prev i (record { before = w; after = z }) in
-      let k = nextOf s (clockOf place prev x y) i in
-      let skipped : Same (suc n) (c .before) (k .before) = skip w x p in
-      let taken : Same (suc n) (c .after) (k .after) = earlier-same (suc n) _ _ _ _ (skip z y q) (step-rested s v i row rest n (omega arith) prev leg place w x p) in
       rw (← add-assoc)
-      (while-alive (d + distanceN s prev i + travelN s v i is) (alive c) (aliveOf k) (hastyN s v c i is) (onward s (homeOf s v) k (distance ⊕ distanceOf s prev i) is)
-      (alive-same (suc n) (c .before) (c .after) (k .before) (k .after) skipped taken)
-      (clock-comes (suc n) (d + distanceN s prev i) (place + 1) i (c .before) (c .after) (k .before) (k .after) (distance ⊕ distanceOf s prev i) is
-      (omega arith) (rows .0) (rows .1) skipped taken
-      (drive n d (distanceN s prev i) distance (distanceOf s prev i) (omega arith) r (distance-amount s a whole prev i from (rows .0)))))
+      (clock-comes (suc n) (d + distanceN s prev i) (place + 1) i (c .before) (c .after) (stepOf x (timeOf s prev i) (stopOf s i)) (takenOf (Required (breakOf s v)) x y (timeOf s prev i) (stopOf s i) place) (distance ⊕ distanceOf s prev i) is
+      (omega arith) (rows .0) (rows .1) (skip w x p)
+      (earlier-same (suc n) _ _ _ _ (skip z y q) (step-rested s v i row rest n (omega arith) prev leg place w x p))
+      (drive n d (distanceN s prev i) distance (distanceOf s prev i) (omega arith) r (distance-amount s a whole prev i from (rows .0))))

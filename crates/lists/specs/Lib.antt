@@ -1,5 +1,6 @@
 pub mod Count
 pub mod Every
+pub mod Fold
 pub mod Once
 pub mod Moved
 pub mod Same

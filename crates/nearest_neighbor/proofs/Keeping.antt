@@ -10,16 +10,20 @@ use lib.ListN.{length, length-append}
 use lib.Ieee.{Float}
 use Rattle.sheet.specs.Fields.{rowsOf}
 use Rattle.sheet.specs.Accepted.{Accepted}
-use Rattle.sheet.specs.Values.{nought, demandOf, stopOf, vehicleOf, distanceOf, timeOf}
+use Rattle.sheet.specs.Values.{demandOf, stopOf, vehicleOf, distanceOf, timeOf}
 use Rattle.sheet.specs.Finite.{demand-bounded}
+use Rattle.sheet.specs.declared.vehicle.VehicleBreak.{VehicleBreak}
 use Rattle.sheet.specs.declared.vehicle.Rest.{Rest}
 use Rattle.sheet.specs.declared.vehicle.Rest.the-variants.{NoRest, Required}
 use Rattle.sheet.specs.declared.vehicle.Vehicle.{Vehicle}
 use Rattle.evaluation.specs.Sums.{_⊕_}
-use Rattle.evaluation.specs.Clock.{started, nextOf, finishOf}
+use Rattle.evaluation.specs.Clock.{Clock, nextOf, clockOf, breakClock}
+use Rattle.evaluation.specs.Walk.{startAt as atStart, walkedOver}
 use Rattle.evaluation.specs.Limits.{limitsOf}
-use Rattle.evaluation.specs.Feasible.{scheduledOf, keptBy, routeFeasible}
-use Rattle.evaluation.specs.Longer.{lastOf, distanceOn, clockOn, last-more, distance-on-more, clock-on-more, clock-on-prev, clock-on-place, clock-on}
+use Rattle.evaluation.specs.Verdict.{verdictOf, passes}
+use Rattle.evaluation.specs.Feasible.{routeFeasible}
+use Rattle.evaluation.specs.Laws.Walk.{clock-kept, walked-rest, walked-place, more-clock, more-prev, more-distance}
+use Rattle.evaluation.specs.Laws.Verdict.{longer-feasible}
 use Rattle.nearest_neighbor.specs.declared.choice.Choice.{Choice}
 use Rattle.nearest_neighbor.specs.declared.ride.Ride.{Ride}
 use Rattle.nearest_neighbor.specs.declared.ride.RideClock.{RideClock}
@@ -33,7 +37,7 @@ use Rattle.nearest_neighbor.specs.Ride.{pushedBy, allowsBy, setOut, near
 -- the clock after the stops
 abbrev pub clockAfter : List ℕ → ℕ → Rest → List ℕ → RideClock
 clockAfter s depot NoRest stops = NoClock
-clockAfter s depot (Required b) stops = Kept (clockOn s (started b depot) stops)
+clockAfter s depot (Required b) stops = Kept (breakClock b (walkedOver s (atStart (Required b) depot) stops .clock))
 
 -- what is kept of a round so far
 abbrev pub rideOf : List ℕ → ℕ → Rest → Trip → Ride
@@ -46,10 +50,10 @@ rideOf s depot rest trip = record {
   rest = clockAfter s depot rest (trip .stops);
 }
 
--- a round so far whose figures are those of its stops
+-- a round so far whose figures are those of its stops, with a rest and without one
 pub record Driven (s : List ℕ) (depot : ℕ) (trip : Trip) : Type 0 where
-  pub last : trip .current ≡ lastOf depot (trip .stops)
-  pub far : trip .travelled ≡ distanceOn s nought depot (trip .stops)
+  pub last : (rest : Rest) → walkedOver s (atStart rest depot) (trip .stops) .clock .prev ≡ trip .current
+  pub far : (rest : Rest) → walkedOver s (atStart rest depot) (trip .stops) .distance ≡ trip .travelled
   pub from : trip .current < rowsOf s
   pub load : trip .load ≤ 1000000 * length (trip .stops)
 
@@ -59,11 +63,13 @@ one-more stops i = length-append stops (i ∷ [])
 -- ---- with a stop as the last
 module _ (s : List ℕ) (depot : ℕ) (v : Vehicle) (trip : Trip) (ok : Driven s depot trip) (i : ℕ) where
   -- the clock, pushed once, is that of the round with the stop
-  pushed-once : (b : _) → v .rest ≡ Required b
-      → keptBy (limitsOf v) (finishOf s (nextOf s (clockOn s (started b depot) (trip .stops)) i) (thereAndHome s depot trip i) depot) ≡ routeFeasible s depot (limitsOf v) (trip .stops ++ (i ∷ []))
-  unfolding routeFeasible scheduledOf
+  pushed-once : (b : VehicleBreak) → v .rest ≡ Required b
+      → passes (verdictOf (limitsOf v) (nextOf s (clockOf (breakClock b (walkedOver s (atStart (Required b) depot) (trip .stops) .clock))) i) (thereAndHome s depot trip i) (timeOf s i depot)) ≡ routeFeasible s depot (limitsOf v) (trip .stops ++ (i ∷ []))
   pushed-once b e =
-      sym (rw (e, clock-on s depot b (trip .stops ++ (i ∷ [])), clock-on-more s (started b depot) (trip .stops) i, distance-on-more s nought depot (trip .stops) i, last-more depot (trip .stops) i, ← ok .last, ← ok .far))
+      let p = walkedOver s (atStart (Required b) depot) (trip .stops) in
+      ap (λ (c : Clock). passes (verdictOf (limitsOf v) (nextOf s c i) (thereAndHome s depot trip i) (timeOf s i depot))) (clock-kept b (p .clock) (walked-rest s (atStart (Required b) depot) (trip .stops)))
+      ∙ ap (λ (x : Float). passes (verdictOf (limitsOf v) (nextOf s (p .clock) i) (x ⊕ distanceOf s i depot) (timeOf s i depot))) (sym (ap (λ (x : Float). x ⊕ distanceOf s (p .clock .prev) i) (ok .far (Required b)) ∙ ap (λ (n : ℕ). trip .travelled ⊕ distanceOf s n i) (ok .last (Required b))))
+      ∙ sym (longer-feasible s depot (limitsOf v) (trip .stops) i p (ap (λ (x : Rest). walkedOver s (atStart x depot) (trip .stops)) e))
 
   allowed : (rest : Rest) → v .rest ≡ rest → (duration : Float)
       → allowsBy s depot (limitsOf v) (clockAfter s depot rest (trip .stops)) i (thereAndHome s depot trip i) duration ≡ allows s depot v rest trip i (thereAndHome s depot trip i) duration
@@ -85,7 +91,11 @@ module _ (s : List ℕ) (depot : ℕ) (v : Vehicle) (trip : Trip) (ok : Driven s
 pushed-on : (s : List ℕ) (depot : ℕ) (rest : Rest) (stops : List ℕ) (i : ℕ) → pushedBy s (clockAfter s depot rest stops) i ≡ clockAfter s depot rest (stops ++ (i ∷ []))
 unfolding pushedBy
 pushed-on s depot NoRest stops i = refl
-pushed-on s depot (Required b) stops i = ap Kept (sym (clock-on-more s (started b depot) stops i))
+pushed-on s depot (Required b) stops i =
+    let p = walkedOver s (atStart (Required b) depot) stops in
+    ap Kept
+    (ap (λ (c : Clock). breakClock b (nextOf s c i)) (clock-kept b (p .clock) (walked-rest s (atStart (Required b) depot) stops))
+    ∙ sym (ap (breakClock b) (more-clock s (atStart (Required b) depot) stops i)))
 
 pub drives-on : (s : List ℕ) (depot : ℕ) (rest : Rest) (trip : Trip) (h : Heuristic) (index i : ℕ) → onwardBy s h (rideOf s depot rest trip) i ≡ rideOf s depot rest (ruleOf s depot h index .onward trip i)
 unfolding onwardBy ridden ruleOf nearestOnward windowOnward
@@ -103,11 +113,11 @@ pub stays-driven : (s : List ℕ) (depot : ℕ) (trip : Trip) (h : Heuristic) (i
 unfolding ruleOf nearestOnward windowOnward
 stays-driven s depot trip h index i fine ok k = go h
   where
-    last : i ≡ lastOf depot (trip .stops ++ (i ∷ []))
-    last = sym (last-more depot (trip .stops) i)
+    last : (rest : Rest) → walkedOver s (atStart rest depot) (trip .stops ++ (i ∷ [])) .clock .prev ≡ i
+    last rest = more-prev s (atStart rest depot) (trip .stops) i
 
-    far : trip .travelled ⊕ distanceOf s (trip .current) i ≡ distanceOn s nought depot (trip .stops ++ (i ∷ []))
-    far = sym (rw (distance-on-more s nought depot (trip .stops) i, ← ok .last, ← ok .far))
+    far : (rest : Rest) → walkedOver s (atStart rest depot) (trip .stops ++ (i ∷ [])) .distance ≡ trip .travelled ⊕ distanceOf s (trip .current) i
+    far rest = more-distance s (atStart rest depot) (trip .stops) i ∙ rw (ok .far rest, ok .last rest)
 
     load : trip .load + demandOf s i ≤ 1000000 * length (trip .stops ++ (i ∷ []))
     load = omega (arith, ok .load, demand-bounded s fine i k, one-more (trip .stops) i)
@@ -120,22 +130,19 @@ stays-driven s depot trip h index i fine ok k = go h
 ticks : (s : List ℕ) (depot : ℕ) (rest : Rest) (trip : Trip) → Accepted s → Driven s depot trip → length (trip .stops) ≤ 100 → Ticking s (clockAfter s depot rest (trip .stops))
 ticks s depot NoRest trip fine ok few = tt
 ticks s depot (Required b) trip fine ok few =
-    let at = clock-on-prev s (started b depot) (trip .stops) in
-    let place = clock-on-place s (started b depot) (trip .stops) in
-    record { sheet = fine; from = rw (at, ← ok .last) (ok .from); room = omega (arith, place) }
+    let place = walked-place s (atStart (Required b) depot) (trip .stops) in
+    record { sheet = fine; from = rw (ok .last (Required b)) (ok .from); room = omega (arith, place) }
 
 pub riding : (s : List ℕ) (depot : ℕ) (rest : Rest) (trip : Trip) → Accepted s → Driven s depot trip → length (trip .stops) ≤ 100 → Riding s (rideOf s depot rest trip)
 riding s depot rest trip fine ok few = record { sheet = fine; from = ok .from; few = few; load = ok .load; ticking = ticks s depot rest trip fine ok few }
 
 -- ---- at the depot
 pub sets-out : (s : List ℕ) (depot : ℕ) (rest : Rest) → setOut rest depot ≡ rideOf s depot rest (setOff depot)
-unfolding clockOn
 sets-out s depot NoRest = refl
 sets-out s depot (Required b) = refl
 
 pub off : (s : List ℕ) (depot : ℕ) → depot < rowsOf s → Driven s depot (setOff depot)
-unfolding lastOf distanceOn
-off s depot h = record { last = refl; far = refl; from = h; load = omega arith }
+off s depot h = record { last = λ rest. refl; far = λ rest. refl; from = h; load = omega arith }
 
 -- ---- the best of the stops left, by offers that agree
 pub choose-alike : (f g : ℕ → Offer) → ((i : ℕ) → f i ≡ g i) → (c : Choice) (j : ℕ) (left : List ℕ) → choose f c j left ≡ choose g c j left

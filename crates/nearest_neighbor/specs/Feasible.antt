@@ -33,7 +33,9 @@ use Rattle.evaluation.specs.Feasible.{routeFeasible}
 use Rattle.evaluation.specs.Checks.{hasSoftWindows}
 use Rattle.evaluation.specs.Bounds.{Times, LabelBounded, ServedBounded, one-time, label-widen, late-positive}
 use Rattle.evaluation.specs.Finite.{step-bounded, start-bounded}
-use Rattle.evaluation.specs.Longer.{lastOf, distanceOn, servedOn, last-more, distance-on-more, served-on-more, walk-feasible}
+use Rattle.evaluation.specs.Walk.{Position, startAt as atStart, walkedOver}
+use Rattle.evaluation.specs.Laws.Walk.{more-before, more-prev, more-distance}
+use Rattle.evaluation.specs.Laws.Verdict.{walk-feasible}
 use Rattle.constructive.specs.Load.{loadOf, load-append}
 use Rattle.constructive.specs.Rounds.{Carried, Feasible, OfFleet}
 use Rattle.nearest_neighbor.specs.Greedy.{Trip, started}
@@ -141,16 +143,15 @@ goes-on l arrival service n (Soft w penalty) ok f u h m = go (violatedOf w arriv
 
 -- a round so far whose figures are its walk's
 record Walked (s : List ℕ) (depot : ℕ) (trip : Trip) : Type 0 where
-  current : trip .current ≡ lastOf depot (trip .stops)
+  current : walkedOver s (atStart NoRest depot) (trip .stops) .clock .prev ≡ trip .current
   here : trip .current < rowsOf s
-  travelled : trip .travelled ≡ distanceOn s nought depot (trip .stops)
+  travelled : walkedOver s (atStart NoRest depot) (trip .stops) .distance ≡ trip .travelled
   label : Label
-  served : servedOn s (Done atDepot) depot (trip .stops) ≡ Done label
+  served : walkedOver s (atStart NoRest depot) (trip .stops) .clock .before ≡ Done label
   timed : label .time ≡ trip .clock
   bounded : LabelBounded (4 * length (trip .stops)) (1000 * length (trip .stops)) label
 
 started-walked : (s : List ℕ) (depot : ℕ) → depot < rowsOf s → Walked s depot (started depot)
-unfolding lastOf distanceOn servedOn
 started-walked s depot h = record { current = refl; here = h; travelled = refl; label = atDepot; served = refl; timed = refl; bounded = start-bounded }
 
 snoc-length : (stops : List ℕ) (i : ℕ) → length (stops ++ (i ∷ [])) ≡ length stops + 1
@@ -173,18 +174,21 @@ module _ (s : List ℕ) (depot : ℕ) (fine : Accepted s) (trip : Trip) (i : ℕ
   unfolding stepOf serveOf
   stepped = ap (λ (t : Float). pass (w .label) (t ⊕ timeOf s (trip .current) i) (stopOf s i .service) (stopOf s i .gate)) (w .timed) ∙ next .served
 
-  served-more : servedOn s (Done atDepot) depot (trip .stops ++ (i ∷ [])) ≡ Done (next .label)
+  abbrev start : Position
+  start = atStart NoRest depot
+
+  served-more : walkedOver s start (trip .stops ++ (i ∷ [])) .clock .before ≡ Done (next .label)
   served-more =
-      served-on-more s (Done atDepot) depot (trip .stops) i
-      ∙ ap (λ (x : Served). stepOf x (timeOf s (lastOf depot (trip .stops)) i) (stopOf s i)) (w .served)
-      ∙ ap (λ (n : ℕ). stepOf (Done (w .label)) (timeOf s n i) (stopOf s i)) (sym (w .current))
+      more-before s start (trip .stops) i
+      ∙ ap (λ (x : Served). stepOf x (timeOf s (walkedOver s start (trip .stops) .clock .prev) i) (stopOf s i)) (w .served)
+      ∙ ap (λ (n : ℕ). stepOf (Done (w .label)) (timeOf s n i) (stopOf s i)) (w .current)
       ∙ stepped
 
-  distance-more : distanceOn s nought depot (trip .stops ++ (i ∷ [])) ≡ trip .travelled ⊕ distanceOf s (trip .current) i
+  distance-more : walkedOver s start (trip .stops ++ (i ∷ [])) .distance ≡ trip .travelled ⊕ distanceOf s (trip .current) i
   distance-more =
-      distance-on-more s nought depot (trip .stops) i
-      ∙ ap (λ (x : Float). x ⊕ distanceOf s (lastOf depot (trip .stops)) i) (sym (w .travelled))
-      ∙ ap (λ (n : ℕ). trip .travelled ⊕ distanceOf s n i) (sym (w .current))
+      more-distance s start (trip .stops) i
+      ∙ ap (λ (x : Float). x ⊕ distanceOf s (walkedOver s start (trip .stops) .clock .prev) i) (w .travelled)
+      ∙ ap (λ (n : ℕ). trip .travelled ⊕ distanceOf s n i) (w .current)
 
   bounded-more : LabelBounded (4 * length (trip .stops ++ (i ∷ []))) (1000 * length (trip .stops ++ (i ∷ []))) (next .label)
   bounded-more =
@@ -197,9 +201,9 @@ module _ (s : List ℕ) (depot : ℕ) (fine : Accepted s) (trip : Trip) (i : ℕ
   walked-more : Walked s depot (windowOnward s trip i)
   unfolding windowOnward
   walked-more = record {
-    current = sym (last-more depot (trip .stops) i);
+    current = more-prev s start (trip .stops) i;
     here = I;
-    travelled = sym distance-more;
+    travelled = distance-more;
     label = next .label;
     served = served-more;
     timed = next .timed;
@@ -213,10 +217,10 @@ module _ (s : List ℕ) (depot : ℕ) (fine : Accepted s) (trip : Trip) (i : ℕ
   test-feasible v (Required b) e t = t
   test-feasible v NoRest e t =
       let route = trip .stops ++ (i ∷ []) in
-      let l = last-more depot (trip .stops) i in
+      let p = walkedOver s start route in
       subst T
-      (sym (walk-feasible s depot (limitsOf v) route (next .label) e served-more
-      ∙ ap (λ (n : ℕ). allowOf (limitsOf v) (distanceOn s nought depot route ⊕ distanceOf s n depot) (next .label .time ⊕ timeOf s n depot)) l
+      (sym (walk-feasible s depot (limitsOf v) route p (next .label) e refl served-more
+      ∙ ap (λ (n : ℕ). allowOf (limitsOf v) (p .distance ⊕ distanceOf s n depot) (next .label .time ⊕ timeOf s n depot)) (more-prev s start (trip .stops) i)
       ∙ ap (λ (x : Float). allowOf (limitsOf v) (x ⊕ distanceOf s i depot) (next .label .time ⊕ timeOf s i depot)) distance-more
       ∙ ap (λ (x : Float). allowOf (limitsOf v) (thereAndHome s depot trip i) (x ⊕ timeOf s i depot)) (next .timed)))
       t

@@ -12,10 +12,11 @@ use Rattle.sheet.specs.declared.vehicle.Rest.{Rest}
 use Rattle.sheet.specs.declared.vehicle.Rest.the-variants.{NoRest, Required}
 use Rattle.sheet.specs.declared.vehicle.Vehicle.{Vehicle}
 use Rattle.evaluation.specs.Sums.{_⊕_, _⊗_}
-use Rattle.evaluation.specs.Clock.{started, nextOf, finishOf}
+use Rattle.evaluation.specs.Clock.{started, nextOf, clockOf, breakClock, nextBy}
 use Rattle.evaluation.specs.Limits.{limitsOf, allowOf}
 use Rattle.evaluation.specs.Routed.{Clocked}
-use Rattle.evaluation.specs.Feasible.{keptBy, effectiveCost}
+use Rattle.evaluation.specs.Verdict.{verdictOf, passes}
+use Rattle.evaluation.specs.Feasible.{effectiveCost}
 use Rattle.evaluation.specs.declared.limits.RouteLimits.{RouteLimits}
 use Rattle.nearest_neighbor.specs.declared.ride.Ride.{Ride}
 use Rattle.nearest_neighbor.specs.declared.ride.RideClock.{RideClock}
@@ -33,16 +34,16 @@ tripBy ride = record { stops = []; current = ride .current; load = ride .load; t
 -- ---- the clock that is kept
 abbrev pub clockFor : Rest → ℕ → RideClock
 clockFor NoRest depot = NoClock
-clockFor (Required b) depot = Kept (started b depot)
+clockFor (Required b) depot = Kept (breakClock b (started (Required b) depot))
 
 unfoldable pub pushedBy : List ℕ → RideClock → ℕ → RideClock
 pushedBy s NoClock row = NoClock
-pushedBy s (Kept c) row = Kept (nextOf s c row)
+pushedBy s (Kept c) row = Kept (nextBy s c row)
 
 -- the clock, pushed once and brought home, says whether the limits are kept
 unfoldable pub allowsBy : List ℕ → ℕ → RouteLimits → RideClock → ℕ → Float → Float → Bool
 allowsBy s depot limits NoClock i distance duration = allowOf limits distance duration
-allowsBy s depot limits (Kept c) i distance duration = keptBy limits (finishOf s (nextOf s c i) distance depot)
+allowsBy s depot limits (Kept c) i distance duration = passes (verdictOf limits (nextOf s (clockOf c) i) distance (timeOf s i depot))
 
 -- ---- the round
 abbrev pub setOut : Rest → ℕ → Ride

@@ -8,6 +8,7 @@ use Rattle.wire.specs.Bytes.{write}
 use Rattle.sheet.specs.Fields.{rowsOf}
 use Rattle.sheet.specs.declared.vehicle.Vehicle.{Vehicle}
 use Rattle.evaluation.specs.Routed.{Routed}
+use Rattle.evaluation.specs.Limits.{limitsOf}
 use Rattle.evaluator.specs.declared.Progress.{Progress}
 use Rattle.evaluator.specs.declared.Placed.{Placed}
 use Rattle.evaluator.specs.declared.Record.{Record}
@@ -15,17 +16,17 @@ use Rattle.evaluator.specs.Record.{placedOf, beginOf, visitedOf, progressOf, re
 use Rattle.plan.specs.Plan.{first, roundAt, roundBytes, withVisits, withRound}
 
 prev-in : (s : List ℕ) (t : Placed) (rows : List ℕ) (p : Progress) → p .prev < rowsOf s → ((k : ℕ) → k < length rows → getD rows k 0 < rowsOf s) → progressOf s t p rows .prev < rowsOf s
-unfolding progressOf visitedOf
+unfolding visitedOf
 prev-in s t [] p h r = h
 prev-in s t (row ∷ rows) p h r = prev-in s t rows (visitedOf s t p row) (r 0 (omega arith)) (λ k l. r (suc k) (suc-le-suc l))
 
-module _ (s : List ℕ) (v : Vehicle) (route : List ℕ) (t : Placed) (p : Progress) (told : t ≡ placedOf s (v .depot) (v .rest) route) (gone : p ≡ progressOf s t (beginOf (v .depot)) route) where
+module _ (s : List ℕ) (v : Vehicle) (route : List ℕ) (t : Placed) (p : Progress) (told : t ≡ placedOf s (v .depot) (limitsOf v) route) (gone : p ≡ progressOf s t (beginOf (v .depot)) route) where
   -- the last stop is a row, or the depot is
   pub from : Routed s (v .depot) route → p .prev < rowsOf s
   from ok = rw gone (prev-in s t route (beginOf (v .depot)) (ok .home) (ok .row))
 
   module _ (r : Record) (summed : r ≡ recordOf s (v .depot) (t .answer) p) where
-    pub figures : r ≡ buildRoute s (v .depot) (v .rest) route
+    pub figures : r ≡ buildRoute s (v .depot) (limitsOf v) route
     unfolding buildRoute
     figures = rw (summed, gone, told)
 

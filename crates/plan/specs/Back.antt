@@ -19,6 +19,7 @@ use Rattle.sheet.specs.Accepted.{Accepted}
 use Rattle.sheet.specs.Values.{vehicleOf}
 use Rattle.sheet.specs.declared.vehicle.Vehicle.{Vehicle}
 use Rattle.sheet.specs.Fleet.{indexFrom, indexOf}
+use Rattle.evaluation.specs.Limits.{limitsOf}
 use Rattle.evaluator.specs.Record.{placedOf, beginOf, buildRoute}
 use Rattle.constructive.specs.Outcome.{Round, Outcome, chains, stopsOf}
 use Rattle.constructive.specs.Right.{idsKnown, linksRight, eachOnce, outcomeRight, stops-right, distinct-right}
@@ -51,19 +52,19 @@ index-back s a v (suc m) w h e l = go (ltb w v) refl (λ k. index-back s a v m (
 module _ (s : List ℕ) (most : rowsOf s ≤ 101) where
   module _ (k : ℕ) (v : Vehicle) (stops plan : List ℕ) (few : k < rowsOf s) (long : length plan ≡ 16 + 80 * rowsOf s) (o : Stops (rowsOf s) stops) where
     abbrev visited : List ℕ
-    visited = withVisits s (placedOf s (v .depot) (v .rest) stops) (beginOf (v .depot)) stops plan
+    visited = withVisits s (placedOf s (v .depot) (limitsOf v) stops) (beginOf (v .depot)) stops plan
 
     abbrev figures : List ℕ
-    figures = roundBytes (v .id) (first stops) (buildRoute s (v .depot) (v .rest) stops)
+    figures = roundBytes (v .id) (first stops) (buildRoute s (v .depot) (limitsOf v) stops)
 
     spread : Spread (rowsOf s) stops plan visited
-    spread = visits-spread s (placedOf s (v .depot) (v .rest) stops) (beginOf (v .depot)) stops plan most o
+    spread = visits-spread s (placedOf s (v .depot) (limitsOf v) stops) (beginOf (v .depot)) stops plan most o
 
     length-visited : length visited ≡ 16 + 80 * rowsOf s
     length-visited = spread-length (rowsOf s) long spread
 
     long-figures : length figures ≡ 56
-    long-figures = round-long (v .id) (first stops) (buildRoute s (v .depot) (v .rest) stops)
+    long-figures = round-long (v .id) (first stops) (buildRoute s (v .depot) (limitsOf v) stops)
 
     room : roundAt k + length figures ≤ length visited
     room = let l = length-visited in let m = long-figures in omega arith
@@ -84,10 +85,10 @@ module _ (s : List ℕ) (most : rowsOf s ≤ 101) where
     unfolding nextAt
     round-next r h = round-visits r ∙ spread-keeps (rowsOf s) 2 (visitAt (rowsOf s) r) long spread (clear-next (rowsOf s) r stops h)
 
-    round-field : (m i : ℕ) → i + m ≤ 16 → le m (withRound s k v stops plan) (roundAt k + i) ≡ le m (roundCounts (v .id) (first stops) (buildRoute s (v .depot) (v .rest) stops)) i
+    round-field : (m i : ℕ) → i + m ≤ 16 → le m (withRound s k v stops plan) (roundAt k + i) ≡ le m (roundCounts (v .id) (first stops) (buildRoute s (v .depot) (limitsOf v) stops)) i
     unfolding withRound roundBytes
     round-field m i h =
-        let r = buildRoute s (v .depot) (v .rest) stops in
+        let r = buildRoute s (v .depot) (limitsOf v) stops in
         let c = counts-long (v .id) (first stops) r in
         let l = long-figures in
         le-in visited (roundAt k) figures room m i (omega arith) ∙ le-front m i (roundCounts (v .id) (first stops) r) (roundFigures r) (omega arith)
@@ -101,7 +102,7 @@ module _ (s : List ℕ) (most : rowsOf s ≤ 101) where
     round-first =
         round-field 2 8 (omega arith)
         ∙ le-skip 2 4 4 (bytes 4 (v .id)) _ (length-bytes 4 (v .id))
-        ∙ le-skip 2 0 4 (bytes 4 (buildRoute s (v .depot) (v .rest) stops .load)) _ (length-bytes 4 (buildRoute s (v .depot) (v .rest) stops .load))
+        ∙ le-skip 2 0 4 (bytes 4 (buildRoute s (v .depot) (limitsOf v) stops .load)) _ (length-bytes 4 (buildRoute s (v .depot) (limitsOf v) stops .load))
         ∙ starts 2 (first stops) _ (first-lt (rowsOf s) stops most o)
 
     round-links : Distinct stops → Linked visited (rowsOf s) stops

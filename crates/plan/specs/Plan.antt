@@ -9,6 +9,7 @@ use Rattle.sheet.specs.Fields.{rowsOf, planLength}
 use Rattle.sheet.specs.Values.{nought, vehicleOf}
 use Rattle.sheet.specs.declared.vehicle.Vehicle.{Vehicle}
 use Rattle.evaluation.specs.Serve.{restPlace, restStart}
+use Rattle.evaluation.specs.Limits.{limitsOf}
 use Rattle.evaluator.specs.Record.{placedOf, beginOf, visitedOf, buildRoute, priceStart, priceWith}
 use Rattle.evaluator.specs.declared.Progress.{Progress}
 use Rattle.evaluator.specs.declared.Placed.{Placed}
@@ -66,8 +67,8 @@ withVisits s t p (row ∷ rows) plan =
 -- a round counted k, from 0, with its vehicle: its stops, then its record
 unfoldable pub withRound : List ℕ → ℕ → Vehicle → List ℕ → List ℕ → List ℕ
 withRound s k v stops plan =
-    let t = placedOf s (v .depot) (v .rest) stops in
-    write (withVisits s t (beginOf (v .depot)) stops plan) (roundAt k) (roundBytes (v .id) (first stops) (buildRoute s (v .depot) (v .rest) stops))
+    let t = placedOf s (v .depot) (limitsOf v) stops in
+    write (withVisits s t (beginOf (v .depot)) stops plan) (roundAt k) (roundBytes (v .id) (first stops) (buildRoute s (v .depot) (limitsOf v) stops))
 
 unfoldable pub withRounds : List ℕ → ℕ → List Round → List ℕ → List ℕ
 withRounds s k [] plan = plan
@@ -82,7 +83,7 @@ withAside s (row ∷ rows) plan = withAside s rows (write plan (visitAt (rowsOf 
 unfoldable pub priceAfter : List ℕ → Float → ℕ → List ℕ → Float
 priceAfter s total v stops =
     let vehicle = vehicleOf s v in
-    priceWith total vehicle (buildRoute s (vehicle .depot) (vehicle .rest) stops)
+    priceWith total vehicle (buildRoute s (vehicle .depot) (limitsOf vehicle) stops)
 
 -- the rounds' costs, in order
 unfoldable pub priceOf : List ℕ → Float → List Round → Float

@@ -10,6 +10,7 @@ use Rattle.sheet.specs.Values.{vehicleOf}
 use Rattle.sheet.specs.declared.vehicle.Vehicle.{Vehicle}
 use Rattle.sheet.specs.Accepted.{Sized}
 use Rattle.evaluation.specs.Serve.{restStart}
+use Rattle.evaluation.specs.Limits.{limitsOf}
 use Rattle.evaluator.specs.Record.{placedOf, beginOf, visitedOf, buildRoute, priceStart}
 use Rattle.evaluator.specs.declared.Progress.{Progress}
 use Rattle.evaluator.specs.declared.Placed.{Placed}
@@ -39,8 +40,8 @@ VisitsWritable s t p (row ∷ rows) = VisitWritable (visitedOf s t p row) × Vis
 
 -- a vehicle's round
 pub record RoundWritable (s : List ℕ) (v : Vehicle) (stops : List ℕ) : Type 0 where
-  pub visits : VisitsWritable s (placedOf s (v .depot) (v .rest) stops) (beginOf (v .depot)) stops
-  pub figures : RecordWritable (buildRoute s (v .depot) (v .rest) stops)
+  pub visits : VisitsWritable s (placedOf s (v .depot) (limitsOf v) stops) (beginOf (v .depot)) stops
+  pub figures : RecordWritable (buildRoute s (v .depot) (limitsOf v) stops)
 
 -- every figure of every plan of the sheet
 pub record Writable (s : List ℕ) : Type 0 where

@@ -1,5 +1,6 @@
 // The plan's bytes, written from an outcome's tables.
 use constructive::tables;
+use evaluation::limits;
 use evaluator::Placed;
 use evaluator::Progress;
 use evaluator::Record;
@@ -12,6 +13,7 @@ ghost use Rattle.wire.specs.Bytes.{write};
 ghost use Rattle.sheet.specs.Accepted.{Sized};
 ghost use Rattle.sheet.specs.Fields.{rowsOf, planLength};
 ghost use Rattle.sheet.specs.Values.{vehicleOf};
+ghost use Rattle.evaluation.specs.Limits.{limitsOf};
 ghost use Rattle.evaluation.specs.Routed.{Routed};
 ghost use Rattle.evaluator.specs.Driven.{Driven};
 ghost use Rattle.evaluator.specs.Record.{beginOf, visitedOf, progressOf, buildRoute, priceStart};
@@ -91,12 +93,11 @@ fn write_round(plan: &mut [u8], sheet: &[u8], k: usize, vehicle: Vehicle, route:
     requires { ⌜ Routed (now sheet) (vehicle .depot) (now route) ⌝ }
     requires { ⌜ (k < rowsOf (now sheet)) × (length (now plan) ≡ planLength (now sheet)) ⌝ }
     requires { ⌜ RoundWritable (now sheet) vehicle (now route) ⌝ }
-    ensures { λ r. ⌜ r ≡ buildRoute (now (sheet .entry)) (vehicle .depot) (vehicle .rest) (now (route .entry)) ⌝ }
+    ensures { λ r. ⌜ r ≡ buildRoute (now (sheet .entry)) (vehicle .depot) (limitsOf vehicle) (now (route .entry)) ⌝ }
     ensures { λ _. ⌜ now (plan .exit) ≡ withRound (now (sheet .entry)) k vehicle (now (route .entry)) (now (plan .entry)) ⌝ }
 {
     let depot = vehicle.depot as usize;
-    let rest = vehicle.rest;
-    let placed = evaluator::place_rest(sheet, route, depot, rest);
+    let placed = evaluator::place_rest(sheet, route, depot, limits::limits_of(vehicle));
     let progress = write_visits(plan, sheet, placed, route, depot);
     let answer = placed.answer;
     let figures = progress.record(sheet, depot, answer);

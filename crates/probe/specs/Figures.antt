@@ -56,7 +56,7 @@ visitFigure p n = getD (p .arrival ∷ p .departure ∷ whole (p .load) ∷ []) 
 
 -- the round as far as the stop at index k
 unfoldable pub progressAt : List ℕ → ℕ → RouteLimits → List ℕ → ℕ → Progress
-progressAt s depot limits route k = progressOf s (placedOf s depot (limits .rest) route) (beginOf depot) (take (k + 1) route)
+progressAt s depot limits route k = progressOf s (placedOf s depot limits route) (beginOf depot) (take (k + 1) route)
 
 -- three figures a stop
 unfoldable pub visitFigures : List ℕ → ℕ → RouteLimits → List ℕ → ℕ → Float
@@ -66,7 +66,7 @@ visitFigures s depot limits route n = cond (ltb (n / 3) (length route)) (visitFi
 unfoldable pub figureOf : List ℕ → ℕ → RouteLimits → List ℕ → ℕ → Float
 figureOf s depot limits route n =
     cond (ltb n 6) (evalFigure (routeEval s depot limits route) n)
-    (cond (ltb n 13) (recordFigure (buildRoute s depot (limits .rest) route) (n - 6))
+    (cond (ltb n 13) (recordFigure (buildRoute s depot limits route) (n - 6))
     (visitFigures s depot limits route (n - 13)))
 
 unfoldable pub probeFigure : List ℕ → List ℕ → ℕ → ℕ → Float

@@ -119,8 +119,7 @@ fn visit_figures(
     if route.len() <= last {
         return -2.0;
     }
-    let rest = limits.rest;
-    let placed = evaluator::place_rest(sheet, route, depot, rest);
+    let placed = evaluator::place_rest(sheet, route, depot, limits);
     let end = last + 1;
     visit_figure(progress(sheet, &route[..end], depot, placed), which % 3)
 }
@@ -133,8 +132,10 @@ pub fn figure(sheet: &[u8], route: &[u16], depot: usize, limits: RouteLimits, wh
         return eval_figure(evaluation::route_eval(sheet, route, depot, limits), which);
     }
     if which < 13 {
-        let rest = limits.rest;
-        return record_figure(evaluator::build_route(sheet, route, depot, rest), which - 6);
+        return record_figure(
+            evaluator::build_route(sheet, route, depot, limits),
+            which - 6,
+        );
     }
     visit_figures(sheet, route, depot, limits, which - 13)
 }

@@ -1,5 +1,5 @@
 -- `evaluation::eval_by` meets its contract. Assumes nothing.
-use Rattle.evaluation.specs.Feasible.{evalBy}
+use Rattle.evaluation.specs.Verdict.{heldTo}
 use borrow.Author.Needs.{needs}
 use Rattle.evaluation.proofs.eval_by.Statement.{statement}
 use Rattle.evaluation.proofs.eval_by.Tie as tie
@@ -11,18 +11,18 @@ allow-requires : tie.Need-allow-requires
 allow-requires c κs = search needs
 
 returns : tie.Need-returns
-unfolding evalBy
+unfolding heldTo
 returns c = rw (c .before .before .before .scheduled .given .1, ← c .before .allow .ensures, c .if1 .taken)
 
 enum-told : tie.Need-enum-told
 enum-told c = search needs
 
 returns-2 : tie.Need-returns-2
-unfolding evalBy
+unfolding heldTo
 returns-2 c = rw (c .before .before .before .scheduled .given .1, ← c .before .allow .ensures, c .if1 .left)
 
 returns-3 : tie.Need-returns-3
-unfolding evalBy
+unfolding heldTo
 returns-3 c = rw (c .enum-told .given .1)
 
 pub eval-by-spec : {M : Type 1} → statement M

@@ -1,8 +1,9 @@
 -- `evaluation::route_eval` meets its contract. Assumes nothing.
 use mathlib.Core.Path.{_∙_, ap}
 use borrow.Author.Needs.{needs}
-use Rattle.evaluation.specs.Feasible.{evalBy, routeEval}
-use Rattle.evaluation.proofs.ByRest.{with-rest, without-rest}
+use Rattle.evaluation.specs.Verdict.{evalOf}
+use Rattle.evaluation.specs.Feasible.{routeEval}
+use Rattle.evaluation.proofs.ByRest.{by-rest}
 use Rattle.evaluation.proofs.route_eval.Statement.{statement}
 use Rattle.evaluation.proofs.route_eval.Tie as tie
 
@@ -26,11 +27,11 @@ eval-by-requires-2 c κs = search needs
 
 returns : tie.Need-returns
 unfolding routeEval
-returns c = c .eval-by .ensures ∙ ap (evalBy (c .before .before .before .before .before .before .args .limits)) (c .before .walk .ensures ∙ without-rest _ _ _ _ (c .before .before .enum-told .given .1))
+returns c = c .eval-by .ensures ∙ ap evalOf (by-rest _ _ _ _ _ _ (c .before .before .enum-told .given .1) (c .before .walk .ensures))
 
 returns-2 : tie.Need-returns-2
 unfolding routeEval
-returns-2 c = c .eval-by2 .ensures ∙ ap (evalBy (c .before .before .before .before .before .before .before .args .limits)) (c .before .schedule .ensures ∙ with-rest _ _ _ _ _ (c .before .before .before .rest .given .1))
+returns-2 c = c .eval-by2 .ensures ∙ ap evalOf (by-rest _ _ _ _ _ _ (c .before .before .before .rest .given .1) (c .before .schedule .ensures))
 
 pub route-eval-spec : {M : Type 1} → statement M
 route-eval-spec =

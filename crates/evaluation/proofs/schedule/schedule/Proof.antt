@@ -1,16 +1,15 @@
 -- `evaluation::schedule::schedule` meets its contract. Assumes nothing.
-use mathlib.Core.Path.{refl, sym}
+use mathlib.Core.Path.{refl}
 use Prim.Native.Nat.{_-_}
 use native.Mathlib.Omega.{arith}
 use borrow.Author.Needs.{needs}
-use borrow.Author.Tests.{not-true, not-false}
-use Rattle.evaluation.specs.Walk.{scheduleOf}
-use Rattle.evaluation.proofs.Onward.{Going, in-range, clocked, goes-on, stops, ends}
+use borrow.Author.Tests.{not-true}
+use Rattle.evaluation.proofs.Onward.{positionAt, Going, in-range, clocked, goes-on, stops, ends, gone, home}
 use Rattle.evaluation.proofs.schedule.schedule.Statement.{statement}
 use Rattle.evaluation.proofs.schedule.schedule.Tie as tie
 
 abbrev Inv-loop : tie.InvT-loop
-Inv-loop sheet route depot clock₀ distance₀ i₀ i-end clock distance i = Going sheet route depot clock₀ distance₀ clock distance i i-end
+Inv-loop sheet route depot clock₀ distance₀ i₀ i-end clock distance i = Going sheet route depot (positionAt clock₀ distance₀) clock distance i i-end
 
 abbrev μ-loop : tie.MeasureT-loop
 μ-loop sheet route depot clock₀ distance₀ i₀ i-end clock distance i = i-end - i
@@ -31,14 +30,16 @@ cast-row : tie.Need-cast-row Inv-loop μ-loop
 cast-row c = omega (arith, c .shared-slice-known3 .given (c .before .before .loop .i))
 
 distance-requires : tie.Need-distance-requires Inv-loop μ-loop
-distance-requires c κs = let g = c .before .before .loop .inv in (g .routed .sheet, (g .from, in-range _ _ _ _ _ _ _ _ _ g (c .before .loop-test .taken)))
+distance-requires c κs = let g = c .before .before .loop .inv in (g .routed .sheet, (g .from, in-range _ _ _ _ _ _ _ _ g (c .before .loop-test .taken)))
 
 pushed-requires : tie.Need-pushed-requires Inv-loop μ-loop
-pushed-requires c κs = let g = c .before .before .before .loop .inv in (clocked _ _ _ _ _ _ _ _ _ g, in-range _ _ _ _ _ _ _ _ _ g (c .before .before .loop-test .taken))
+pushed-requires c κs = let g = c .before .before .before .loop .inv in (clocked _ _ _ _ _ _ _ _ g, in-range _ _ _ _ _ _ _ _ g (c .before .before .loop-test .taken))
 
 returns : tie.Need-returns Inv-loop μ-loop
-unfolding scheduleOf
-returns c = rw (← c .before .before .before .before .before .before .before .new .ensures) (sym (stops _ _ _ _ _ _ _ _ _ (c .before .before .before .before .before .before .loop .inv) _ (c .before .before .before .before .before .loop-test .taken) (c .before .before .pushed .ensures) (not-true _ (c .if1 .taken))))
+returns c =
+    let o = c .before .before .before .before .before .before in
+    gone _ _ _ _ _ (o .before .new .ensures)
+    (stops _ _ _ _ _ _ _ _ (o .loop .inv) _ (c .before .before .before .before .before .loop-test .taken) (c .before .before .pushed .ensures) (not-true _ (c .if1 .taken)))
 
 add-i : tie.Need-add-i Inv-loop μ-loop
 add-i c = omega arith
@@ -47,17 +48,18 @@ loop-less : tie.Need-loop-less Inv-loop μ-loop
 loop-less c = omega arith
 
 loop-again : tie.Need-loop-again Inv-loop μ-loop
-loop-again c = rw (c .before .before .before .before .distance .ensures) (goes-on _ _ _ _ _ _ _ _ _ (c .before .before .before .before .before .before .before .loop .inv) _ (c .before .before .before .before .before .before .loop-test .taken) (c .before .before .before .pushed .ensures) (not-false _ (c .before .if1 .left)))
+loop-again c = rw (c .before .before .before .before .distance .ensures) (goes-on _ _ _ _ _ _ _ _ (c .before .before .before .before .before .before .before .loop .inv) _ (c .before .before .before .before .before .before .loop-test .taken) (c .before .before .before .pushed .ensures))
 
 distance-requires-2 : tie.Need-distance-requires-2 Inv-loop μ-loop
 distance-requires-2 c κs = let g = c .before .loop .inv in (g .routed .sheet, (g .from, g .routed .home))
 
 finish-requires : tie.Need-finish-requires Inv-loop μ-loop
-finish-requires c κs = let g = c .before .before .loop .inv in (clocked _ _ _ _ _ _ _ _ _ g, g .routed .home)
+finish-requires c κs = let g = c .before .before .loop .inv in (clocked _ _ _ _ _ _ _ _ g, g .routed .home)
 
 returns-2 : tie.Need-returns-2 Inv-loop μ-loop
-unfolding scheduleOf
-returns-2 c = rw (c .finish .ensures, c .before .distance2 .ensures, ← c .before .before .before .before .new .ensures) (sym (ends _ _ _ _ _ _ _ _ _ (c .before .before .before .loop .inv) (c .before .before .loop-test .left)))
+returns-2 c =
+    let o = c .before .before .before in
+    rw (c .finish .ensures, c .before .distance2 .ensures) (home _ _ _ _ _ (o .before .new .ensures) _ _ (ends _ _ _ _ _ _ _ _ (o .loop .inv) (c .before .before .loop-test .left)))
 
 pub schedule-spec : {M : Type 1} → statement M
 schedule-spec =

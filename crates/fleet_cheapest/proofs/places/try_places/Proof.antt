@@ -3,7 +3,7 @@ use borrow.Author.Needs.{needs}
 use mathlib.Core.Path.{sym, _∙_}
 use Prim.Native.Nat.{_-_, _≤_}
 use native.Mathlib.Omega.{arith}
-use Rattle.evaluation.specs.Ahead.{Behind}
+use Rattle.evaluation_ahead.specs.Ahead.{Behind}
 use Rattle.insertion.proofs.Trying.{trial-long}
 use Rattle.insertion.proofs.Placing.{Placing, placing, places, placed}
 use Rattle.fleet_cheapest.proofs.Prefix.{at-start}

@@ -1,5 +1,5 @@
 -- `evaluation::clock::BreakClock::finish` meets its contract. Assumes nothing.
-use Rattle.evaluation.specs.Clock.{homeward, finishOf}
+use Rattle.evaluation.specs.Clock.{homeward, returned}
 use borrow.Author.Needs.{needs}
 use Rattle.evaluation.proofs.clock.BreakClock.finish.Statement.{statement}
 use Rattle.evaluation.proofs.clock.BreakClock.finish.Tie as tie
@@ -14,7 +14,7 @@ home-requires : tie.Need-home-requires
 home-requires c κs = search needs
 
 returns : tie.Need-returns
-unfolding finishOf homeward
+unfolding returned homeward
 returns c = rw (c .before .before .before .before .before .before2 .given .1, ← c .before .before .before .before .before .before .before .travel-time .ensures, c .before .if1 .taken, c .home .ensures)
 
 ended-requires : tie.Need-ended-requires
@@ -27,11 +27,11 @@ ended-requires-2 : tie.Need-ended-requires-2
 ended-requires-2 c κs = search needs
 
 returns-2 : tie.Need-returns-2
-unfolding finishOf homeward
+unfolding returned homeward
 returns-2 c = rw (c .before .before .before .before .before .before2 .given .1, ← c .before .before .before .before .before .before .before .travel-time .ensures, c .before .if1 .left) (c .ended .ensures)
 
 returns-3 : tie.Need-returns-3
-unfolding finishOf homeward
+unfolding returned homeward
 returns-3 c = rw (c .before .enum-told .given .1, ← c .before .before .before .travel-time .ensures) (c .ended2 .ensures)
 
 pub finish-spec : {M : Type 1} → statement M

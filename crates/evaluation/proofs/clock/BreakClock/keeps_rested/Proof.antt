@@ -1,7 +1,9 @@
 -- `evaluation::clock::BreakClock::keeps_rested` meets its contract. Assumes nothing.
 use borrow.Author.Needs.{needs}
-use Rattle.evaluation.specs.Clock.{endOf}
-use Rattle.evaluation.specs.Feasible.{keptBy}
+use mathlib.Core.Path.{sym, _∙_}
+use Rattle.evaluation.specs.Clock.{takenOf, endOf}
+use Rattle.evaluation.specs.Verdict.{heldTo}
+use Rattle.evaluation.specs.Laws.Verdict.{held-passes}
 use Rattle.evaluation.proofs.clock.BreakClock.keeps_rested.Statement.{statement}
 use Rattle.evaluation.proofs.clock.BreakClock.keeps_rested.Tie as tie
 
@@ -24,11 +26,11 @@ enum-told : tie.Need-enum-told
 enum-told c = search needs
 
 returns : tie.Need-returns
-unfolding keptBy endOf
-returns c = rw (← c .before .before .before .before .before .before .step .ensures, ← c .before .before .before .before .before .before .before .step-rested .ensures, ← c .before .before .before .before .before .earlier .ensures, c .before .before .before .taken .given .1) (c .allow .ensures)
+unfolding takenOf endOf
+returns c = rw (← c .before .before .before .before .before .before .step .ensures, ← c .before .before .before .before .before .before .before .step-rested .ensures, ← c .before .before .before .before .before .earlier .ensures, c .before .before .before .taken .given .1) (c .allow .ensures ∙ sym (held-passes _ _))
 
 returns-2 : tie.Need-returns-2
-unfolding keptBy endOf
+unfolding heldTo takenOf endOf
 returns-2 c = rw (← c .before .before .before .step .ensures, ← c .before .before .before .before .step-rested .ensures, ← c .before .before .earlier .ensures, c .enum-told .given .1)
 
 pub keeps-rested-spec : {M : Type 1} → statement M

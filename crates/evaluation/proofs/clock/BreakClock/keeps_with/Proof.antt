@@ -1,7 +1,9 @@
 -- `evaluation::clock::BreakClock::keeps_with` meets its contract. Assumes nothing.
 use borrow.Author.Needs.{needs}
-use Rattle.evaluation.specs.Clock.{movedOf, homeward, finishOf}
-use Rattle.evaluation.specs.Feasible.{keptBy}
+use mathlib.Core.Path.{sym, _∙_}
+use Rattle.evaluation.specs.Clock.{movedOf, homeward, returned}
+use Rattle.evaluation.specs.Verdict.{verdictOf}
+use Rattle.evaluation.specs.Laws.Verdict.{held-passes}
 use Rattle.evaluation.proofs.clock.BreakClock.keeps_with.Statement.{statement}
 use Rattle.evaluation.proofs.clock.BreakClock.keeps_with.Tie as tie
 
@@ -24,8 +26,8 @@ allow-requires : tie.Need-allow-requires
 allow-requires c κs = search needs
 
 returns : tie.Need-returns
-unfolding keptBy finishOf movedOf homeward
-returns c = rw (← c .before .before .before .before .before .before .before .before .before .before .before .travel-time .ensures, ← c .before .before .before .before .before .before .before .before .before .before .travel-time2 .ensures, ← c .before .before .before .before .before .before .before .before .before .stop-at .ensures, ← c .before .before .before .before .before .before .before .before .step .ensures, c .before .before .before .before .before .before .skipped .given .1, c .before .before .if1 .taken) (c .allow .ensures)
+unfolding verdictOf returned movedOf homeward
+returns c = rw (← c .before .before .before .before .before .before .before .before .before .before .before .travel-time .ensures, ← c .before .before .before .before .before .before .before .before .before .before .travel-time2 .ensures, ← c .before .before .before .before .before .before .before .before .before .stop-at .ensures, ← c .before .before .before .before .before .before .before .before .step .ensures, c .before .before .before .before .before .before .skipped .given .1, c .before .before .if1 .taken) (c .allow .ensures ∙ sym (held-passes _ _))
 
 keeps-rested-requires : tie.Need-keeps-rested-requires
 keeps-rested-requires c κs = search needs
@@ -37,11 +39,11 @@ keeps-rested-requires-2 : tie.Need-keeps-rested-requires-2
 keeps-rested-requires-2 c κs = search needs
 
 returns-2 : tie.Need-returns-2
-unfolding keptBy finishOf movedOf homeward
+unfolding verdictOf returned movedOf homeward
 returns-2 c = rw (← c .before .before .before .before .before .before .before .before .before .before .travel-time .ensures, ← c .before .before .before .before .before .before .before .before .before .travel-time2 .ensures, ← c .before .before .before .before .before .before .before .before .stop-at .ensures, ← c .before .before .before .before .before .before .before .step .ensures, c .before .before .before .before .before .skipped .given .1, c .before .if1 .left) (c .keeps-rested .ensures)
 
 returns-3 : tie.Need-returns-3
-unfolding keptBy finishOf movedOf homeward
+unfolding verdictOf returned movedOf homeward
 returns-3 c = rw (← c .before .before .before .before .before .before .travel-time .ensures, ← c .before .before .before .before .before .travel-time2 .ensures, ← c .before .before .before .before .stop-at .ensures, ← c .before .before .before .step .ensures, c .before .enum-told .given .1) (c .keeps-rested2 .ensures)
 
 pub keeps-with-spec : {M : Type 1} → statement M

@@ -1,5 +1,5 @@
 -- `evaluation::clock::BreakClock::moved` meets its contract. Assumes nothing.
-use Rattle.evaluation.specs.Clock.{movedOf}
+use Rattle.evaluation.specs.Clock.{takenOf, movedOf}
 use borrow.Author.Needs.{needs}
 use Rattle.evaluation.proofs.clock.BreakClock.moved.Statement.{statement}
 use Rattle.evaluation.proofs.clock.BreakClock.moved.Tie as tie
@@ -20,7 +20,7 @@ add-next : tie.Need-add-next
 add-next c = search needs
 
 returns : tie.Need-returns
-unfolding movedOf
+unfolding movedOf takenOf
 returns c = simp (c .earlier .ensures, c .before .step2 .ensures, c .before .before .step-rested .ensures, c .before .before .before .step .ensures)
 
 pub moved-spec : {M : Type 1} → statement M

@@ -1,6 +1,6 @@
 -- `evaluation::clock::BreakClock::next` meets its contract. Assumes nothing.
 use borrow.Author.Needs.{needs}
-use Rattle.evaluation.specs.Clock.{movedOf}
+use Rattle.evaluation.specs.Clock.{takenOf, movedOf}
 use Rattle.evaluation.proofs.clock.BreakClock.next.Statement.{statement}
 use Rattle.evaluation.proofs.clock.BreakClock.next.Tie as tie
 
@@ -26,7 +26,7 @@ add-next : tie.Need-add-next
 add-next c = search needs
 
 returns : tie.Need-returns
-unfolding movedOf
+unfolding movedOf takenOf
 returns c = rw (c .earlier .ensures, c .before .step2 .ensures, c .before .before .step-rested .ensures, c .before .before .before .step .ensures, c .before .before .before .before .before .stop-at .ensures, c .before .before .before .before .before .before .travel-time .ensures)
 
 pub next-spec : {M : Type 1} → statement M

@@ -1,5 +1,5 @@
 -- `evaluation::clock::BreakClock::pushed` meets its contract. Assumes nothing.
-use Rattle.evaluation.specs.Clock.{pushedOf}
+use Rattle.evaluation.specs.Clock.{movedOf, pushedOf}
 use borrow.Author.Needs.{needs}
 use Rattle.evaluation.proofs.clock.BreakClock.pushed.Statement.{statement}
 use Rattle.evaluation.proofs.clock.BreakClock.pushed.Tie as tie
@@ -17,7 +17,7 @@ alive-requires : tie.Need-alive-requires
 alive-requires c κs = search needs
 
 returns : tie.Need-returns
-unfolding pushedOf
+unfolding pushedOf movedOf
 returns c = rw (c .alive .ensures, c .before .moved .ensures, c .before .before .stop-at .ensures, c .before .before .before .travel-time .ensures)
 
 pub pushed-spec : {M : Type 1} → statement M

@@ -1,14 +1,15 @@
--- `evaluation::ahead::over` meets its contract. Assumes nothing.
+-- `evaluation_ahead::over` meets its contract. Assumes nothing.
 use mathlib.Core.Path.{refl, sym, _∙_}
-use Prim.Native.Nat.{_-_}
+use Prim.Native.Nat.{_+_, _-_}
 use native.Mathlib.Omega.{arith}
 use borrow.Author.Needs.{needs}
-use Rattle.evaluation.proofs.WalkingOn.{Going, in-range, goes-on, loses, ends}
-use Rattle.evaluation.proofs.ahead.over.Statement.{statement}
-use Rattle.evaluation.proofs.ahead.over.Tie as tie
+use Rattle.evaluation.proofs.Walking.{Walking, walking, in-range, goes-on, stops, ends}
+use Rattle.evaluation_ahead.proofs.WalkingOn.{loses, arrives}
+use Rattle.evaluation_ahead.proofs.over.Statement.{statement}
+use Rattle.evaluation_ahead.proofs.over.Tie as tie
 
 abbrev Inv-loop : tie.InvT-loop
-Inv-loop sheet rows stops label₀ distance₀ prev₀ i₀ i-end label distance prev i = Going sheet rows label₀ distance₀ prev₀ label distance prev i i-end
+Inv-loop sheet rows stops label₀ distance₀ prev₀ i₀ i-end label distance prev i = Walking sheet rows label₀ distance₀ prev₀ label distance prev i i-end
 
 abbrev μ-loop : tie.MeasureT-loop
 μ-loop sheet rows stops label₀ distance₀ prev₀ i₀ i-end label distance prev i = i-end - i
@@ -20,7 +21,7 @@ label-requires : tie.Need-label-requires Inv-loop μ-loop
 label-requires c κs = search needs
 
 loop-holds : tie.Need-loop-holds Inv-loop μ-loop
-loop-holds c = let o = c .before .before .before .before in record { routed = o .pre .0; last = refl; within = omega arith; from = o .pre .0 .home; unrested = rw (c .label .ensures); same = λ depot more. refl }
+loop-holds c = walking _ _ _ _ _ (c .before .before .before .before .pre .0) (rw (c .label .ensures))
 
 mul-row : tie.Need-mul-row Inv-loop μ-loop
 mul-row c = omega arith
@@ -54,11 +55,13 @@ lost-requires c κs = search needs
 
 returns : tie.Need-returns Inv-loop μ-loop
 returns c =
-    let o = c .before .before .before .before .before .before .before .before .before .before .before .before .before .before in
+    let g = c .before .before .before .before .before .before .before .before .before in
+    let o = g .before .before .before .before .before in
     rw (c .lost .ensures)
-    (loses _ _ _ _ _ _ _ _ _ _ (c .before .before .before .before .before .before .before .before .before .loop .inv) (o .args .from) (o .pre .1 .0) (c .before .before .before .before .before .before .before .before .before .before .label .ensures) refl refl _ refl
-    (c .before .before .before .before .before .before .before .before .loop-test .taken)
-    (rw (← c .before .before .before .before .before .travel-time .ensures, ← c .before .before .before .before .stop-at .ensures) (sym (c .before .before .before .serve .ensures) ∙ c .before .enum-told .given .1)))
+    (loses _ _ (o .args .from) _ _ refl (g .loop .inv .from)
+    (rw (g .before .label .ensures)
+    at (stops _ _ _ _ _ _ _ _ _ _ (g .loop .inv) (c .before .before .before .before .before .before .before .before .loop-test .taken)
+    (rw (← c .before .before .before .before .before .travel-time .ensures, ← c .before .before .before .before .stop-at .ensures) (sym (c .before .before .before .serve .ensures) ∙ c .before .enum-told .given .1)) (o .args .from .stops + 1))))
 
 add-i : tie.Need-add-i Inv-loop μ-loop
 add-i c = omega arith
@@ -71,8 +74,10 @@ loop-again c = rw (c .before .before .before .before .before .before .distance .
 
 returns-2 : tie.Need-returns-2 Inv-loop μ-loop
 returns-2 c =
-    let o = c .before .before .before .before .before .before in
-    ends _ _ _ _ _ _ _ _ _ _ (c .before .loop .inv) (o .args .from) (o .pre .1 .0) (c .before .before .label .ensures) refl refl _ refl (c .loop-test .left)
+    let g = c .before in
+    let o = g .before .before .before .before .before in
+    arrives _ _ (o .args .from) _ _ refl (g .loop .inv .from) _ _ (g .loop .inv .unrested)
+    (rw (g .before .label .ensures) at (ends _ _ _ _ _ _ _ _ _ _ (g .loop .inv) (c .loop-test .left) (o .args .from .stops + 1)))
 
 pub over-spec : {M : Type 1} → statement M
 over-spec =

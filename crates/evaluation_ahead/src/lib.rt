@@ -1,12 +1,12 @@
 // A round walked up to some place without a rest: what all rounds with the same first stops have in common.
-use crate::RouteEval;
-use crate::clock;
-use crate::clock::Scheduled;
-use crate::label;
-use crate::label::Label;
-use crate::label::RestAnswer;
-use crate::label::Served;
-use crate::limits::RouteLimits;
+use evaluation::RouteEval;
+use evaluation::clock;
+use evaluation::clock::Scheduled;
+use evaluation::label;
+use evaluation::label::Label;
+use evaluation::label::RestAnswer;
+use evaluation::label::Served;
+use evaluation::limits::RouteLimits;
 use sheet::customer;
 use sheet::matrix;
 use sheet::vehicle::Rest;
@@ -15,9 +15,10 @@ ghost use mathlib.Core.Bool.{false};
 ghost use Prim.Native.Nat.{ℕ, _≤_, _<_};
 ghost use lib.ListN.{length};
 ghost use Rattle.sheet.specs.Fields.{rowsOf};
 ghost use Rattle.evaluation.specs.Routed.{Routed};
 ghost use Rattle.evaluation.specs.Feasible.{routeFeasible, routeEval};
-ghost use Rattle.evaluation.specs.Ahead.{atStart, labelBy, lostAt, onFrom, Reached, Behind};
+ghost use Rattle.evaluation.specs.Walk.{Position, walkedOver, homeFrom};
+ghost use Rattle.evaluation_ahead.specs.Ahead.{atStart, labelBy, lostAt, Stands, Reached, Behind};
 
 // So many stops are walked again for a place before the walk up to them is kept.
 const STRIDE: usize = 4;
@@ -110,7 +111,7 @@ fn over(sheet: &[u8], from: Ahead, rows: &[u16]) -> Ahead
 fn walk_on(sheet: &[u8], from: Ahead, rows: &[u16], depot: usize) -> Scheduled
     requires { ⌜ Routed (now sheet) (from .prev) (now rows) ⌝ }
     requires { ⌜ (depot < rowsOf (now sheet)) × (from .stops ≤ 101) ⌝ }
-    ensures { λ r. ⌜ r ≡ onFrom (now (sheet .entry)) depot from (now (rows .entry)) ⌝ }
+    ensures { λ r. ⌜ ((p : Position) → Stands from p → r ≡ homeFrom (now (sheet .entry)) depot (walkedOver (now (sheet .entry)) p (now (rows .entry)))) ⌝ }
 {
     if from.missed {
         return Scheduled::Unlawful;
@@ -156,9 +157,9 @@ pub fn feasible_on(
 {
     let at = from.stops;
     if at == 0 {
-        return crate::route_feasible(sheet, round, depot, limits);
+        return evaluation::route_feasible(sheet, round, depot, limits);
     }
-    crate::kept_by(limits, walk_on(sheet, from, &round[at..], depot))
+    evaluation::kept_by(limits, walk_on(sheet, from, &round[at..], depot))
 }
 
 // `route_eval` of the round, likewise.
@@ -175,7 +176,7 @@ pub fn eval_on(
 {
     let at = from.stops;
     if at == 0 {
-        return crate::route_eval(sheet, round, depot, limits);
+        return evaluation::route_eval(sheet, round, depot, limits);
     }
-    crate::eval_by(limits, walk_on(sheet, from, &round[at..], depot))
+    evaluation::eval_by(limits, walk_on(sheet, from, &round[at..], depot))
 }

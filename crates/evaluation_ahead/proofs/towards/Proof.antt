@@ -1,10 +1,10 @@
--- `evaluation::ahead::towards` meets its contract. Assumes nothing.
+-- `evaluation_ahead::towards` meets its contract. Assumes nothing.
 use Prim.Native.Nat.{_-_}
 use native.Mathlib.Omega.{arith}
-use Rattle.evaluation.proofs.WalkingOn.{part-routed, there, nearer}
+use Rattle.evaluation_ahead.proofs.WalkingOn.{part-routed, there, nearer}
 use borrow.Author.Needs.{needs}
-use Rattle.evaluation.proofs.ahead.towards.Statement.{statement}
-use Rattle.evaluation.proofs.ahead.towards.Tie as tie
+use Rattle.evaluation_ahead.proofs.towards.Statement.{statement}
+use Rattle.evaluation_ahead.proofs.towards.Tie as tie
 
 sub-if1 : tie.Need-sub-if1
 sub-if1 c = search needs
@@ -34,7 +34,7 @@ enum-told-2 : tie.Need-enum-told-2
 enum-told-2 c = search needs
 
 returns-2 : tie.Need-returns-2
-returns-2 c = let o = c .before .before .before .before .before .before .before .before in ((λ depot g. nearer _ _ _ _ _ g _ _ (o .pre .1 .0) (o .pre .1 .1) (c .before .before .enum-told .given .1) (c .over .ensures)), omega (arith, there _ (o .args .round .now) _ _ _ (o .pre .1 .0) (o .pre .1 .1) (c .over .ensures)))
+returns-2 c = let o = c .before .before .before .before .before .before .before .before in ((λ depot g. nearer _ _ _ _ _ g _ _ (o .pre .1 .0) (o .pre .1 .1) (c .before .before .enum-told .given .1) (c .before .before .before .before .if2 .left) (c .over .ensures)), omega (arith, there _ (o .args .round .now) _ _ _ (o .pre .1 .0) (o .pre .1 .1) (c .over .ensures)))
 
 returns-3 : tie.Need-returns-3
 returns-3 c = search needs

@@ -1,0 +1,60 @@
+-- "A schedule is lawful if no hard window is missed, the rest stands so or is not needed, and both maxima are kept." Here alone a schedule and
+-- the limits are joined.
+use Prim.Native.Nat.{ℕ}
+use mathlib.Core.Bool.{Bool, true, false, cond}
+use mathlib.Core.List.{List}
+use lib.Ieee.{Float}
+use Rattle.sheet.specs.Values.{distanceOf, timeOf}
+use Rattle.evaluation.specs.declared.label.RestAnswer.{RestAnswer}
+use Rattle.evaluation.specs.declared.label.RestAnswer.the-variants.{NoRest}
+use Rattle.evaluation.specs.declared.clock.Schedule.{Schedule}
+use Rattle.evaluation.specs.declared.clock.Scheduled.{Scheduled}
+use Rattle.evaluation.specs.declared.clock.Scheduled.the-variants.{Lawful, Unlawful}
+use Rattle.evaluation.specs.declared.limits.RouteLimits.{RouteLimits}
+use Rattle.evaluation.specs.declared.RouteEval.{RouteEval}
+use Rattle.evaluation.specs.declared.RouteEval.the-variants.{Allowed, NotAllowed}
+use Rattle.evaluation.specs.Sums.{_⊕_}
+use Rattle.evaluation.specs.Limits.{allowOf}
+use Rattle.evaluation.specs.Clock.{Clock, finishOf}
+use Rattle.evaluation.specs.Walk.{Position, startAt, walkedOver}
+
+-- a schedule that keeps the limits, one that is over a limit, or none
+pub data Verdict : Type 0 where
+  allowed : Schedule → Verdict
+  overLimit : Schedule → Verdict
+  noSchedule : Verdict
+
+-- "and both maxima are kept"
+unfoldable pub heldTo : RouteLimits → Scheduled → Verdict
+heldTo limits (Lawful k) = cond (allowOf limits (k .distance) (k .duration)) (allowed k) (overLimit k)
+heldTo limits Unlawful = noSchedule
+
+-- on a clock brought home, with `distance` driven in all and `back` the time of the way home
+unfoldable pub verdictOf : RouteLimits → Clock → Float → Float → Verdict
+verdictOf limits c distance back = heldTo limits (finishOf c distance back)
+
+-- on a position
+unfoldable pub verdictFrom : List ℕ → ℕ → RouteLimits → Position → Verdict
+verdictFrom s depot limits p = verdictOf limits (p .clock) (p .distance ⊕ distanceOf s (p .clock .prev) depot) (timeOf s (p .clock .prev) depot)
+
+-- on a round
+abbrev pub verdictOn : List ℕ → ℕ → RouteLimits → List ℕ → Verdict
+verdictOn s depot limits route = verdictFrom s depot limits (walkedOver s (startAt (limits .rest) depot) route)
+
+-- ---- what is asked of it
+abbrev pub passes : Verdict → Bool
+passes (allowed k) = true
+passes (overLimit k) = false
+passes noSchedule = false
+
+-- the figures, where the limits allow them
+abbrev pub evalOf : Verdict → RouteEval
+evalOf (allowed k) = Allowed k
+evalOf (overLimit k) = NotAllowed
+evalOf noSchedule = NotAllowed
+
+-- where the schedule puts the rest; a round without a schedule has none
+abbrev pub answerOf : Verdict → RestAnswer
+answerOf (allowed k) = k .rest
+answerOf (overLimit k) = k .rest
+answerOf noSchedule = NoRest
