@@ -9,13 +9,12 @@ use lib.Dec.{T}
 use lib.ListN.{length}
 use Rattle.lists.specs.Every.{Every, every-map}
 use Rattle.sheet.specs.Values.{vehicleOf}
-use Rattle.evaluation.specs.Limits.{limitsOf}
-use Rattle.evaluation.specs.Feasible.{routeFeasible}
+use Rattle.evaluation.specs.Limits.{limitsAt}
 use Rattle.constructive.specs.declared.terms.Terms.{Terms}
 use Rattle.constructive.specs.Terms.{termsOf}
 use Rattle.constructive.specs.Outcome.{Round}
 use Rattle.constructive.specs.Load.{loadOf}
-use Rattle.constructive.specs.Rounds.{OfFleet, of-first}
+use Rattle.constructive.specs.Rounds.{passes, OfFleet, of-first}
 use Rattle.constructive.specs.Checked.{Known, members-known, stands-feasible}
 use Rattle.clarke_wright_savings.specs.declared.terms.Directed.{Directed}
 use Rattle.clarke_wright_savings.specs.Savings.{directedOf, savingsOf, ranked, goesAlone, lone, startsOf, roundsOf, routesOf, plannedBy, clarkeWright}
@@ -66,14 +65,14 @@ pub record Saved (s : List ℕ) (depot v : ℕ) (r : Round) : Type 0 where
   pub vehicle : r .vehicle ≡ v
   pub some : 0 < length (r .stops)
   pub capacity : 1 < length (r .stops) → loadOf s (r .stops) ≤ vehicleOf s v .capacity
-  pub feasible : T (routeFeasible s depot (limitsOf (vehicleOf s v)) (r .stops))
+  pub feasible : T (passes s depot v (r .stops))
 
 module _ (s : List ℕ) (depot v : ℕ) (members : List ℕ) where
   pub savings-saved : Every (Saved s depot v) (clarkeWright s depot v members .rounds)
   unfolding clarkeWright plannedBy directedOf termsOf
   savings-saved =
       let t = directedOf s depot v members in
-      let limits = limitsOf (vehicleOf s v) in
+      let limits = limitsAt s v in
       let P = Known s depot members limits in
       rounds-every (Built s (t .common) P) (Saved s depot v) v
       (λ stops h b. record { vehicle = refl; some = h; capacity = b .capacity; feasible = stands-feasible s depot members limits stops (b .rows) (b .stands h) })

@@ -28,7 +28,7 @@ pub fn terms_of(sheet: &[u8], depot: usize, index: u16, members: &[u16]) -> Term
     ensures { λ r. ⌜ r ≡ termsOf (now (sheet .entry)) depot index (now (members .entry)) ⌝ }
 {
     let own = vehicle::vehicle_at(sheet, index as usize);
-    let limits = limits::limits_of(own);
+    let limits = limits::limits_at(sheet, index as usize);
     let constrained = checks::route_checks_needed(sheet, depot, members, limits);
     let soft = checks::has_soft_windows(sheet, depot, members);
     let fixed = vehicle::fixed_cost_in_distance(own);

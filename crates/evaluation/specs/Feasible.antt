@@ -8,11 +8,11 @@ use Rattle.evaluation.specs.declared.limits.RouteLimits.{RouteLimits}
 use Rattle.evaluation.specs.declared.RouteEval.{RouteEval}
 use Rattle.evaluation.specs.declared.RouteEval.the-variants.{Allowed, NotAllowed}
 use Rattle.evaluation.specs.Sums.{_⊕_}
-use Rattle.evaluation.specs.Verdict.{passes, evalOf, verdictOn}
+use Rattle.evaluation.specs.Verdict.{isFeasible, evalOf, verdictOn}
 
 -- the verdict that "a place for a stop is lawful" asks for; the lateness that the walk sums on the way does not enter it
 unfoldable pub routeFeasible : List ℕ → ℕ → RouteLimits → List ℕ → Bool
-routeFeasible s depot limits route = passes (verdictOn s depot limits route)
+routeFeasible s depot limits route = isFeasible (verdictOn s depot limits route)
 
 -- the same walk with its figures
 unfoldable pub routeEval : List ℕ → ℕ → RouteLimits → List ℕ → RouteEval

@@ -1,6 +1,9 @@
 -- What a vehicle asks of a round besides its capacity.
+use Prim.Native.Nat.{ℕ}
 use mathlib.Core.Bool.{Bool, true, false, _&&_}
+use mathlib.Core.List.{List}
 use lib.Ieee.{Float, le}
+use Rattle.sheet.specs.Values.{vehicleOf}
 use Rattle.sheet.specs.declared.vehicle.Limit.{Limit}
 use Rattle.sheet.specs.declared.vehicle.Limit.the-variants.{Unlimited, Max}
 use Rattle.sheet.specs.declared.vehicle.Rest.{Rest}
@@ -11,6 +14,10 @@ use Rattle.evaluation.specs.declared.limits.RouteLimits.{RouteLimits}
 -- its maxima and its rest, each there where it is marked
 abbrev pub limitsOf : Vehicle → RouteLimits
 limitsOf v = record { «max_distance» = v .«max_distance»; «max_duration» = v .«max_duration»; rest = v .rest }
+
+-- read from a sheet: the vehicle is told by its index
+unfoldable pub limitsAt : List ℕ → ℕ → RouteLimits
+limitsAt s v = limitsOf (vehicleOf s v)
 
 abbrev pub noMaximum : Limit → Bool
 noMaximum Unlimited = true

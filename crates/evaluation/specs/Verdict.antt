@@ -42,10 +42,10 @@ abbrev pub verdictOn : List ℕ → ℕ → RouteLimits → List ℕ → Verdict
 verdictOn s depot limits route = verdictFrom s depot limits (walkedOver s (startAt (limits .rest) depot) route)
 
 -- ---- what is asked of it
-abbrev pub passes : Verdict → Bool
-passes (allowed k) = true
-passes (overLimit k) = false
-passes noSchedule = false
+abbrev pub isFeasible : Verdict → Bool
+isFeasible (allowed k) = true
+isFeasible (overLimit k) = false
+isFeasible noSchedule = false
 
 -- the figures, where the limits allow them
 abbrev pub evalOf : Verdict → RouteEval

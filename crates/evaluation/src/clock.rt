@@ -15,7 +15,7 @@ ghost use Rattle.evaluation.specs.Routed.{Clocked};
 ghost use Rattle.sheet.specs.Values.{timeOf};
 ghost use Rattle.sheet.specs.declared.vehicle.Rest.the-variants.{Required};
 ghost use Rattle.evaluation.specs.Clock.{takenOf, started, movedOf, nextOf, aliveOf, homeOf, endOf, finishOf, clockOf, breakClock, nextBy, pushedOf};
-ghost use Rattle.evaluation.specs.Verdict.{heldTo, verdictOf, passes};
+ghost use Rattle.evaluation.specs.Verdict.{heldTo, verdictOf, isFeasible};
 
 // What a round comes to, depot to depot.
 pub struct Schedule {
@@ -171,7 +171,7 @@ impl BreakClock {
         distance: f64,
         limits: RouteLimits,
     ) -> bool
-        ensures { λ r. ⌜ r ≡ passes (heldTo limits (endOf (takenOf (Required (self .rest)) (self .before) (self .after) travel stop (self .place)) distance back)) ⌝ }
+        ensures { λ r. ⌜ r ≡ isFeasible (heldTo limits (endOf (takenOf (Required (self .rest)) (self .before) (self .after) travel stop (self .place)) distance back)) ⌝ }
     {
         let rest = self.rest;
         let before = self.before;
@@ -197,7 +197,7 @@ impl BreakClock {
     ) -> bool
         requires { ⌜ Clocked (now sheet) self ⌝ }
         requires { ⌜ (row < rowsOf (now sheet)) × (depot < rowsOf (now sheet)) ⌝ }
-        ensures { λ r. ⌜ r ≡ passes (verdictOf limits (nextOf (now (sheet .entry)) (clockOf self) row) distance (timeOf (now (sheet .entry)) row depot)) ⌝ }
+        ensures { λ r. ⌜ r ≡ isFeasible (verdictOf limits (nextOf (now (sheet .entry)) (clockOf self) row) distance (timeOf (now (sheet .entry)) row depot)) ⌝ }
     {
         let travel = matrix::travel_time(sheet, self.prev, row);
         let back = matrix::travel_time(sheet, row, depot);

@@ -13,7 +13,7 @@ use limits::RouteLimits;
 use sheet::vehicle::Rest;
 ghost use mathlib.Core.Path.{_≡_};
 ghost use Rattle.evaluation.specs.Routed.{Routed};
-ghost use Rattle.evaluation.specs.Verdict.{heldTo, passes, evalOf};
+ghost use Rattle.evaluation.specs.Verdict.{heldTo, isFeasible, evalOf};
 ghost use Rattle.evaluation.specs.Feasible.{routeFeasible, routeEval, pricedDistance, costOf, effectiveCost};
 
 pub enum RouteEval {
@@ -38,7 +38,7 @@ pub fn eval_by(limits: RouteLimits, scheduled: Scheduled) -> RouteEval
 
 // Whether it keeps them.
 pub fn kept_by(limits: RouteLimits, scheduled: Scheduled) -> bool
-    ensures { λ r. ⌜ r ≡ passes (heldTo limits scheduled) ⌝ }
+    ensures { λ r. ⌜ r ≡ isFeasible (heldTo limits scheduled) ⌝ }
 {
     let eval = eval_by(limits, scheduled);
     if let RouteEval::Allowed(_) = eval {

@@ -1,9 +1,13 @@
 // What a vehicle asks of a round besides its capacity.
+use sheet::vehicle;
 use sheet::vehicle::Limit;
 use sheet::vehicle::Rest;
 use sheet::vehicle::Vehicle;
 ghost use mathlib.Core.Path.{_≡_};
-ghost use Rattle.evaluation.specs.Limits.{limitsOf, isUnlimited, withinOf, allowOf};
+ghost use Prim.Native.Nat.{_<_};
+ghost use Rattle.sheet.specs.Accepted.{Accepted};
+ghost use Rattle.sheet.specs.Fields.{vehiclesOf};
+ghost use Rattle.evaluation.specs.Limits.{limitsOf, limitsAt, isUnlimited, withinOf, allowOf};
 
 pub struct RouteLimits {
     pub max_distance: Limit,
@@ -32,6 +36,15 @@ pub fn limits_of(vehicle: Vehicle) -> RouteLimits
         max_duration,
         rest,
     }
+}
+
+// The limits of the vehicle at `index` of the sheet.
+pub fn limits_at(sheet: &[u8], index: usize) -> RouteLimits
+    requires { ⌜ Accepted (now sheet) ⌝ }
+    requires { ⌜ index < vehiclesOf (now sheet) ⌝ }
+    ensures { λ r. ⌜ r ≡ limitsAt (now (sheet .entry)) index ⌝ }
+{
+    limits_of(vehicle::vehicle_at(sheet, index))
 }
 
 impl RouteLimits {

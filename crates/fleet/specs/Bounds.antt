@@ -10,12 +10,13 @@ use lib.Ieee.{Float}
 use lib.ListN.{length, getD}
 use Rattle.lists.specs.Moved.{inserted}
 use Rattle.constructive.specs.Outcome.{Round, roundAt}
+use Rattle.constructive.specs.Rounds.{passes}
 use Rattle.insertion.specs.declared.choice.Choice.{Choice}
 use Rattle.insertion.specs.declared.choice.Choice.the-variants.{Nowhere, Best}
 use Rattle.insertion.specs.Place.{judged, wins, better}
 use Rattle.fleet.specs.declared.Pick.{Pick}
 use Rattle.fleet.specs.declared.Pick.the-variants.{Nothing, Put}
-use Rattle.fleet.specs.Cheapest.{passes, costAt, judgeAt, placesFrom, takes, inRound, insertionFrom, cheapestInsertion, cheaper, pickWith, pickFrom, pickOf}
+use Rattle.fleet.specs.Cheapest.{costAt, judgeAt, placesFrom, takes, inRound, insertionFrom, cheapestInsertion, cheaper, pickWith, pickFrom, pickOf}
 use Rattle.fleet.specs.Limit.{lesser, Least, leastWith, leastFrom, victimOf}
 
 -- ---- one stop
@@ -24,7 +25,7 @@ pub record Place (s : List ℕ) (soft : Bool) (rounds : List Round) (row i k : �
   pub round : i < length rounds
   pub place : k ≤ length (roundAt rounds i .stops)
   pub taken : T (takes s soft (roundAt rounds i .vehicle) (roundAt rounds i .stops) row)
-  pub passed : T (passes s (roundAt rounds i .vehicle) (inserted k row (roundAt rounds i .stops)))
+  pub passed : T (passes s 0 (roundAt rounds i .vehicle) (inserted k row (roundAt rounds i .stops)))
 
 abbrev pub Chosen : List ℕ → Bool → List Round → ℕ → Choice → Type 0
 Chosen s soft rounds row Nowhere = Unit
@@ -47,7 +48,7 @@ module _ (s : List ℕ) (soft : Bool) (rounds : List Round) (row : ℕ) where
       let v = roundAt rounds i .vehicle in
       let route = roundAt rounds i .stops in
       places-chosen i h t (better c i k (judgeAt s soft v route row k)) n (k + 1) (omega (arith, m))
-      (better-chosen c i k (passes s v (inserted k row route)) (costAt s soft v route row k) (λ p. record { round = h; place = omega (arith, m); taken = t; passed = p }) u)
+      (better-chosen c i k (passes s 0 v (inserted k row route)) (costAt s soft v route row k) (λ p. record { round = h; place = omega (arith, m); taken = t; passed = p }) u)
 
   round-chosen : (c : Choice) (i : ℕ) → i < length rounds → Chosen s soft rounds row c → Chosen s soft rounds row (inRound s soft row c i (roundAt rounds i))
   unfolding inRound

@@ -2,16 +2,15 @@
 use Prim.Native.Nat.{ℕ, zero, suc, _+_}
 use mathlib.Core.Bool.{Bool, true, not, _&&_, _||_, cond}
 use mathlib.Core.List.{List, [], _∷_}
-use lib.Dec.{leb}
 use lib.ListN.{length}
 use lib.Ieee.{Float, lt}
 use Rattle.lists.specs.Moved.{inserted}
-use Rattle.sheet.specs.Values.{demandOf, vehicleOf}
 use Rattle.evaluation.specs.Sums.{_⊖_}
-use Rattle.evaluation.specs.Limits.{limitsOf}
-use Rattle.evaluation.specs.Feasible.{routeFeasible, effectiveCost}
+use Rattle.evaluation.specs.Limits.{limitsAt}
+use Rattle.evaluation.specs.Feasible.{effectiveCost}
 use Rattle.constructive.specs.Outcome.{Round}
-use Rattle.constructive.specs.Load.{loadOf}
+use Rattle.constructive.specs.Rounds.{passes}
+use Rattle.insertion.specs.Lawful.{loads}
 use Rattle.insertion.specs.declared.choice.Choice.{Choice}
 use Rattle.insertion.specs.declared.choice.Choice.the-variants.{Nowhere, Best}
 use Rattle.insertion.specs.Place.{detour, Judged, judged, better}
@@ -19,12 +18,9 @@ use Rattle.fleet.specs.declared.Pick.{Pick}
 use Rattle.fleet.specs.declared.Pick.the-variants.{Nothing, Put}
 
 -- ---- a round of the vehicle at index v. The limiter has one depot, row 0.
-abbrev pub passes : List ℕ → ℕ → List ℕ → Bool
-passes s v route = routeFeasible s 0 (limitsOf (vehicleOf s v)) route
-
 -- "distance plus lateness cost", in the units of distance
 abbrev pub pricedOf : List ℕ → ℕ → List ℕ → Float
-pricedOf s v route = effectiveCost s 0 (limitsOf (vehicleOf s v)) route
+pricedOf s v route = effectiveCost s 0 (limitsAt s v) route
 
 -- ---- one place. `soft` says whether some row has "window and penalty on one stop".
 -- what the stop adds: with soft windows to the round's priced distance, else to its distance alone
@@ -33,7 +29,7 @@ costAt s soft v route row k = cond soft (pricedOf s v (inserted k row route) ⊖
 
 -- one place, judged: "`route_feasible` passes the round with the stop in it"
 unfoldable pub judgeAt : List ℕ → Bool → ℕ → List ℕ → ℕ → ℕ → Judged
-judgeAt s soft v route row k = judged (passes s v (inserted k row route)) (costAt s soft v route row k)
+judgeAt s soft v route row k = judged (passes s 0 v (inserted k row route)) (costAt s soft v route row k)
 
 -- n places of the round counted i, from 0, from its k-th place on: "the first least insertion wins"
 unfoldable pub placesFrom : List ℕ → Bool → ℕ → List ℕ → ℕ → ℕ → Choice → ℕ → ℕ → Choice
@@ -41,13 +37,9 @@ placesFrom s soft v route row i c zero k = c
 placesFrom s soft v route row i c (suc n) k = placesFrom s soft v route row i (better c i k (judgeAt s soft v route row k)) n (k + 1)
 
 -- ---- one round
--- "the load stays within capacity"
-abbrev pub loads : List ℕ → ℕ → List ℕ → ℕ → Bool
-loads s v route row = leb (loadOf s route + demandOf s row) (vehicleOf s v .capacity)
-
 -- with soft windows a round that is not allowed as it stands takes no stop
 unfoldable pub takes : List ℕ → Bool → ℕ → List ℕ → ℕ → Bool
-takes s soft v route row = loads s v route row && (not soft || passes s v route)
+takes s soft v route row = loads s v route row && (not soft || passes s 0 v route)
 
 -- from before its first stop to after its last
 unfoldable pub inRound : List ℕ → Bool → ℕ → Choice → ℕ → Round → Choice

@@ -13,7 +13,9 @@ use Rattle.sheet.specs.Values.{demandOf, vehicleOf}
 use Rattle.constructive.specs.Outcome.{Round, Outcome, roundAt}
 use Rattle.constructive.specs.Load.{loadOf, inserted-load}
 use Rattle.constructive.specs.Rounds.{Feasible}
-use Rattle.fleet.specs.Cheapest.{passes, loads, takes}
+use Rattle.constructive.specs.Rounds.{passes}
+use Rattle.insertion.specs.Lawful.{loads}
+use Rattle.fleet.specs.Cheapest.{takes}
 use Rattle.fleet.specs.Limit.{victimOf, putIn, Refit, dropped, dropRound, softIn, limitRoutes}
 use Rattle.fleet.specs.Steps.{refit-on-kept, limit-on-kept}
 
@@ -30,7 +32,7 @@ put-every P (suc i) k row (r ∷ rs) h f e = (e .0, put-every P i k row rs (omeg
 
 module _ (s : List ℕ) (soft : Bool) (P : Round → Type 0) where
   abbrev pub Takes : Type 0
-  Takes = (r : Round) (row k : ℕ) → T (takes s soft (r .vehicle) (r .stops) row) → T (passes s (r .vehicle) (inserted k row (r .stops))) → P r → P (withStop k row r)
+  Takes = (r : Round) (row k : ℕ) → T (takes s soft (r .vehicle) (r .stops) row) → T (passes s 0 (r .vehicle) (inserted k row (r .stops))) → P r → P (withStop k row r)
 
   drop-every : Takes → (o : Outcome) → Every P (o .rounds) → Every P (dropRound s soft o .rounds)
   unfolding dropRound
@@ -55,7 +57,7 @@ pub data Stood (s : List ℕ) (before : List Round) (r : Round) : Type 0 where
 stood-takes : (s : List ℕ) (soft : Bool) (before : List Round) → Takes s soft (Stood s before)
 unfolding takes
 stood-takes s soft before r row k t p u =
-    let fits = leb→le (loadOf s (r .stops) + demandOf s row) (vehicleOf s (r .vehicle) .capacity) (and-l (loads s (r .vehicle) (r .stops) row) (not soft || passes s (r .vehicle) (r .stops)) t) in
+    let fits = leb→le (loadOf s (r .stops) + demandOf s row) (vehicleOf s (r .vehicle) .capacity) (and-l (loads s (r .vehicle) (r .stops) row) (not soft || passes s 0 (r .vehicle) (r .stops)) t) in
     refitted (record {
       carried = record { some = omega (arith, inserted-length k row (r .stops)); capacity = omega (arith, fits, inserted-load k row (r .stops) s) };
       feasible = p;

@@ -15,19 +15,20 @@ use Rattle.sheet.specs.Fields.{rowsOf, vehiclesOf}
 use Rattle.sheet.specs.Finite.{demand-bounded}
 use Rattle.sheet.specs.Values.{nought, demandOf, vehicleOf}
 use Rattle.evaluation.specs.Sums.{_⊕_, _⊖_}
-use Rattle.evaluation.specs.Limits.{limitsOf, isUnlimited}
+use Rattle.evaluation.specs.Limits.{limitsAt, isUnlimited}
 use Rattle.evaluation.specs.Routed.{Routed}
 use Rattle.constructive.specs.Load.{loadOf}
 use Rattle.constructive.specs.Unchecked.{Windowless}
 use Rattle.constructive.specs.declared.terms.Terms.{Terms}
 use Rattle.constructive.proofs.Loading.{load-few}
+use Rattle.constructive.specs.Rounds.{passes}
 use Rattle.insertion.specs.declared.choice.Choice.{Choice}
 use Rattle.insertion.specs.Place.{judged, judge, tryPlaces}
 use Rattle.insertion.specs.Judging.{hard-judge}
 use Rattle.insertion.specs.Trial.{Joinable, softCost, aloneCost, pricesOf}
 use Rattle.insertion.specs.declared.place.Prices.{Prices}
 use Rattle.insertion.proofs.Trying.{routed}
-use Rattle.fleet.specs.Cheapest.{passes, pricedOf, judgeAt, placesFrom, takes, inRound}
+use Rattle.fleet.specs.Cheapest.{pricedOf, judgeAt, placesFrom, takes, inRound}
 use Rattle.fleet_cheapest.specs.declared.Windows.{Windows}
 use Rattle.fleet_cheapest.specs.Asked.{WindowsOf, termsAt}
 use Rattle.fleet_cheapest.proofs.Priced.{number-below, plus-endless, endless, alone-endless, added-below}
@@ -62,8 +63,8 @@ module _ (s : List ℕ) (w : Windows) (v : ℕ) (route : List ℕ) (row : ℕ) (
     };
   }
     where
-      none : (w .any || not (isUnlimited (limitsOf (vehicleOf s v)))) ≡ false → (w .any ≡ false) × T (isUnlimited (limitsOf (vehicleOf s v)))
-      none e = unchecked (w .any) (isUnlimited (limitsOf (vehicleOf s v))) e
+      none : (w .any || not (isUnlimited (limitsAt s v))) ≡ false → (w .any ≡ false) × T (isUnlimited (limitsAt s v))
+      none e = unchecked (w .any) (isUnlimited (limitsAt s v)) e
 
   endless-alone : aloneCost s (termsAt s w v) row ≡ inf false
   unfolding termsAt
@@ -85,12 +86,12 @@ module _ (s : List ℕ) (w : Windows) (v : ℕ) (route : List ℕ) (row : ℕ) (
   unfolding judgeAt termsAt
   hard-so k e = hard-judge s (termsAt s w v) route row k e ∙ rw e
 
-  module _ (room : length route < 101) (allowed : w .soft ≡ true → passes s v route ≡ true) where
+  module _ (room : length route < 101) (allowed : w .soft ≡ true → passes s 0 v route ≡ true) where
     soft-so : (k : ℕ) → k ≤ length route → w .soft ≡ true → judge s (termsAt s w v) route row k ≡ judgeAt s (w .soft) v route row k
     unfolding judge judgeAt termsAt
-    soft-so k h e = rw e (go (passes s v (inserted k row route)) refl (pricedOf s v (inserted k row route) ⊖ pricedOf s v route) refl)
+    soft-so k h e = rw e (go (passes s 0 v (inserted k row route)) refl (pricedOf s v (inserted k row route) ⊖ pricedOf s v route) refl)
       where
-        go : (b : Bool) → passes s v (inserted k row route) ≡ b → (cost : Float) → cost ≡ pricedOf s v (inserted k row route) ⊖ pricedOf s v route
+        go : (b : Bool) → passes s 0 v (inserted k row route) ≡ b → (cost : Float) → cost ≡ pricedOf s v (inserted k row route) ⊖ pricedOf s v route
             → judged (b && not (le (pricedOf s v (row ∷ []) ⊕ inf false) cost)) cost ≡ judged b cost
         go false p cost f = refl
         go true p cost f =
@@ -116,11 +117,11 @@ module _ (s : List ℕ) (w : Windows) (v : ℕ) (route : List ℕ) (row : ℕ) (
   pub summed : (load demand : ℕ) → load ≡ loadOf s route → demand ≡ demandOf s row → length route < 101 → load + demand ≤ 101000000
   summed load demand carried asked room = omega (arith, load-few s (known .sheet) route (every-of (λ (k : ℕ). k < rowsOf s) 0 route (round .row)), demand-bounded s (known .sheet) row inside)
 
-  stands : le (inf false) (softCost s (termsAt s w v) route) ≡ not (not (w .soft) || passes s v route)
+  stands : le (inf false) (softCost s (termsAt s w v) route) ≡ not (not (w .soft) || passes s 0 v route)
   unfolding termsAt
   stands = go (w .soft)
     where
-      go : (b : Bool) → le (inf false) (cond b (pricedOf s v route) nought) ≡ not (not b || passes s v route)
+      go : (b : Bool) → le (inf false) (cond b (pricedOf s v route) nought) ≡ not (not b || passes s 0 v route)
       go true = endless s v own route round
       go false = number-below 0 nought (zero-upto 0)
 
@@ -140,17 +141,17 @@ module _ (s : List ℕ) (w : Windows) (v : ℕ) (route : List ℕ) (row : ℕ) (
       within : leb (loadOf s route + demandOf s row) (vehicleOf s v .capacity) ≡ true
       within = le-leb (loadOf s route + demandOf s row) (vehicleOf s v .capacity) (omega (arith, room-for))
 
-      stood : le (inf false) cost ≡ not (not (w .soft) || passes s v route)
+      stood : le (inf false) cost ≡ not (not (w .soft) || passes s 0 v route)
       stood = ap (le (inf false)) (e ∙ ap (λ (x : Terms). softCost s x route) told) ∙ stands
 
       pub barred : le (inf false) cost ≡ true → c ≡ into
       unfolding inRound takes
-      barred f = rw (within, not-true (not (w .soft) || passes s v route) (sym stood ∙ f))
+      barred f = rw (within, not-true (not (w .soft) || passes s 0 v route) (sym stood ∙ f))
 
       pub taken : length route < 101 → le (inf false) cost ≡ false → (x : Choice) → x ≡ tryPlaces s t route i row c (suc (length route)) 0 → x ≡ into
       unfolding inRound takes
       taken room f x g =
-          let standing = not-false (not (w .soft) || passes s v route) (sym stood ∙ f) in
+          let standing = not-false (not (w .soft) || passes s 0 v route) (sym stood ∙ f) in
           g ∙ ap (λ (y : Terms). tryPlaces s y route i row c (suc (length route)) 0) told ∙ places-so room (λ p. rw p at standing) i c (suc (length route)) 0 (omega arith) ∙ rw (within, standing)
 
     -- where no check is asked, no window is soft

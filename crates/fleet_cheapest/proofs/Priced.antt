@@ -14,14 +14,16 @@ use Rattle.sheet.specs.Fields.{vehiclesOf}
 use Rattle.sheet.specs.Finite.{vehicle-bounded}
 use Rattle.sheet.specs.Values.{vehicleOf}
 use Rattle.evaluation.specs.Sums.{_⊕_, _⊖_}
-use Rattle.evaluation.specs.Limits.{limitsOf}
+use Rattle.evaluation.specs.Limits.{limitsAt}
+use Rattle.evaluation.specs.Laws.Limits.{limits-rest}
 use Rattle.evaluation.specs.Routed.{Routed}
 use Rattle.evaluation.specs.Feasible.{pricedDistance, routeEval, costOf, effectiveCost, isAllowed}
 use Rattle.evaluation.specs.Laws.Verdict.{allowed-feasible}
 use Rattle.evaluation.specs.Finite.{EvalBounded, priced-bounded, eval-bounded}
 use Rattle.evaluation.specs.declared.RouteEval.{RouteEval}
 use Rattle.evaluation.specs.declared.RouteEval.the-variants.{Allowed, NotAllowed}
-use Rattle.fleet.specs.Cheapest.{passes, pricedOf}
+use Rattle.constructive.specs.Rounds.{passes}
+use Rattle.fleet.specs.Cheapest.{pricedOf}
 
 -- ---- numbers and infinity
 pub number-below : (n : ℕ) (x : Float) → Upto n x → le (inf false) x ≡ false
@@ -92,24 +94,24 @@ upto-by NotAllowed u e = absurd (true≢false (sym e))
 -- ---- a round of a vehicle
 module _ (s : List ℕ) (v : ℕ) (own : v < vehiclesOf s) (route : List ℕ) (ok : Routed s 0 route) where
   abbrev eval : RouteEval
-  eval = routeEval s 0 (limitsOf (vehicleOf s v)) route
+  eval = routeEval s 0 (limitsAt s v) route
 
   bounded : EvalBounded eval
-  bounded = eval-bounded s 0 route ok (limitsOf (vehicleOf s v)) (vehicle-bounded s (ok .sheet) v own .rest)
+  bounded = eval-bounded s 0 route ok (limitsAt s v) (rw (limits-rest s v) (vehicle-bounded s (ok .sheet) v own .rest))
 
-  pub endless : le (inf false) (pricedOf s v route) ≡ not (passes s v route)
+  pub endless : le (inf false) (pricedOf s v route) ≡ not (passes s 0 v route)
   unfolding effectiveCost
-  endless = endless-by eval bounded ∙ ap not (allowed-feasible s 0 (limitsOf (vehicleOf s v)) route)
+  endless = endless-by eval bounded ∙ ap not (allowed-feasible s 0 (limitsAt s v) route)
 
   pub alone-endless : pricedOf s v route ⊕ inf false ≡ inf false
   unfolding effectiveCost
   alone-endless = plus-by eval bounded
 
-  priced-upto : passes s v route ≡ true → Upto (2 ^ 68) (pricedOf s v route)
+  priced-upto : passes s 0 v route ≡ true → Upto (2 ^ 68) (pricedOf s v route)
   unfolding effectiveCost
-  priced-upto e = upto-by eval bounded (allowed-feasible s 0 (limitsOf (vehicleOf s v)) route ∙ e)
+  priced-upto e = upto-by eval bounded (allowed-feasible s 0 (limitsAt s v) route ∙ e)
 
 -- two rounds that pass
-pub added-below : (s : List ℕ) (v : ℕ) → v < vehiclesOf s → (with route : List ℕ) → Routed s 0 with → Routed s 0 route → passes s v with ≡ true → passes s v route ≡ true → le (inf false) (pricedOf s v with ⊖ pricedOf s v route) ≡ false
+pub added-below : (s : List ℕ) (v : ℕ) → v < vehiclesOf s → (with route : List ℕ) → Routed s 0 with → Routed s 0 route → passes s 0 v with ≡ true → passes s 0 v route ≡ true → le (inf false) (pricedOf s v with ⊖ pricedOf s v route) ≡ false
 added-below s v own with route a b e f =
     difference-below (2 ^ 68) (pricedOf s v with) (pricedOf s v route) (priced-upto s v own with a e) (priced-upto s v own route b f) (exact-scaled 1 68 (omega arith) (omega arith))

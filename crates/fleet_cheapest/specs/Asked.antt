@@ -7,7 +7,7 @@ use lib.Ieee.{inf}
 use Rattle.sheet.specs.Fields.{rowsOf}
 use Rattle.sheet.specs.Accepted.{Accepted}
 use Rattle.sheet.specs.Values.{vehicleOf}
-use Rattle.evaluation.specs.Limits.{limitsOf, isUnlimited}
+use Rattle.evaluation.specs.Limits.{limitsAt, isUnlimited}
 use Rattle.constructive.specs.Unchecked.{Windowless}
 use Rattle.constructive.specs.declared.terms.Terms.{Terms}
 use Rattle.insertion.specs.declared.choice.Choice.{Choice}
@@ -25,11 +25,11 @@ unfoldable pub termsAt : List ℕ → Windows → ℕ → Terms
 termsAt s w v = record {
   depot = 0;
   vehicle = v;
-  constrained = w .any || not (isUnlimited (limitsOf (vehicleOf s v)));
+  constrained = w .any || not (isUnlimited (limitsAt s v));
   soft = w .soft;
   capacity = vehicleOf s v .capacity;
   fixed = inf false;
-  limits = limitsOf (vehicleOf s v);
+  limits = limitsAt s v;
 }
 
 -- none of the first n places wins over the best so far

@@ -38,7 +38,7 @@ fn terms_at(sheet: &[u8], windows: Windows, index: u16) -> Terms
     ensures { λ r. ⌜ r ≡ termsAt (now (sheet .entry)) windows index ⌝ }
 {
     let own = vehicle::vehicle_at(sheet, index as usize);
-    let limits = limits::limits_of(own);
+    let limits = limits::limits_at(sheet, index as usize);
     let unlimited = limits.is_unlimited();
     let constrained = windows.any || !unlimited;
     let fixed = f64::from_bits(0x7ff0_0000_0000_0000);

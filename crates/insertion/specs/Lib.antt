@@ -1,4 +1,5 @@
-pub mod Fits
+pub mod Lawful
 pub mod Place
+pub mod LawfulLaws
 pub mod Judging
 pub mod Trial

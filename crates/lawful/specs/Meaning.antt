@@ -11,6 +11,7 @@ use Rattle.wire.specs.Bytes.{f64At}
 use Rattle.numbers.specs.Upto.{Upto}
 use Rattle.sheet.specs.Fields.{rowsOf, vehiclesOf, vehicleAt, vehicleMarks, maxDistanceAt, maxDurationAt, marked}
 use Rattle.sheet.specs.Finite.{vehicle-finite}
+use Rattle.sheet.specs.declared.vehicle.Rest.{Rest}
 use Rattle.sheet.specs.declared.vehicle.Rest.the-variants.{NoRest as restless, Required}
 use Rattle.sheet.specs.Values.{nought, limitOf, limitAt, restOf, restAfter, vehicleOf}
 use Rattle.evaluation.specs.declared.clock.Scheduled.{Scheduled}
@@ -18,9 +19,10 @@ use Rattle.evaluation.specs.declared.clock.Scheduled.the-variants.{Lawful, Unla
 use Rattle.evaluation.specs.declared.label.Served.the-variants.{Done, Refused}
 use Rattle.evaluation.specs.Routed.{Routed}
 use Rattle.evaluation.specs.Serve.{atDepot}
-use Rattle.evaluation.specs.Limits.{limitsOf, withinOf, allowOf}
+use Rattle.evaluation.specs.Limits.{limitsAt, withinOf}
+use Rattle.evaluation.specs.Laws.Limits.{limits-rest, limits-allow}
 use Rattle.evaluation.specs.Walk.{scheduledOf}
-use Rattle.evaluation.specs.Verdict.{heldTo, passes}
+use Rattle.evaluation.specs.Verdict.{heldTo, isFeasible}
 use Rattle.evaluation.specs.Feasible.{routeFeasible}
 use Rattle.evaluation.specs.Laws.Verdict.{verdict-scheduled, held-none, held-passes}
 use Rattle.lawful.specs.Whole.{Whole}
@@ -43,16 +45,17 @@ within-whole true n x end u v = le-maximum (10 ^ 12) n x end u v
 within-whole false n x end u v = refl
 
 module _ (s : List ℕ) (v : ℕ) (is : List ℕ) (whole : Whole s) (is-vehicle : v < vehiclesOf s) (round : Routed s (homeOf s v) is) where
-  kept-whole : (w : Walk) (x : Scheduled) → Comes (travelN s v (homeOf s v) is) w x → passes (heldTo (limitsOf (vehicleOf s v)) x) ≡ keepsMaxima s v is w
-  unfolding allowOf vehicleOf limitAt
-  kept-whole failed Unlawful u = ap passes (held-none (limitsOf (vehicleOf s v)))
+  kept-whole : (w : Walk) (x : Scheduled) → Comes (travelN s v (homeOf s v) is) w x → isFeasible (heldTo (limitsAt s v) x) ≡ keepsMaxima s v is w
+  unfolding vehicleOf limitAt
+  kept-whole failed Unlawful u = ap isFeasible (held-none (limitsAt s v))
   kept-whole failed (Lawful k) u = absurd u
   kept-whole (left t) Unlawful u = absurd u
   kept-whole (left t) (Lawful k) u =
       let f = vehicle-finite s (vehicleAt s v) (round .sheet .vehicle v is-vehicle) in
       let at = vehicleAt s v in
       let mark = vehicleMarks s at in
-      held-passes (limitsOf (vehicleOf s v)) k
+      held-passes (limitsAt s v) k
+      ∙ limits-allow s v (k .distance) (k .duration)
       ∙ rw (
         within-whole (marked 1 mark) (travelN s v (homeOf s v) is) (k .distance) (f64At s (maxDistanceAt at)) (u .1) (f .distance),
         within-whole (marked 2 mark) t (k .duration) (f64At s (maxDurationAt at)) (u .0) (f .duration),
@@ -65,14 +68,14 @@ module _ (s : List ℕ) (v : ℕ) (is : List ℕ) (whole : Whole s) (is-vehicle 
   undriven : Driven 0 0 nought
   undriven = record { is = nought-is; near = zero-le }
 
-  walk-whole : passes (heldTo (limitsOf (vehicleOf s v)) (scheduledOf s (homeOf s v) restless is)) ≡ plainWalk s v is
+  walk-whole : isFeasible (heldTo (limitsAt s v) (scheduledOf s (homeOf s v) restless is)) ≡ plainWalk s v is
   unfolding scheduledOf
   walk-whole =
       kept-whole (durationN s v 0 is) _
       (rw zero-add at (walk-comes s v (round .sheet) whole is-vehicle (round .home) 0 0 1 (homeOf s v) (left 0) (Done atDepot) Refused nought is
       (omega (arith, round .few)) (round .home) (rows-of s is (round .row)) start undriven))
 
-  clock-whole : passes (heldTo (limitsOf (vehicleOf s v)) (scheduledOf s (homeOf s v) (Required (breakOf s v)) is)) ≡ keepsMaxima s v is (onwardN s v startN (homeOf s v) is)
+  clock-whole : isFeasible (heldTo (limitsAt s v) (scheduledOf s (homeOf s v) (Required (breakOf s v)) is)) ≡ keepsMaxima s v is (onwardN s v startN (homeOf s v) is)
   unfolding scheduledOf
   clock-whole =
       kept-whole (onwardN s v startN (homeOf s v) is) _
@@ -80,11 +83,11 @@ module _ (s : List ℕ) (v : ℕ) (is : List ℕ) (whole : Whole s) (is-vehicle 
       (omega (arith, round .few)) (round .home) (rows-of s is (round .row)) start tt undriven))
 
   -- route_feasible of a round for a vehicle, both ways
-  pub feasible-lawful : routeFeasible s (homeOf s v) (limitsOf (vehicleOf s v)) is ≡ lawful s v is
+  pub feasible-lawful : routeFeasible s (homeOf s v) (limitsAt s v) is ≡ lawful s v is
   unfolding routeFeasible feasibleN vehicleOf restAfter
-  feasible-lawful = ap passes (verdict-scheduled s (homeOf s v) (limitsOf (vehicleOf s v)) is) ∙ go (rests s v) ∙ sym (lawful-feasible s v is)
+  feasible-lawful = ap isFeasible (verdict-scheduled s (homeOf s v) (limitsAt s v) is) ∙ ap (λ (r : Rest). isFeasible (heldTo (limitsAt s v) (scheduledOf s (homeOf s v) r is))) (limits-rest s v) ∙ go (rests s v) ∙ sym (lawful-feasible s v is)
     where
-      go : (mark : Bool) → passes (heldTo (limitsOf (vehicleOf s v)) (scheduledOf s (homeOf s v) (restOf mark (breakOf s v)) is))
+      go : (mark : Bool) → isFeasible (heldTo (limitsAt s v) (scheduledOf s (homeOf s v) (restOf mark (breakOf s v)) is))
           ≡ cond mark (keepsMaxima s v is (onwardN s v startN (homeOf s v) is)) (plainWalk s v is)
       go true = clock-whole
       go false = walk-whole

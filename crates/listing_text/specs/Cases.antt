@@ -9,6 +9,7 @@ use Rattle.sheet.specs.Fields.{rowsOf, vehiclesOf, timesOf, rowMarks, idField, 
 use Rattle.sheet.specs.Values.{gateAt, demandOf, stopOf, limitAt, restAfter, vehicleOf, distanceOf, timeOf}
 use Rattle.sheet.specs.SheetA.{sheetA}
 use Rattle.sheet.specs.Fleet.{indexFrom}
+use Rattle.evaluation.specs.Limits.{limitsAt}
 use Rattle.evaluator.specs.Record.{placedOf, readyFor, departsAt, lateAfter, costAfter, visitedOf, recordOf, buildRoute, routeCost, priceWith}
 use Rattle.constructive.specs.Outcome.{Outcome}
 use Rattle.plan.specs.Plan.{visitBytes, asideBytes, roundCounts, roundFigures, roundBytes, headerBytes, withVisits, withRound, withRounds, withAside, priceAfter, priceOf, planBytes, planOf}
@@ -47,5 +48,5 @@ pub record Said : Type 0 where
   pub refused : refusedText 10 ≡ text "refused 10\n"
 
 pub said : Said
-unfolding listingOf roundTexts roundText stopLines stopLine roundLine headerLine figures word field refusedText decimalIn decimal hexIn planOf planBytes withRounds withRound withVisits withAside visitBytes asideBytes roundCounts roundFigures roundBytes headerBytes priceAfter priceOf placedOf readyFor departsAt lateAfter costAfter visitedOf recordOf buildRoute routeCost priceWith gateAt demandOf stopOf limitAt restAfter vehicleOf distanceOf timeOf rowsOf vehiclesOf timesOf rowMarks idField depotField vehicleMarks marked leBytes bytes write f64At add mul ofBits toBits readPlan roundsFrom chainFrom indexFrom roundsAt asideAt idAt firstAt nextAt
+unfolding listingOf roundTexts roundText stopLines stopLine roundLine headerLine figures word field refusedText decimalIn decimal hexIn planOf planBytes withRounds withRound withVisits withAside visitBytes asideBytes roundCounts roundFigures roundBytes headerBytes priceAfter priceOf placedOf readyFor departsAt lateAfter costAfter visitedOf recordOf buildRoute routeCost priceWith gateAt demandOf stopOf limitsAt limitAt restAfter vehicleOf distanceOf timeOf rowsOf vehiclesOf timesOf rowMarks idField depotField vehicleMarks marked leBytes bytes write f64At add mul ofBits toBits readPlan roundsFrom chainFrom indexFrom roundsAt asideAt idAt firstAt nextAt
 said = record { routed = refl; aside = refl; refused = refl }

@@ -11,7 +11,7 @@ use Rattle.sheet.specs.Depots.{leading, depotsOf}
 use Rattle.sheet.specs.Values.{gateAt, demandOf, stopOf, limitAt, restAfter, vehicleOf, distanceOf, timeOf}
 use Rattle.sheet.specs.SheetA.{one, three, four, ten, f64s, header, row, none, vehicle}
 use Rattle.sheet.specs.Fleet.{fleetOf}
-use Rattle.evaluation.specs.Limits.{allowOf}
+use Rattle.evaluation.specs.Limits.{limitsAt, allowOf}
 use Rattle.evaluation.specs.Checks.{someWindowed, hasSoftWindows}
 use Rattle.constructive.specs.Outcome.{Outcome}
 use Rattle.constructive.specs.Members.{membersOf}
@@ -40,5 +40,5 @@ pub record Rows : Type 0 where
   pub nobody : outcomeOf (sheet 0 [] four) ≡ record { rounds = []; aside = 2 ∷ 3 ∷ [] }
 
 pub cases : Rows
-unfolding outcomeOf byDepot gathered settledAt firstAt firstFrom settledIn moved offered offeredFrom movesTo plannedUpto plannedOf constructOf membersOf nextDepot nearestFrom askedAfter sooner manned fleetOf those count nearestNeighbor nearestNeighborTw greedy grow growOn choose nearestOffer nearestOnward windowOffer windowOnward allowOf someWindowed hasSoftWindows gateAt demandOf stopOf limitAt restAfter vehicleOf distanceOf timeOf rowsOf vehiclesOf methodOf timesOf rowMarks idField depotField vehicleMarks marked leading depotsOf number bytes f64At add mul ofBits lt le eq
+unfolding outcomeOf byDepot gathered settledAt firstAt firstFrom settledIn moved offered offeredFrom movesTo plannedUpto plannedOf constructOf membersOf nextDepot nearestFrom askedAfter sooner manned fleetOf those count nearestNeighbor nearestNeighborTw greedy grow growOn choose nearestOffer nearestOnward windowOffer windowOnward allowOf someWindowed hasSoftWindows gateAt demandOf stopOf limitsAt limitAt restAfter vehicleOf distanceOf timeOf rowsOf vehiclesOf methodOf timesOf rowMarks idField depotField vehicleMarks marked leading depotsOf number bytes f64At add mul ofBits lt le eq
 cases = record { next = refl; tie = refl; last = refl; nobody = refl }

@@ -14,6 +14,8 @@ use Rattle.wire.specs.Overwrite.{write-same, part-write, write-within}
 use Rattle.sheet.specs.Fields.{rowsOf}
 use Rattle.sheet.specs.Values.{vehicleOf}
 use Rattle.sheet.specs.declared.vehicle.Vehicle.{Vehicle}
+use Rattle.evaluation.specs.Limits.{limitsAt}
+use Rattle.evaluation.specs.declared.limits.RouteLimits.{RouteLimits}
 use Rattle.evaluation.specs.Routed.{Routed}
 use Rattle.constructive.specs.Members.{part, Members}
 use Rattle.nearest_neighbor.specs.declared.choice.Choice.{Choice}
@@ -45,12 +47,12 @@ pub record Growing (s : List ℕ) (depot : ℕ) (h : Heuristic) (index : ℕ) (s
   pub laid : stops ≡ write stops₀ start (trip .stops ++ left)
   pub at : end ≡ start + length (trip .stops)
   pub all : end + length left ≡ total
-  pub kept : ride ≡ rideOf s depot (vehicleOf s index .rest) trip
+  pub kept : ride ≡ rideOf s depot (limitsAt s index .rest) trip
   pub driven : Driven s depot trip
   pub rows : Every (λ (i : ℕ). i < rowsOf s) left
   pub same : roundOf (ruleOf s depot h index) depot (part stops₀ start total) ≡ ended (growOn (ruleOf s depot h index) (length left) (growing trip left))
 
-pub begins : (s : List ℕ) (depot : ℕ) (h : Heuristic) (index : ℕ) (stops : List ℕ) (start total : ℕ) (ride : Ride) → Members s depot stops start total → ride ≡ setOut (vehicleOf s index .rest) depot → Growing s depot h index stops start total stops ride start
+pub begins : (s : List ℕ) (depot : ℕ) (h : Heuristic) (index : ℕ) (stops : List ℕ) (start total : ℕ) (ride : Ride) → Members s depot stops start total → ride ≡ setOut (limitsAt s index .rest) depot → Growing s depot h index stops start total stops ride start
 begins s depot h index stops start total ride ok e =
     let long : length (part stops start total) ≡ total - start = length-take-le (total - start) (drop start stops) (omega (arith, length-drop start stops, ok .within, ok .from)) in
     record {
@@ -60,7 +62,7 @@ begins s depot h index stops start total ride ok e =
       laid = sym (write-same stops start (total - start) (omega (arith, ok .within, ok .from)));
       at = omega arith;
       all = omega (arith, long, ok .from);
-      kept = e ∙ sets-out s depot (vehicleOf s index .rest);
+      kept = e ∙ sets-out s depot (limitsAt s index .rest);
       driven = off s depot (ok .routed .home);
       rows = every-of (λ (i : ℕ). i < rowsOf s) 0 (part stops start total) (ok .routed .row);
       same = refl;
@@ -94,18 +96,19 @@ module _ (s : List ℕ) (depot : ℕ) (h : Heuristic) (index : ℕ) (stops₀ : 
   })
 
   pub rides : end < total → Riding s ride
-  rides k = rw (g .kept) (riding s depot (vehicleOf s index .rest) (g .trip) (g .members .routed .sheet) (g .driven) (omega (arith, g .at, g .members .most)))
+  rides k = rw (g .kept) (riding s depot (limitsAt s index .rest) (g .trip) (g .members .routed .sheet) (g .driven) (omega (arith, g .at, g .members .most)))
 
   -- the choice is the rule's
-  module _ (c : Choice) (v : Vehicle) (told : v ≡ vehicleOf s index) (e : c ≡ choose (offerBy s depot h v ride) Nobody 0 (part stops end total)) where
+  module _ (c : Choice) (v : Vehicle) (limits : RouteLimits) (told : v ≡ vehicleOf s index) (held : limits ≡ limitsAt s index) (e : c ≡ choose (offerBy s depot h v limits ride) Nobody 0 (part stops end total)) where
     chosen : choose (rule .offer (g .trip)) Nobody 0 (g .left) ≡ c
     chosen =
         sym (e
-        ∙ ap (choose (offerBy s depot h v ride) Nobody 0) left-part
-        ∙ ap (λ (x : Vehicle). choose (offerBy s depot h x ride) Nobody 0 (g .left)) told
-        ∙ ap (λ (x : Ride). choose (offerBy s depot h (vehicleOf s index) x) Nobody 0 (g .left)) (g .kept)
-        ∙ choose-alike (offerBy s depot h (vehicleOf s index) (rideOf s depot (vehicleOf s index .rest) (g .trip))) (rule .offer (g .trip))
-        (λ i. offers s depot (vehicleOf s index) (g .trip) (g .driven) i h index refl) Nobody 0 (g .left))
+        ∙ ap (choose (offerBy s depot h v limits ride) Nobody 0) left-part
+        ∙ ap (λ (x : Vehicle). choose (offerBy s depot h x limits ride) Nobody 0 (g .left)) told
+        ∙ ap (λ (x : RouteLimits). choose (offerBy s depot h (vehicleOf s index) x ride) Nobody 0 (g .left)) held
+        ∙ ap (λ (x : Ride). choose (offerBy s depot h (vehicleOf s index) (limitsAt s index) x) Nobody 0 (g .left)) (g .kept)
+        ∙ choose-alike (offerBy s depot h (vehicleOf s index) (limitsAt s index) (rideOf s depot (limitsAt s index .rest) (g .trip))) (rule .offer (g .trip))
+        (λ i. offers s depot (vehicleOf s index) (limitsAt s index) (g .trip) (g .driven) i h index refl refl) Nobody 0 (g .left))
 
     -- nobody can join: the round is grown
     nobody : (n : ℕ) → c ≡ Nobody → ended (growOn rule n (growing (g .trip) (g .left))) ≡ record { stops = taken; left = g .left }
@@ -165,7 +168,7 @@ module _ (s : List ℕ) (depot : ℕ) (h : Heuristic) (index : ℕ) (stops₀ : 
             laid = p ∙ brought ∙ ap (λ (l : List ℕ). write stops₀ start (l ++ without j (g .left))) (sym more);
             at = omega (arith, long, g .at);
             all = omega (arith, g .all, without-length (g .left) j inside);
-            kept = q ∙ rw (stop-at, g .kept) (drives-on s depot (vehicleOf s index .rest) (g .trip) h index stop);
+            kept = q ∙ rw (stop-at, g .kept) (drives-on s depot (limitsAt s index .rest) (g .trip) h index stop);
             driven = stays-driven s depot (g .trip) h index stop (g .members .routed .sheet) (g .driven) (every-at (λ (i : ℕ). i < rowsOf s) 0 (g .left) j inside (g .rows));
             rows = every-append (λ (i : ℕ). i < rowsOf s) (take j (g .left)) (drop (j + 1) (g .left)) (every-take (λ (i : ℕ). i < rowsOf s) j (g .left) (g .rows)) (every-drop (λ (i : ℕ). i < rowsOf s) (j + 1) (g .left) (g .rows));
             same = g .same ∙ grown-on;

@@ -19,11 +19,12 @@ use Rattle.sheet.specs.declared.vehicle.Vehicle.{Vehicle}
 use Rattle.evaluation.specs.Sums.{_⊕_}
 use Rattle.evaluation.specs.Clock.{Clock, nextOf, clockOf, breakClock}
 use Rattle.evaluation.specs.Walk.{startAt as atStart, walkedOver}
-use Rattle.evaluation.specs.Limits.{limitsOf}
-use Rattle.evaluation.specs.Verdict.{verdictOf, passes}
+use Rattle.evaluation.specs.Limits.{limitsAt}
+use Rattle.evaluation.specs.Verdict.{verdictOf, isFeasible}
 use Rattle.evaluation.specs.Feasible.{routeFeasible}
 use Rattle.evaluation.specs.Laws.Walk.{clock-kept, walked-rest, walked-place, more-clock, more-prev, more-distance}
 use Rattle.evaluation.specs.Laws.Verdict.{longer-feasible}
+use Rattle.evaluation.specs.declared.limits.RouteLimits.{RouteLimits}
 use Rattle.nearest_neighbor.specs.declared.choice.Choice.{Choice}
 use Rattle.nearest_neighbor.specs.declared.ride.Ride.{Ride}
 use Rattle.nearest_neighbor.specs.declared.ride.RideClock.{RideClock}
@@ -61,18 +62,18 @@ one-more : (stops : List ℕ) (i : ℕ) → length (stops ++ (i ∷ [])) ≡ len
 one-more stops i = length-append stops (i ∷ [])
 
 -- ---- with a stop as the last
-module _ (s : List ℕ) (depot : ℕ) (v : Vehicle) (trip : Trip) (ok : Driven s depot trip) (i : ℕ) where
+module _ (s : List ℕ) (depot : ℕ) (v : Vehicle) (limits : RouteLimits) (trip : Trip) (ok : Driven s depot trip) (i : ℕ) where
   -- the clock, pushed once, is that of the round with the stop
-  pushed-once : (b : VehicleBreak) → v .rest ≡ Required b
-      → passes (verdictOf (limitsOf v) (nextOf s (clockOf (breakClock b (walkedOver s (atStart (Required b) depot) (trip .stops) .clock))) i) (thereAndHome s depot trip i) (timeOf s i depot)) ≡ routeFeasible s depot (limitsOf v) (trip .stops ++ (i ∷ []))
+  pushed-once : (b : VehicleBreak) → limits .rest ≡ Required b
+      → isFeasible (verdictOf limits (nextOf s (clockOf (breakClock b (walkedOver s (atStart (Required b) depot) (trip .stops) .clock))) i) (thereAndHome s depot trip i) (timeOf s i depot)) ≡ routeFeasible s depot limits (trip .stops ++ (i ∷ []))
   pushed-once b e =
       let p = walkedOver s (atStart (Required b) depot) (trip .stops) in
-      ap (λ (c : Clock). passes (verdictOf (limitsOf v) (nextOf s c i) (thereAndHome s depot trip i) (timeOf s i depot))) (clock-kept b (p .clock) (walked-rest s (atStart (Required b) depot) (trip .stops)))
-      ∙ ap (λ (x : Float). passes (verdictOf (limitsOf v) (nextOf s (p .clock) i) (x ⊕ distanceOf s i depot) (timeOf s i depot))) (sym (ap (λ (x : Float). x ⊕ distanceOf s (p .clock .prev) i) (ok .far (Required b)) ∙ ap (λ (n : ℕ). trip .travelled ⊕ distanceOf s n i) (ok .last (Required b))))
-      ∙ sym (longer-feasible s depot (limitsOf v) (trip .stops) i p (ap (λ (x : Rest). walkedOver s (atStart x depot) (trip .stops)) e))
+      ap (λ (c : Clock). isFeasible (verdictOf limits (nextOf s c i) (thereAndHome s depot trip i) (timeOf s i depot))) (clock-kept b (p .clock) (walked-rest s (atStart (Required b) depot) (trip .stops)))
+      ∙ ap (λ (x : Float). isFeasible (verdictOf limits (nextOf s (p .clock) i) (x ⊕ distanceOf s i depot) (timeOf s i depot))) (sym (ap (λ (x : Float). x ⊕ distanceOf s (p .clock .prev) i) (ok .far (Required b)) ∙ ap (λ (n : ℕ). trip .travelled ⊕ distanceOf s n i) (ok .last (Required b))))
+      ∙ sym (longer-feasible s depot limits (trip .stops) i p (ap (λ (x : Rest). walkedOver s (atStart x depot) (trip .stops)) e))
 
-  allowed : (rest : Rest) → v .rest ≡ rest → (duration : Float)
-      → allowsBy s depot (limitsOf v) (clockAfter s depot rest (trip .stops)) i (thereAndHome s depot trip i) duration ≡ allows s depot v rest trip i (thereAndHome s depot trip i) duration
+  allowed : (rest : Rest) → limits .rest ≡ rest → (duration : Float)
+      → allowsBy s depot limits (clockAfter s depot rest (trip .stops)) i (thereAndHome s depot trip i) duration ≡ allows s depot limits rest trip i (thereAndHome s depot trip i) duration
   unfolding allowsBy
   allowed NoRest e duration = refl
   allowed (Required b) e duration = pushed-once b e
@@ -81,11 +82,11 @@ module _ (s : List ℕ) (depot : ℕ) (v : Vehicle) (trip : Trip) (ok : Driven s
   first [] = refl
   first (row ∷ rows) = ne-eqb (suc (length rows)) 0 (suc-ne-zero (length rows))
 
-  pub offers : (h : Heuristic) (index : ℕ) → v ≡ vehicleOf s index → offerBy s depot h v (rideOf s depot (v .rest) trip) i ≡ ruleOf s depot h index .offer trip i
+  pub offers : (h : Heuristic) (index : ℕ) → v ≡ vehicleOf s index → limits ≡ limitsAt s index → offerBy s depot h v limits (rideOf s depot (limits .rest) trip) i ≡ ruleOf s depot h index .offer trip i
   unfolding offerBy ruleOf nearestBy nearestOffer windowBy windowOffer
-  offers Nearest index e = rw (allowed (v .rest) refl (trip .clock ⊕ timeOf s (trip .current) i ⊕ stopOf s i .service ⊕ timeOf s i depot), e)
-  offers (NearestTw soft) index e =
-      rw (allowed (v .rest) refl (startAt (stopOf s i .gate) (arrivalAt s trip i) ⊕ stopOf s i .service ⊕ timeOf s i depot), first (trip .stops), e)
+  offers Nearest index e f = rw (allowed (limits .rest) refl (trip .clock ⊕ timeOf s (trip .current) i ⊕ stopOf s i .service ⊕ timeOf s i depot), e, f)
+  offers (NearestTw soft) index e f =
+      rw (allowed (limits .rest) refl (startAt (stopOf s i .gate) (arrivalAt s trip i) ⊕ stopOf s i .service ⊕ timeOf s i depot), first (trip .stops), e, f)
 
 -- ---- one stop further
 pushed-on : (s : List ℕ) (depot : ℕ) (rest : Rest) (stops : List ℕ) (i : ℕ) → pushedBy s (clockAfter s depot rest stops) i ≡ clockAfter s depot rest (stops ++ (i ∷ []))

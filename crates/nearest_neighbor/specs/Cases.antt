@@ -6,7 +6,7 @@ use Rattle.wire.specs.Bytes.{le as number, bytes, f64At}
 use Rattle.sheet.specs.Fields.{rowsOf, vehiclesOf, timesOf, rowMarks, idField, depotField, vehicleMarks, marked}
 use Rattle.sheet.specs.Values.{gateAt, demandOf, stopOf, limitAt, restAfter, vehicleOf, distanceOf, timeOf}
 use Rattle.sheet.specs.SheetA.{sheetA}
-use Rattle.evaluation.specs.Limits.{allowOf}
+use Rattle.evaluation.specs.Limits.{limitsAt, allowOf}
 use Rattle.evaluation.specs.Checks.{someWindowed, hasSoftWindows}
 use Rattle.constructive.specs.Outcome.{Outcome}
 use Rattle.nearest_neighbor.specs.Greedy.{choose, grow, growOn, greedy}
@@ -21,5 +21,5 @@ pub record Rows : Type 0 where
   pub row4 : nearestNeighborTw (sheetA 3) 0 (1 ∷ 2 ∷ []) (0 ∷ []) ≡ rounded
 
 pub rows : Rows
-unfolding nearestNeighbor nearestNeighborTw greedy grow growOn choose nearestOffer nearestOnward windowOffer windowOnward allowOf someWindowed hasSoftWindows gateAt demandOf stopOf limitAt restAfter vehicleOf distanceOf timeOf rowsOf vehiclesOf timesOf rowMarks idField depotField vehicleMarks marked number bytes f64At add mul ofBits lt le
+unfolding nearestNeighbor nearestNeighborTw greedy grow growOn choose nearestOffer nearestOnward windowOffer windowOnward allowOf someWindowed hasSoftWindows gateAt demandOf stopOf limitsAt limitAt restAfter vehicleOf distanceOf timeOf rowsOf vehiclesOf timesOf rowMarks idField depotField vehicleMarks marked number bytes f64At add mul ofBits lt le
 rows = record { row3 = refl; row4 = refl }

@@ -28,7 +28,7 @@ use Rattle.evaluation.specs.Routed.{Routed}
 use Rattle.evaluation.specs.Window.{violatedOf, latenessOf}
 use Rattle.evaluation.specs.Serve.{atDepot, leavingAt, lateBy, departureOf, pass, serveOf}
 use Rattle.evaluation.specs.Clock.{stepOf}
-use Rattle.evaluation.specs.Limits.{limitsOf, allowOf}
+use Rattle.evaluation.specs.Limits.{limitsAt, allowOf}
 use Rattle.evaluation.specs.Feasible.{routeFeasible}
 use Rattle.evaluation.specs.Checks.{hasSoftWindows}
 use Rattle.evaluation.specs.Bounds.{Times, LabelBounded, ServedBounded, one-time, label-widen, late-positive}
@@ -36,8 +36,9 @@ use Rattle.evaluation.specs.Finite.{step-bounded, start-bounded}
 use Rattle.evaluation.specs.Walk.{Position, startAt as atStart, walkedOver}
 use Rattle.evaluation.specs.Laws.Walk.{more-before, more-prev, more-distance}
 use Rattle.evaluation.specs.Laws.Verdict.{walk-feasible}
+use Rattle.evaluation.specs.declared.limits.RouteLimits.{RouteLimits}
 use Rattle.constructive.specs.Load.{loadOf, load-append}
-use Rattle.constructive.specs.Rounds.{Carried, Feasible, OfFleet}
+use Rattle.constructive.specs.Rounds.{passes, Carried, Feasible, OfFleet}
 use Rattle.nearest_neighbor.specs.Greedy.{Trip, started}
 use Rattle.nearest_neighbor.specs.Nearest.{carries, allows, offered, thereAndHome, nearestOffer, nearestOnward, nearestRule, nearestNeighbor, arrivalAt, lateAt, startAt, penaltyOf, missed, tooDear, windowOffer, windowOnward, windowRule, nearestNeighborTw}
 use Rattle.nearest_neighbor.specs.Chosen.{Taken, Growing, greedy-every, greedy-fleet}
@@ -66,10 +67,10 @@ laden : (s : List ℕ) (v : ℕ) (trip : Trip) → Loaded s v trip → 0 < lengt
 laden s v trip k h = record { some = h; capacity = subst (λ (n : ℕ). n ≤ vehicleOf s v .capacity) (k .load) (k .carried) }
 
 -- ---- the nearest neighbour
-nearest-carries : (s : List ℕ) (depot : ℕ) (v : Vehicle) (trip : Trip) (i : ℕ) → Taken (nearestOffer s depot v trip i) → T (carries s v trip i)
+nearest-carries : (s : List ℕ) (depot : ℕ) (v : Vehicle) (limits : RouteLimits) (trip : Trip) (i : ℕ) → Taken (nearestOffer s depot v limits trip i) → T (carries s v trip i)
 unfolding nearestOffer
-nearest-carries s depot v trip i t =
-    let a = allows s depot v (v .rest) trip i (thereAndHome s depot trip i) (trip .clock ⊕ timeOf s (trip .current) i ⊕ stopOf s i .service ⊕ timeOf s i depot) in
+nearest-carries s depot v limits trip i t =
+    let a = allows s depot limits (limits .rest) trip i (thereAndHome s depot trip i) (trip .clock ⊕ timeOf s (trip .current) i ⊕ stopOf s i .service ⊕ timeOf s i depot) in
     and-l (carries s v trip i) a (taken-passes (carries s v trip i && a) (distanceOf s (trip .current) i) t)
 
 nearest-growing : (s : List ℕ) (depot : ℕ) → Growing (nearestRule s depot) depot (λ (left : List ℕ). Unit) (λ (v : ℕ) (trip : Trip) (left : List ℕ). Loaded s v trip) (Carried s)
@@ -80,7 +81,7 @@ nearest-growing s depot = record {
       let i = getD left j 0 in
       record {
         load = load-more s trip i (k .load);
-        carried = leb→le (trip .load + demandOf s i) (vehicleOf s v .capacity) (nearest-carries s depot (vehicleOf s v) trip i t);
+        carried = leb→le (trip .load + demandOf s i) (vehicleOf s v .capacity) (nearest-carries s depot (vehicleOf s v) (limitsAt s v) trip i t);
       };
   leaves = λ v trip left k. tt;
   ends = λ v trip left k h. laden s v trip k h;
@@ -97,21 +98,21 @@ nearest-fleet s depot members fleet = greedy-fleet (nearestRule s depot) depot f
 
 -- ---- nn_tw
 -- what a stop that is taken has passed
-record Passes (s : List ℕ) (depot : ℕ) (v : Vehicle) (trip : Trip) (i : ℕ) : Type 0 where
+record Passes (s : List ℕ) (depot : ℕ) (v : Vehicle) (limits : RouteLimits) (trip : Trip) (i : ℕ) : Type 0 where
   carried : T (carries s v trip i)
   on-time : T (not (missed (stopOf s i .gate) (lateAt (stopOf s i .gate) (arrivalAt s trip i))))
-  allowed : T (allows s depot v (v .rest) trip i (thereAndHome s depot trip i) (startAt (stopOf s i .gate) (arrivalAt s trip i) ⊕ stopOf s i .service ⊕ timeOf s i depot))
+  allowed : T (allows s depot limits (limits .rest) trip i (thereAndHome s depot trip i) (startAt (stopOf s i .gate) (arrivalAt s trip i) ⊕ stopOf s i .service ⊕ timeOf s i depot))
 
-window-passes : (s : List ℕ) (depot : ℕ) (v : Vehicle) (soft : Bool) (trip : Trip) (i : ℕ) → Taken (windowOffer s depot v soft trip i) → Passes s depot v trip i
+window-passes : (s : List ℕ) (depot : ℕ) (v : Vehicle) (limits : RouteLimits) (soft : Bool) (trip : Trip) (i : ℕ) → Taken (windowOffer s depot v limits soft trip i) → Passes s depot v limits trip i
 unfolding windowOffer
-window-passes s depot v soft trip i t =
+window-passes s depot v limits soft trip i t =
     let gate = stopOf s i .gate in
     let arrival = arrivalAt s trip i in
     let lateCost = penaltyOf gate ⊗ lateAt gate arrival in
     let a = carries s v trip i in
     let b = not (missed gate (lateAt gate arrival)) in
-    let c = allows s depot v (v .rest) trip i (thereAndHome s depot trip i) (startAt gate arrival ⊕ stopOf s i .service ⊕ timeOf s i depot) in
-    let d = not (tooDear s depot v soft trip i lateCost) in
+    let c = allows s depot limits (limits .rest) trip i (thereAndHome s depot trip i) (startAt gate arrival ⊕ stopOf s i .service ⊕ timeOf s i depot) in
+    let d = not (tooDear s depot v limits soft trip i lateCost) in
     let abcd = taken-passes (a && (b && (c && d))) (distanceOf s (trip .current) i ⊕ lateCost) t in
     let bcd = and-r a (b && (c && d)) abcd in
     record { carried = and-l a (b && (c && d)) abcd; on-time = and-l b (c && d) bcd; allowed = and-l c d (and-r b (c && d) bcd) }
@@ -211,18 +212,18 @@ module _ (s : List ℕ) (depot : ℕ) (fine : Accepted s) (trip : Trip) (i : ℕ
   }
 
   -- so the rule's test is `route_feasible`'s, without a rest as with one
-  test-feasible : (v : Vehicle) (r : Rest) → v .rest ≡ r
-      → T (allows s depot v r trip i (thereAndHome s depot trip i) (startAt (stopOf s i .gate) (arrivalAt s trip i) ⊕ stopOf s i .service ⊕ timeOf s i depot))
-      → T (routeFeasible s depot (limitsOf v) (trip .stops ++ (i ∷ [])))
-  test-feasible v (Required b) e t = t
-  test-feasible v NoRest e t =
+  test-feasible : (limits : RouteLimits) (r : Rest) → limits .rest ≡ r
+      → T (allows s depot limits r trip i (thereAndHome s depot trip i) (startAt (stopOf s i .gate) (arrivalAt s trip i) ⊕ stopOf s i .service ⊕ timeOf s i depot))
+      → T (routeFeasible s depot limits (trip .stops ++ (i ∷ [])))
+  test-feasible limits (Required b) e t = t
+  test-feasible limits NoRest e t =
       let route = trip .stops ++ (i ∷ []) in
       let p = walkedOver s start route in
       subst T
-      (sym (walk-feasible s depot (limitsOf v) route p (next .label) e refl served-more
-      ∙ ap (λ (n : ℕ). allowOf (limitsOf v) (p .distance ⊕ distanceOf s n depot) (next .label .time ⊕ timeOf s n depot)) (more-prev s start (trip .stops) i)
-      ∙ ap (λ (x : Float). allowOf (limitsOf v) (x ⊕ distanceOf s i depot) (next .label .time ⊕ timeOf s i depot)) distance-more
-      ∙ ap (λ (x : Float). allowOf (limitsOf v) (thereAndHome s depot trip i) (x ⊕ timeOf s i depot)) (next .timed)))
+      (sym (walk-feasible s depot limits route p (next .label) e refl served-more
+      ∙ ap (λ (n : ℕ). allowOf limits (p .distance ⊕ distanceOf s n depot) (next .label .time ⊕ timeOf s n depot)) (more-prev s start (trip .stops) i)
+      ∙ ap (λ (x : Float). allowOf limits (x ⊕ distanceOf s i depot) (next .label .time ⊕ timeOf s i depot)) distance-more
+      ∙ ap (λ (x : Float). allowOf limits (thereAndHome s depot trip i) (x ⊕ timeOf s i depot)) (next .timed)))
       t
 
 -- and the stops left, that may yet join it
@@ -231,7 +232,7 @@ record Kept (s : List ℕ) (depot v : ℕ) (trip : Trip) (left : List ℕ) : Typ
   room : length (trip .stops) + length left ≤ 101
   loaded : Loaded s v trip
   walked : Walked s depot trip
-  feasible : 0 < length (trip .stops) → T (routeFeasible s depot (limitsOf (vehicleOf s v)) (trip .stops))
+  feasible : 0 < length (trip .stops) → T (passes s depot v (trip .stops))
 
 -- the stops left: rows of the sheet, a round's at most
 record Left (s left : List ℕ) : Type 0 where
@@ -245,14 +246,14 @@ window-growing s depot soft fine D = record {
   joins = λ v trip left j h t k.
       let i = getD left j 0 in
       let I = every-at (λ (i : ℕ). i < rowsOf s) 0 left j h (k .rows) in
-      let p = window-passes s depot (vehicleOf s v) soft trip i t in
+      let p = window-passes s depot (vehicleOf s v) (limitsAt s v) soft trip i t in
       let few : length (trip .stops) < 101 = omega (arith, k .room, h) in
       record {
         rows = without-every (λ (i : ℕ). i < rowsOf s) left j (k .rows);
         room = omega (arith, k .room, snoc-length (trip .stops) i, without-length left j h);
         loaded = record { load = load-more s trip i (k .loaded .load); carried = leb→le (trip .load + demandOf s i) (vehicleOf s v .capacity) (p .carried) };
         walked = walked-more s depot fine trip i I few (k .walked) (p .on-time);
-        feasible = λ o. test-feasible s depot fine trip i I few (k .walked) (p .on-time) (vehicleOf s v) (vehicleOf s v .rest) refl (p .allowed);
+        feasible = λ o. test-feasible s depot fine trip i I few (k .walked) (p .on-time) (limitsAt s v) (limitsAt s v .rest) refl (p .allowed);
       };
   leaves = λ v trip left k. record { rows = k .rows; few = omega (arith, k .room) };
   ends = λ v trip left k h. record { carried = laden s v trip (k .loaded) h; feasible = k .feasible h };

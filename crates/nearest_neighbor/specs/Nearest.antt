@@ -12,7 +12,8 @@ use Rattle.sheet.specs.declared.vehicle.Rest.the-variants.{NoRest, Required}
 use Rattle.sheet.specs.declared.vehicle.Vehicle.{Vehicle}
 use Rattle.evaluation.specs.Sums.{_⊕_, _⊖_, _⊗_}
 use Rattle.evaluation.specs.Window.{waitingOf, latenessOf}
-use Rattle.evaluation.specs.Limits.{limitsOf, allowOf}
+use Rattle.evaluation.specs.Limits.{limitsAt, allowOf}
+use Rattle.evaluation.specs.declared.limits.RouteLimits.{RouteLimits}
 use Rattle.evaluation.specs.Feasible.{routeFeasible, effectiveCost}
 use Rattle.evaluation.specs.Checks.{hasSoftWindows}
 use Rattle.constructive.specs.Outcome.{Outcome}
@@ -24,9 +25,9 @@ abbrev pub carries : List ℕ → Vehicle → Trip → ℕ → Bool
 carries s v trip i = leb (trip .load + demandOf s i) (v .capacity)
 
 -- "and `route_feasible` passes the round with the stop in it": so with a rest; without one the limits are held to figures of the rule's own
-abbrev pub allows : List ℕ → ℕ → Vehicle → Rest → Trip → ℕ → Float → Float → Bool
-allows s depot v NoRest trip i distance duration = allowOf (limitsOf v) distance duration
-allows s depot v (Required b) trip i distance duration = routeFeasible s depot (limitsOf v) (trip .stops ++ (i ∷ []))
+abbrev pub allows : List ℕ → ℕ → RouteLimits → Rest → Trip → ℕ → Float → Float → Bool
+allows s depot limits NoRest trip i distance duration = allowOf limits distance duration
+allows s depot limits (Required b) trip i distance duration = routeFeasible s depot limits (trip .stops ++ (i ∷ []))
 
 abbrev pub offered : Bool → Float → Offer
 offered true k = key k
@@ -37,11 +38,11 @@ abbrev pub thereAndHome : List ℕ → ℕ → Trip → ℕ → Float
 thereAndHome s depot trip i = trip .travelled ⊕ distanceOf s (trip .current) i ⊕ distanceOf s i depot
 
 -- ---- nearest neighbour: "without a rest it ignores windows and waiting"
-unfoldable pub nearestOffer : List ℕ → ℕ → Vehicle → Trip → ℕ → Offer
-nearestOffer s depot v trip i =
+unfoldable pub nearestOffer : List ℕ → ℕ → Vehicle → RouteLimits → Trip → ℕ → Offer
+nearestOffer s depot v limits trip i =
     offered
     (carries s v trip i
-    && allows s depot v (v .rest) trip i (thereAndHome s depot trip i)
+    && allows s depot limits (limits .rest) trip i (thereAndHome s depot trip i)
     (trip .clock ⊕ timeOf s (trip .current) i ⊕ stopOf s i .service ⊕ timeOf s i depot))
     (distanceOf s (trip .current) i)
 
@@ -56,7 +57,7 @@ nearestOnward s trip i = record {
 }
 
 abbrev pub nearestRule : List ℕ → ℕ → ℕ → Rule
-nearestRule s depot v = record { offer = nearestOffer s depot (vehicleOf s v); onward = nearestOnward s }
+nearestRule s depot v = record { offer = nearestOffer s depot (vehicleOf s v) (limitsAt s v); onward = nearestOnward s }
 
 unfoldable pub nearestNeighbor : List ℕ → ℕ → List ℕ → List ℕ → Outcome
 nearestNeighbor s depot members fleet = greedy (nearestRule s depot) depot fleet members
@@ -97,14 +98,14 @@ abbrev pub marginal : List ℕ → ℕ → Trip → ℕ → Float → Float
 marginal s depot trip i lateCost = distanceOf s (trip .current) i ⊕ distanceOf s i depot ⊖ distanceOf s (trip .current) depot ⊕ lateCost
 
 -- "soft windows also need the added cost to be below going alone plus the fixed cost"; the first stop of a round goes alone
-abbrev pub tooDear : List ℕ → ℕ → Vehicle → Bool → Trip → ℕ → Float → Bool
-tooDear s depot v soft trip i lateCost =
+abbrev pub tooDear : List ℕ → ℕ → Vehicle → RouteLimits → Bool → Trip → ℕ → Float → Bool
+tooDear s depot v limits soft trip i lateCost =
     (soft && not (isFirst (trip .stops)))
-    && le (effectiveCost s depot (limitsOf v) (i ∷ []) ⊕ fixedInDistance v) (marginal s depot trip i lateCost)
+    && le (effectiveCost s depot limits (i ∷ []) ⊕ fixedInDistance v) (marginal s depot trip i lateCost)
 
 -- "key is distance plus penalty times lateness"
-unfoldable pub windowOffer : List ℕ → ℕ → Vehicle → Bool → Trip → ℕ → Offer
-windowOffer s depot v soft trip i =
+unfoldable pub windowOffer : List ℕ → ℕ → Vehicle → RouteLimits → Bool → Trip → ℕ → Offer
+windowOffer s depot v limits soft trip i =
     let gate = stopOf s i .gate in
     let arrival = arrivalAt s trip i in
     let late = lateAt gate arrival in
@@ -112,8 +113,8 @@ windowOffer s depot v soft trip i =
     offered
     (carries s v trip i
     && (not (missed gate late)
-    && (allows s depot v (v .rest) trip i (thereAndHome s depot trip i) (startAt gate arrival ⊕ stopOf s i .service ⊕ timeOf s i depot)
-    && not (tooDear s depot v soft trip i lateCost))))
+    && (allows s depot limits (limits .rest) trip i (thereAndHome s depot trip i) (startAt gate arrival ⊕ stopOf s i .service ⊕ timeOf s i depot)
+    && not (tooDear s depot v limits soft trip i lateCost))))
     (distanceOf s (trip .current) i ⊕ lateCost)
 
 -- its clock waits
@@ -127,7 +128,7 @@ windowOnward s trip i = record {
 }
 
 abbrev pub windowRule : List ℕ → ℕ → Bool → ℕ → Rule
-windowRule s depot soft v = record { offer = windowOffer s depot (vehicleOf s v) soft; onward = windowOnward s }
+windowRule s depot soft v = record { offer = windowOffer s depot (vehicleOf s v) (limitsAt s v) soft; onward = windowOnward s }
 
 unfoldable pub nearestNeighborTw : List ℕ → ℕ → List ℕ → List ℕ → Outcome
 nearestNeighborTw s depot members fleet = greedy (windowRule s depot (hasSoftWindows s depot members)) depot fleet members

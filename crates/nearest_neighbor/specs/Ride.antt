@@ -13,9 +13,9 @@ use Rattle.sheet.specs.declared.vehicle.Rest.the-variants.{NoRest, Required}
 use Rattle.sheet.specs.declared.vehicle.Vehicle.{Vehicle}
 use Rattle.evaluation.specs.Sums.{_⊕_, _⊗_}
 use Rattle.evaluation.specs.Clock.{started, nextOf, clockOf, breakClock, nextBy}
-use Rattle.evaluation.specs.Limits.{limitsOf, allowOf}
+use Rattle.evaluation.specs.Limits.{allowOf}
 use Rattle.evaluation.specs.Routed.{Clocked}
-use Rattle.evaluation.specs.Verdict.{verdictOf, passes}
+use Rattle.evaluation.specs.Verdict.{verdictOf, isFeasible}
 use Rattle.evaluation.specs.Feasible.{effectiveCost}
 use Rattle.evaluation.specs.declared.limits.RouteLimits.{RouteLimits}
 use Rattle.nearest_neighbor.specs.declared.ride.Ride.{Ride}
@@ -43,7 +43,7 @@ pushedBy s (Kept c) row = Kept (nextBy s c row)
 -- the clock, pushed once and brought home, says whether the limits are kept
 unfoldable pub allowsBy : List ℕ → ℕ → RouteLimits → RideClock → ℕ → Float → Float → Bool
 allowsBy s depot limits NoClock i distance duration = allowOf limits distance duration
-allowsBy s depot limits (Kept c) i distance duration = passes (verdictOf limits (nextOf s (clockOf c) i) distance (timeOf s i depot))
+allowsBy s depot limits (Kept c) i distance duration = isFeasible (verdictOf limits (nextOf s (clockOf c) i) distance (timeOf s i depot))
 
 -- ---- the round
 abbrev pub setOut : Rest → ℕ → Ride
@@ -54,15 +54,15 @@ carriesBy s v ride i = carries s v (tripBy ride) i
 
 -- ---- nearest neighbour
 -- whether the round can take a stop
-abbrev pub nearestTakes : List ℕ → ℕ → Vehicle → Ride → ℕ → Bool
-nearestTakes s depot v ride i =
+abbrev pub nearestTakes : List ℕ → ℕ → Vehicle → RouteLimits → Ride → ℕ → Bool
+nearestTakes s depot v limits ride i =
     let trip = tripBy ride in
     carries s v trip i
-    && allowsBy s depot (limitsOf v) (ride .rest) i (thereAndHome s depot trip i)
+    && allowsBy s depot limits (ride .rest) i (thereAndHome s depot trip i)
     (trip .clock ⊕ timeOf s (trip .current) i ⊕ stopOf s i .service ⊕ timeOf s i depot)
 
-unfoldable pub nearestBy : List ℕ → ℕ → Vehicle → Ride → ℕ → Offer
-nearestBy s depot v ride i = offered (nearestTakes s depot v ride i) (distanceOf s (ride .current) i)
+unfoldable pub nearestBy : List ℕ → ℕ → Vehicle → RouteLimits → Ride → ℕ → Offer
+nearestBy s depot v limits ride i = offered (nearestTakes s depot v limits ride i) (distanceOf s (ride .current) i)
 
 -- one stop further, with the clock that its rule sums
 unfoldable pub ridden : List ℕ → Ride → ℕ → Float → Ride
@@ -79,10 +79,10 @@ abbrev pub nearestClock : List ℕ → Ride → ℕ → Float
 nearestClock s ride i = ride .clock ⊕ (timeOf s (ride .current) i ⊕ stopOf s i .service)
 
 -- ---- nn_tw
-abbrev pub tooDearBy : List ℕ → ℕ → Vehicle → Bool → Ride → ℕ → Float → Bool
-tooDearBy s depot v soft ride i lateCost =
+abbrev pub tooDearBy : List ℕ → ℕ → Vehicle → RouteLimits → Bool → Ride → ℕ → Float → Bool
+tooDearBy s depot v limits soft ride i lateCost =
     (soft && not (eqb (ride .served) 0))
-    && le (effectiveCost s depot (limitsOf v) (i ∷ []) ⊕ fixedInDistance v) (marginal s depot (tripBy ride) i lateCost)
+    && le (effectiveCost s depot limits (i ∷ []) ⊕ fixedInDistance v) (marginal s depot (tripBy ride) i lateCost)
 
 -- what the key of a stop is made of
 abbrev pub lookOf : List ℕ → Ride → ℕ → Look
@@ -98,16 +98,16 @@ lookOf s ride i =
     }
 
 -- whether the round can take it
-abbrev pub takesBy : List ℕ → ℕ → Vehicle → Bool → Ride → ℕ → Look → Bool
-takesBy s depot v soft ride i seen =
+abbrev pub takesBy : List ℕ → ℕ → Vehicle → RouteLimits → Bool → Ride → ℕ → Look → Bool
+takesBy s depot v limits soft ride i seen =
     let gate = stopOf s i .gate in
     carries s v (tripBy ride) i
     && (not (missed gate (seen .late))
-    && (allowsBy s depot (limitsOf v) (ride .rest) i (thereAndHome s depot (tripBy ride) i) (startAt gate (seen .arrival) ⊕ stopOf s i .service ⊕ timeOf s i depot)
-    && not (tooDearBy s depot v soft ride i (seen .«late_cost»))))
+    && (allowsBy s depot limits (ride .rest) i (thereAndHome s depot (tripBy ride) i) (startAt gate (seen .arrival) ⊕ stopOf s i .service ⊕ timeOf s i depot)
+    && not (tooDearBy s depot v limits soft ride i (seen .«late_cost»))))
 
-unfoldable pub windowBy : List ℕ → ℕ → Vehicle → Bool → Ride → ℕ → Offer
-windowBy s depot v soft ride i = let seen = lookOf s ride i in offered (takesBy s depot v soft ride i seen) (seen .key)
+unfoldable pub windowBy : List ℕ → ℕ → Vehicle → RouteLimits → Bool → Ride → ℕ → Offer
+windowBy s depot v limits soft ride i = let seen = lookOf s ride i in offered (takesBy s depot v limits soft ride i seen) (seen .key)
 
 abbrev pub windowClock : List ℕ → Ride → ℕ → Float
 windowClock s ride i = startAt (stopOf s i .gate) (arrivalAt s (tripBy ride) i) ⊕ stopOf s i .service
@@ -117,9 +117,9 @@ unfoldable pub ruleOf : List ℕ → ℕ → Heuristic → ℕ → Rule
 ruleOf s depot Nearest v = nearestRule s depot v
 ruleOf s depot (NearestTw soft) v = windowRule s depot soft v
 
-unfoldable pub offerBy : List ℕ → ℕ → Heuristic → Vehicle → Ride → ℕ → Offer
-offerBy s depot Nearest v ride = nearestBy s depot v ride
-offerBy s depot (NearestTw soft) v ride = windowBy s depot v soft ride
+unfoldable pub offerBy : List ℕ → ℕ → Heuristic → Vehicle → RouteLimits → Ride → ℕ → Offer
+offerBy s depot Nearest v limits ride = nearestBy s depot v limits ride
+offerBy s depot (NearestTw soft) v limits ride = windowBy s depot v limits soft ride
 
 unfoldable pub onwardBy : List ℕ → Heuristic → Ride → ℕ → Ride
 onwardBy s Nearest ride i = ridden s ride i (nearestClock s ride i)

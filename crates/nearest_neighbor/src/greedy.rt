@@ -6,6 +6,8 @@ use crate::ride;
 use crate::ride::Ride;
 use constructive::tables;
 use constructive::tables::Filled;
+use evaluation::limits;
+use evaluation::limits::RouteLimits;
 use sheet::customer;
 use sheet::matrix;
 use sheet::vehicle;
@@ -34,16 +36,25 @@ fn best_stop(
     depot: usize,
     heuristic: Heuristic,
     vehicle: Vehicle,
+    limits: RouteLimits,
     ride: Ride,
     left: &[u16],
 ) -> Choice
     requires { ⌜ Riding (now sheet) ride ⌝ }
     requires { ⌜ Routed (now sheet) depot (now left) ⌝ }
-    ensures { λ r. ⌜ r ≡ choose (offerBy (now (sheet .entry)) depot heuristic vehicle ride) Nobody 0 (now (left .entry)) ⌝ }
+    ensures { λ r. ⌜ r ≡ choose (offerBy (now (sheet .entry)) depot heuristic vehicle limits ride) Nobody 0 (now (left .entry)) ⌝ }
 {
     match heuristic {
-        Heuristic::Nearest => nearest::nearest(sheet, depot, vehicle, ride, left),
-        Heuristic::NearestTw(soft) => nn_tw::nearest(sheet, depot, vehicle, soft, ride, left),
+        Heuristic::Nearest => nearest::nearest(sheet, depot, vehicle, limits, ride, left),
+        Heuristic::NearestTw(soft) => nn_tw::nearest(
+            sheet,
+            depot,
+            vehicle,
+            limits,
+            soft,
+            ride,
+            left,
+        ),
     }
 }
 
@@ -94,7 +105,8 @@ fn grow_round(
     ensures { λ _. ⌜ now (stops .exit) ≡ write (now (stops .entry)) start (roundOf (ruleOf (now (sheet .entry)) depot heuristic index) depot (part (now (stops .entry)) start total) .stops ++ roundOf (ruleOf (now (sheet .entry)) depot heuristic index) depot (part (now (stops .entry)) start total) .left) ⌝ }
 {
     let vehicle = vehicle::vehicle_at(sheet, index);
-    let rest = vehicle.rest;
+    let limits = limits::limits_at(sheet, index);
+    let rest = limits.rest;
     let mut ride = ride::set_out(rest, depot);
     let mut end = start;
     while end < total {
@@ -103,6 +115,7 @@ fn grow_round(
             depot,
             heuristic,
             vehicle,
+            limits,
             ride,
             &stops[end..total],
         ) else {

@@ -3,7 +3,7 @@ use crate::choice;
 use crate::choice::Choice;
 use crate::ride;
 use crate::ride::Ride;
-use evaluation::limits;
+use evaluation::limits::RouteLimits;
 use evaluation::window;
 use sheet::customer;
 use sheet::customer::Gate;
@@ -17,7 +17,6 @@ ghost use lib.ListN.{length, getD};
 ghost use Rattle.sheet.specs.Fields.{rowsOf};
 ghost use Rattle.sheet.specs.Values.{stopOf, distanceOf, timeOf};
 ghost use Rattle.evaluation.specs.Routed.{Routed};
-ghost use Rattle.evaluation.specs.Limits.{limitsOf};
 ghost use Rattle.evaluation.specs.Sums.{_⊕_};
 ghost use Rattle.nearest_neighbor.specs.declared.choice.Choice.the-variants.{Nobody};
 ghost use Rattle.nearest_neighbor.specs.Greedy.{better, choose};
@@ -79,29 +78,21 @@ fn arrival_at(sheet: &[u8], ride: Ride, row: usize) -> f64
 fn fits(
     sheet: &[u8],
     depot: usize,
-    vehicle: Vehicle,
+    limits: RouteLimits,
     ride: Ride,
     row: usize,
     departure: f64,
 ) -> bool
     requires { ⌜ Riding (now sheet) ride ⌝ }
     requires { ⌜ (row < rowsOf (now sheet)) × (depot < rowsOf (now sheet)) ⌝ }
-    ensures { λ r. ⌜ r ≡ allowsBy (now (sheet .entry)) depot (limitsOf vehicle) (ride .rest) row (thereAndHome (now (sheet .entry)) depot (tripBy ride) row) (departure ⊕ timeOf (now (sheet .entry)) row depot) ⌝ }
+    ensures { λ r. ⌜ r ≡ allowsBy (now (sheet .entry)) depot limits (ride .rest) row (thereAndHome (now (sheet .entry)) depot (tripBy ride) row) (departure ⊕ timeOf (now (sheet .entry)) row depot) ⌝ }
 {
     let kept = ride.rest;
     let distance = ride.travelled
         + matrix::distance(sheet, ride.current, row)
         + matrix::distance(sheet, row, depot);
     let duration = departure + matrix::travel_time(sheet, row, depot);
-    ride::allows(
-        sheet,
-        depot,
-        limits::limits_of(vehicle),
-        kept,
-        row,
-        distance,
-        duration,
-    )
+    ride::allows(sheet, depot, limits, kept, row, distance, duration)
 }
 
 // What a stop adds to the round so far, with its lateness.
@@ -120,6 +111,7 @@ fn is_too_dear(
     sheet: &[u8],
     depot: usize,
     vehicle: Vehicle,
+    limits: RouteLimits,
     soft: bool,
     ride: Ride,
     alone: &[u16],
@@ -128,7 +120,7 @@ fn is_too_dear(
     requires { ⌜ Riding (now sheet) ride ⌝ }
     requires { ⌜ Routed (now sheet) depot (now alone) ⌝ }
     requires { ⌜ length (now alone) ≡ 1 ⌝ }
-    ensures { λ r. ⌜ r ≡ tooDearBy (now (sheet .entry)) depot vehicle soft ride (getD (now (alone .entry)) 0 0) «late_cost» ⌝ }
+    ensures { λ r. ⌜ r ≡ tooDearBy (now (sheet .entry)) depot vehicle limits soft ride (getD (now (alone .entry)) 0 0) «late_cost» ⌝ }
 {
     if !soft {
         return false;
@@ -136,7 +128,6 @@ fn is_too_dear(
     if ride.served == 0 {
         return false;
     }
-    let limits = limits::limits_of(vehicle);
     let cost = evaluation::effective_cost(sheet, alone, depot, limits);
     let most = cost + vehicle::fixed_cost_in_distance(vehicle);
     most <= added(sheet, depot, ride, alone[0] as usize, late_cost)
@@ -174,6 +165,7 @@ fn takes(
     sheet: &[u8],
     depot: usize,
     vehicle: Vehicle,
+    limits: RouteLimits,
     soft: bool,
     ride: Ride,
     alone: &[u16],
@@ -182,7 +174,7 @@ fn takes(
     requires { ⌜ Riding (now sheet) ride ⌝ }
     requires { ⌜ Routed (now sheet) depot (now alone) ⌝ }
     requires { ⌜ length (now alone) ≡ 1 ⌝ }
-    ensures { λ r. ⌜ r ≡ takesBy (now (sheet .entry)) depot vehicle soft ride (getD (now (alone .entry)) 0 0) seen ⌝ }
+    ensures { λ r. ⌜ r ≡ takesBy (now (sheet .entry)) depot vehicle limits soft ride (getD (now (alone .entry)) 0 0) seen ⌝ }
 {
     let row = alone[0] as usize;
     if !ride::carries(sheet, vehicle, ride, row) {
@@ -194,10 +186,19 @@ fn takes(
         return false;
     }
     let departure = start_at(gate, seen.arrival) + stop.service;
-    if !fits(sheet, depot, vehicle, ride, row, departure) {
+    if !fits(sheet, depot, limits, ride, row, departure) {
         return false;
     }
-    !is_too_dear(sheet, depot, vehicle, soft, ride, alone, seen.late_cost)
+    !is_too_dear(
+        sheet,
+        depot,
+        vehicle,
+        limits,
+        soft,
+        ride,
+        alone,
+        seen.late_cost,
+    )
 }
 
 // The better of the best so far and the one stop of `alone`, at place j. What does not win is not looked at further.
@@ -205,6 +206,7 @@ fn nearer(
     sheet: &[u8],
     depot: usize,
     vehicle: Vehicle,
+    limits: RouteLimits,
     soft: bool,
     ride: Ride,
     best: Choice,
@@ -214,13 +216,13 @@ fn nearer(
     requires { ⌜ Riding (now sheet) ride ⌝ }
     requires { ⌜ Routed (now sheet) depot (now alone) ⌝ }
     requires { ⌜ length (now alone) ≡ 1 ⌝ }
-    ensures { λ r. ⌜ r ≡ better best j (windowBy (now (sheet .entry)) depot vehicle soft ride (getD (now (alone .entry)) 0 0)) ⌝ }
+    ensures { λ r. ⌜ r ≡ better best j (windowBy (now (sheet .entry)) depot vehicle limits soft ride (getD (now (alone .entry)) 0 0)) ⌝ }
 {
     let seen = look_at(sheet, ride, alone[0] as usize);
     if !choice::wins(seen.key, best) {
         return best;
     }
-    if !takes(sheet, depot, vehicle, soft, ride, alone, seen) {
+    if !takes(sheet, depot, vehicle, limits, soft, ride, alone, seen) {
         return best;
     }
     Choice::Best(j, seen.key)
@@ -231,18 +233,29 @@ pub fn nearest(
     sheet: &[u8],
     depot: usize,
     vehicle: Vehicle,
+    limits: RouteLimits,
     soft: bool,
     ride: Ride,
     left: &[u16],
 ) -> Choice
     requires { ⌜ Riding (now sheet) ride ⌝ }
     requires { ⌜ Routed (now sheet) depot (now left) ⌝ }
-    ensures { λ r. ⌜ r ≡ choose (windowBy (now (sheet .entry)) depot vehicle soft ride) Nobody 0 (now (left .entry)) ⌝ }
+    ensures { λ r. ⌜ r ≡ choose (windowBy (now (sheet .entry)) depot vehicle limits soft ride) Nobody 0 (now (left .entry)) ⌝ }
 {
     let mut best = Choice::Nobody;
     for j in 0..left.len() {
         let next = j + 1;
-        best = nearer(sheet, depot, vehicle, soft, ride, best, j, &left[j..next]);
+        best = nearer(
+            sheet,
+            depot,
+            vehicle,
+            limits,
+            soft,
+            ride,
+            best,
+            j,
+            &left[j..next],
+        );
     }
     best
 }

@@ -7,6 +7,7 @@ use mathlib.Core.List.{List, [], _∷_}
 use lib.ListN.{length, take, drop, getD}
 use lib.Ieee.{Float}
 use Rattle.sheet.specs.Values.{vehicleOf}
+use Rattle.evaluation.specs.Limits.{limitsAt}
 use Rattle.evaluator.specs.Record.{priceStart}
 use Rattle.constructive.specs.Outcome.{Round, roundsIn, startIn}
 use Rattle.plan.specs.Plan.{withRound, withRounds, priceAfter, priceOf}
@@ -28,7 +29,7 @@ module _ (s stops ends vehicles : List ℕ) (n : ℕ) (before : List ℕ) where
     unfolding roundsIn
     step h = let e : n - k ≡ suc (n - (k + 1)) = omega arith in rw e
 
-    pub goes-on : (after : List ℕ) (priced : Float) → k < n → length after ≡ length plan → after ≡ withRound s k (vehicleOf s (getD vehicles k 0)) (take (getD ends k 0 - start) (drop start stops)) plan → priced ≡ priceAfter s cost (getD vehicles k 0) (take (getD ends k 0 - start) (drop start stops)) → Counting s stops ends vehicles n before after priced (getD ends k 0) (k + 1)
+    pub goes-on : (after : List ℕ) (priced : Float) → k < n → length after ≡ length plan → after ≡ withRound s k (vehicleOf s (getD vehicles k 0)) (limitsAt s (getD vehicles k 0)) (take (getD ends k 0 - start) (drop start stops)) plan → priced ≡ priceAfter s cost (getD vehicles k 0) (take (getD ends k 0 - start) (drop start stops)) → Counting s stops ends vehicles n before after priced (getD ends k 0) (k + 1)
     unfolding withRounds priceOf
     goes-on after priced h l w e = record {
       few = omega arith;

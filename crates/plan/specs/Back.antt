@@ -19,7 +19,8 @@ use Rattle.sheet.specs.Accepted.{Accepted}
 use Rattle.sheet.specs.Values.{vehicleOf}
 use Rattle.sheet.specs.declared.vehicle.Vehicle.{Vehicle}
 use Rattle.sheet.specs.Fleet.{indexFrom, indexOf}
-use Rattle.evaluation.specs.Limits.{limitsOf}
+use Rattle.evaluation.specs.Limits.{limitsAt}
+use Rattle.evaluation.specs.declared.limits.RouteLimits.{RouteLimits}
 use Rattle.evaluator.specs.Record.{placedOf, beginOf, buildRoute}
 use Rattle.constructive.specs.Outcome.{Round, Outcome, chains, stopsOf}
 use Rattle.constructive.specs.Right.{idsKnown, linksRight, eachOnce, outcomeRight, stops-right, distinct-right}
@@ -50,59 +51,59 @@ index-back s a v (suc m) w h e l = go (ltb w v) refl (λ k. index-back s a v m (
 
 -- ---- one round
 module _ (s : List ℕ) (most : rowsOf s ≤ 101) where
-  module _ (k : ℕ) (v : Vehicle) (stops plan : List ℕ) (few : k < rowsOf s) (long : length plan ≡ 16 + 80 * rowsOf s) (o : Stops (rowsOf s) stops) where
+  module _ (k : ℕ) (v : Vehicle) (limits : RouteLimits) (stops plan : List ℕ) (few : k < rowsOf s) (long : length plan ≡ 16 + 80 * rowsOf s) (o : Stops (rowsOf s) stops) where
     abbrev visited : List ℕ
-    visited = withVisits s (placedOf s (v .depot) (limitsOf v) stops) (beginOf (v .depot)) stops plan
+    visited = withVisits s (placedOf s (v .depot) limits stops) (beginOf (v .depot)) stops plan
 
     abbrev figures : List ℕ
-    figures = roundBytes (v .id) (first stops) (buildRoute s (v .depot) (limitsOf v) stops)
+    figures = roundBytes (v .id) (first stops) (buildRoute s (v .depot) limits stops)
 
     spread : Spread (rowsOf s) stops plan visited
-    spread = visits-spread s (placedOf s (v .depot) (limitsOf v) stops) (beginOf (v .depot)) stops plan most o
+    spread = visits-spread s (placedOf s (v .depot) limits stops) (beginOf (v .depot)) stops plan most o
 
     length-visited : length visited ≡ 16 + 80 * rowsOf s
     length-visited = spread-length (rowsOf s) long spread
 
     long-figures : length figures ≡ 56
-    long-figures = round-long (v .id) (first stops) (buildRoute s (v .depot) (limitsOf v) stops)
+    long-figures = round-long (v .id) (first stops) (buildRoute s (v .depot) limits stops)
 
     room : roundAt k + length figures ≤ length visited
     room = let l = length-visited in let m = long-figures in omega arith
 
-    round-length : length (withRound s k v stops plan) ≡ 16 + 80 * rowsOf s
+    round-length : length (withRound s k v limits stops plan) ≡ 16 + 80 * rowsOf s
     unfolding withRound
     round-length = length-write visited (roundAt k) figures room ∙ length-visited
 
-    round-low : (m i : ℕ) → i + m ≤ 16 + 56 * k → le m (withRound s k v stops plan) i ≡ le m plan i
+    round-low : (m i : ℕ) → i + m ≤ 16 + 56 * k → le m (withRound s k v limits stops plan) i ≡ le m plan i
     unfolding withRound
     round-low m i h = le-before visited (roundAt k) figures room m i h ∙ spread-keeps (rowsOf s) m i long spread (clear-low (rowsOf s) m i stops (omega arith))
 
-    round-visits : (r : ℕ) → nextAt (withRound s k v stops plan) (rowsOf s) r ≡ nextAt visited (rowsOf s) r
+    round-visits : (r : ℕ) → nextAt (withRound s k v limits stops plan) (rowsOf s) r ≡ nextAt visited (rowsOf s) r
     unfolding withRound nextAt
     round-visits r = let l = long-figures in le-after visited (roundAt k) figures room 2 (visitAt (rowsOf s) r) (omega arith)
 
-    round-next : (r : ℕ) → count r stops ≡ 0 → nextAt (withRound s k v stops plan) (rowsOf s) r ≡ nextAt plan (rowsOf s) r
+    round-next : (r : ℕ) → count r stops ≡ 0 → nextAt (withRound s k v limits stops plan) (rowsOf s) r ≡ nextAt plan (rowsOf s) r
     unfolding nextAt
     round-next r h = round-visits r ∙ spread-keeps (rowsOf s) 2 (visitAt (rowsOf s) r) long spread (clear-next (rowsOf s) r stops h)
 
-    round-field : (m i : ℕ) → i + m ≤ 16 → le m (withRound s k v stops plan) (roundAt k + i) ≡ le m (roundCounts (v .id) (first stops) (buildRoute s (v .depot) (limitsOf v) stops)) i
+    round-field : (m i : ℕ) → i + m ≤ 16 → le m (withRound s k v limits stops plan) (roundAt k + i) ≡ le m (roundCounts (v .id) (first stops) (buildRoute s (v .depot) limits stops)) i
     unfolding withRound roundBytes
     round-field m i h =
-        let r = buildRoute s (v .depot) (limitsOf v) stops in
+        let r = buildRoute s (v .depot) limits stops in
         let c = counts-long (v .id) (first stops) r in
         let l = long-figures in
         le-in visited (roundAt k) figures room m i (omega arith) ∙ le-front m i (roundCounts (v .id) (first stops) r) (roundFigures r) (omega arith)
 
-    round-id : v .id < 256 ^ 4 → idAt (withRound s k v stops plan) k ≡ v .id
+    round-id : v .id < 256 ^ 4 → idAt (withRound s k v limits stops plan) k ≡ v .id
     unfolding idAt roundCounts
-    round-id h = ap (le 4 (withRound s k v stops plan)) (sym (add-zero (roundAt k))) ∙ round-field 4 0 (omega arith) ∙ starts 4 (v .id) _ h
+    round-id h = ap (le 4 (withRound s k v limits stops plan)) (sym (add-zero (roundAt k))) ∙ round-field 4 0 (omega arith) ∙ starts 4 (v .id) _ h
 
-    round-first : firstAt (withRound s k v stops plan) k ≡ first stops
+    round-first : firstAt (withRound s k v limits stops plan) k ≡ first stops
     unfolding firstAt roundCounts
     round-first =
         round-field 2 8 (omega arith)
         ∙ le-skip 2 4 4 (bytes 4 (v .id)) _ (length-bytes 4 (v .id))
-        ∙ le-skip 2 0 4 (bytes 4 (buildRoute s (v .depot) (limitsOf v) stops .load)) _ (length-bytes 4 (buildRoute s (v .depot) (limitsOf v) stops .load))
+        ∙ le-skip 2 0 4 (bytes 4 (buildRoute s (v .depot) limits stops .load)) _ (length-bytes 4 (buildRoute s (v .depot) limits stops .load))
         ∙ starts 2 (first stops) _ (first-lt (rowsOf s) stops most o)
 
     round-links : Distinct stops → Linked visited (rowsOf s) stops
@@ -114,7 +115,7 @@ module _ (s : List ℕ) (most : rowsOf s ≤ 101) where
   rounds-length [] off k plan f l o = l
   rounds-length (r ∷ rs) off k plan f l o =
       let p = stops-split (rowsOf s) (r .stops) (chains rs off) o in
-      rounds-length rs off (k + 1) (withRound s k (vehicleOf s (r .vehicle)) (r .stops) plan) (omega arith) (round-length k (vehicleOf s (r .vehicle)) (r .stops) plan (omega arith) l (p .0)) (p .1)
+      rounds-length rs off (k + 1) (withRound s k (vehicleOf s (r .vehicle)) (limitsAt s (r .vehicle)) (r .stops) plan) (omega arith) (round-length k (vehicleOf s (r .vehicle)) (limitsAt s (r .vehicle)) (r .stops) plan (omega arith) l (p .0)) (p .1)
 
   rounds-low : (rs : List Round) (off : List ℕ) (k : ℕ) (plan : List ℕ) → k + length rs ≤ rowsOf s → length plan ≡ 16 + 80 * rowsOf s → Stops (rowsOf s) (chains rs off) → (m i : ℕ) → i + m ≤ 16 + 56 * k → le m (withRounds s k rs plan) i ≡ le m plan i
   unfolding withRounds chains
@@ -122,8 +123,8 @@ module _ (s : List ℕ) (most : rowsOf s ≤ 101) where
   rounds-low (r ∷ rs) off k plan f l o m i h =
       let v = vehicleOf s (r .vehicle) in
       let p = stops-split (rowsOf s) (r .stops) (chains rs off) o in
-      let q = round-length k v (r .stops) plan (omega arith) l (p .0) in
-      rounds-low rs off (k + 1) (withRound s k v (r .stops) plan) (omega arith) q (p .1) m i (omega arith) ∙ round-low k v (r .stops) plan (omega arith) l (p .0) m i h
+      let q = round-length k v (limitsAt s (r .vehicle)) (r .stops) plan (omega arith) l (p .0) in
+      rounds-low rs off (k + 1) (withRound s k v (limitsAt s (r .vehicle)) (r .stops) plan) (omega arith) q (p .1) m i (omega arith) ∙ round-low k v (limitsAt s (r .vehicle)) (r .stops) plan (omega arith) l (p .0) m i h
 
   rounds-next : (rs : List Round) (off : List ℕ) (k : ℕ) (plan : List ℕ) → k + length rs ≤ rowsOf s → length plan ≡ 16 + 80 * rowsOf s → Stops (rowsOf s) (chains rs off) → (r : ℕ) → count r (chains rs off) ≡ 0 → nextAt (withRounds s k rs plan) (rowsOf s) r ≡ nextAt plan (rowsOf s) r
   unfolding withRounds chains
@@ -131,9 +132,9 @@ module _ (s : List ℕ) (most : rowsOf s ≤ 101) where
   rounds-next (r ∷ rs) off k plan f l o x h =
       let v = vehicleOf s (r .vehicle) in
       let p = stops-split (rowsOf s) (r .stops) (chains rs off) o in
-      let q = round-length k v (r .stops) plan (omega arith) l (p .0) in
+      let q = round-length k v (limitsAt s (r .vehicle)) (r .stops) plan (omega arith) l (p .0) in
       let e = count-append x (r .stops) (chains rs off) in
-      rounds-next rs off (k + 1) (withRound s k v (r .stops) plan) (omega arith) q (p .1) x (omega arith) ∙ round-next k v (r .stops) plan (omega arith) l (p .0) x (omega arith)
+      rounds-next rs off (k + 1) (withRound s k v (limitsAt s (r .vehicle)) (r .stops) plan) (omega arith) q (p .1) x (omega arith) ∙ round-next k v (limitsAt s (r .vehicle)) (r .stops) plan (omega arith) l (p .0) x (omega arith)
 
   -- what a plan says of rounds
   Reads : List ℕ → ℕ → List Round → Type 0
@@ -160,15 +161,15 @@ module _ (s : List ℕ) (most : rowsOf s ≤ 101) where
         let v = vehicleOf s (r .vehicle) in
         let p = stops-split (rowsOf s) (r .stops) (chains rs off) o in
         let e = split (r .stops) (chains rs off) d in
-        let q = withRound s k v (r .stops) plan in
-        let n = round-length k v (r .stops) plan (omega arith) l (p .0) in (
+        let q = withRound s k v (limitsAt s (r .vehicle)) (r .stops) plan in
+        let n = round-length k v (limitsAt s (r .vehicle)) (r .stops) plan (omega arith) l (p .0) in (
           (
-            low 4 (roundAt k) (omega arith) (omega arith) ∙ rounds-low rs off (k + 1) q (omega arith) n (p .1) 4 (roundAt k) (omega arith) ∙ round-id k v (r .stops) plan (omega arith) l (p .0) (id-lt (r .vehicle)),
+            low 4 (roundAt k) (omega arith) (omega arith) ∙ rounds-low rs off (k + 1) q (omega arith) n (p .1) 4 (roundAt k) (omega arith) ∙ round-id k v (limitsAt s (r .vehicle)) (r .stops) plan (omega arith) l (p .0) (id-lt (r .vehicle)),
             (
-              low 2 (roundAt k + 8) (omega arith) (omega arith) ∙ rounds-low rs off (k + 1) q (omega arith) n (p .1) 2 (roundAt k + 8) (omega arith) ∙ round-first k v (r .stops) plan (omega arith) l (p .0),
-              linked-kept P (visited k v (r .stops) plan (omega arith) l (p .0)) (rowsOf s) (chains rs off)
-                  (λ x h. next x (off-count rs off x h) ∙ rounds-next rs off (k + 1) q (omega arith) n (p .1) x h ∙ round-visits k v (r .stops) plan (omega arith) l (p .0) x)
-                  (r .stops) (e .1 .1) (round-links k v (r .stops) plan (omega arith) l (p .0) (e .0)),
+              low 2 (roundAt k + 8) (omega arith) (omega arith) ∙ rounds-low rs off (k + 1) q (omega arith) n (p .1) 2 (roundAt k + 8) (omega arith) ∙ round-first k v (limitsAt s (r .vehicle)) (r .stops) plan (omega arith) l (p .0),
+              linked-kept P (visited k v (limitsAt s (r .vehicle)) (r .stops) plan (omega arith) l (p .0)) (rowsOf s) (chains rs off)
+                  (λ x h. next x (off-count rs off x h) ∙ rounds-next rs off (k + 1) q (omega arith) n (p .1) x h ∙ round-visits k v (limitsAt s (r .vehicle)) (r .stops) plan (omega arith) l (p .0) x)
+                  (r .stops) (e .1 .1) (round-links k v (limitsAt s (r .vehicle)) (r .stops) plan (omega arith) l (p .0) (e .0)),
             ),
           ),
           rounds-read rs (k + 1) q (omega arith) n (p .1) (e .1 .0) low next,

@@ -13,6 +13,7 @@ use Rattle.sheet.specs.Depots.{leading, depotsOf}
 use Rattle.sheet.specs.Values.{gateAt, demandOf, stopOf, limitAt, restAfter, vehicleOf, distanceOf, timeOf}
 use Rattle.sheet.specs.SheetA.{ten, sheetA}
 use Rattle.sheet.specs.Fleet.{indexFrom}
+use Rattle.evaluation.specs.Limits.{limitsAt}
 use Rattle.evaluator.specs.Record.{placedOf, readyFor, departsAt, lateAfter, costAfter, visitedOf, recordOf, buildRoute, routeCost, priceWith}
 use Rattle.constructive.specs.Outcome.{Outcome, chains}
 use Rattle.constructive.specs.Right.{idsKnown, linksRight, eachOnce, outcomeRight}
@@ -39,5 +40,5 @@ pub record Said : Type 0 where
   pub wrong : planRight (sheetA 0) (write plan 232 (bytes 2 2)) ≡ false
 
 pub said : Said
-unfolding planOf planBytes withRounds withRound withVisits withAside visitBytes asideBytes roundCounts roundFigures roundBytes headerBytes priceAfter priceOf placedOf readyFor departsAt lateAfter costAfter visitedOf recordOf buildRoute routeCost priceWith gateAt demandOf stopOf limitAt restAfter vehicleOf distanceOf timeOf rowsOf vehiclesOf timesOf rowMarks idField depotField vehicleMarks marked leBytes bytes write f64At add mul ofBits toBits readPlan roundsFrom chainFrom indexFrom roundsAt asideAt idAt firstAt nextAt planRight outcomeRight idsKnown chains linksRight count eachOnce all leading depotsOf
+unfolding planOf planBytes withRounds withRound withVisits withAside visitBytes asideBytes roundCounts roundFigures roundBytes headerBytes priceAfter priceOf placedOf readyFor departsAt lateAfter costAfter visitedOf recordOf buildRoute routeCost priceWith gateAt demandOf stopOf limitsAt limitAt restAfter vehicleOf distanceOf timeOf rowsOf vehiclesOf timesOf rowMarks idField depotField vehicleMarks marked leBytes bytes write f64At add mul ofBits toBits readPlan roundsFrom chainFrom indexFrom roundsAt asideAt idAt firstAt nextAt planRight outcomeRight idsKnown chains linksRight count eachOnce all leading depotsOf
 said = record { header = refl; round = refl; visits = refl; read-back = refl; right = refl; wrong = refl }

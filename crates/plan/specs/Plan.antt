@@ -9,7 +9,8 @@ use Rattle.sheet.specs.Fields.{rowsOf, planLength}
 use Rattle.sheet.specs.Values.{nought, vehicleOf}
 use Rattle.sheet.specs.declared.vehicle.Vehicle.{Vehicle}
 use Rattle.evaluation.specs.Serve.{restPlace, restStart}
-use Rattle.evaluation.specs.Limits.{limitsOf}
+use Rattle.evaluation.specs.Limits.{limitsAt}
+use Rattle.evaluation.specs.declared.limits.RouteLimits.{RouteLimits}
 use Rattle.evaluator.specs.Record.{placedOf, beginOf, visitedOf, buildRoute, priceStart, priceWith}
 use Rattle.evaluator.specs.declared.Progress.{Progress}
 use Rattle.evaluator.specs.declared.Placed.{Placed}
@@ -64,15 +65,15 @@ withVisits s t p (row ∷ rows) plan =
     let q = visitedOf s t p row in
     withVisits s t q rows (write plan (visitAt (rowsOf s) row) (visitBytes (first rows) q))
 
--- a round counted k, from 0, with its vehicle: its stops, then its record
-unfoldable pub withRound : List ℕ → ℕ → Vehicle → List ℕ → List ℕ → List ℕ
-withRound s k v stops plan =
-    let t = placedOf s (v .depot) (limitsOf v) stops in
-    write (withVisits s t (beginOf (v .depot)) stops plan) (roundAt k) (roundBytes (v .id) (first stops) (buildRoute s (v .depot) (limitsOf v) stops))
+-- a round counted k, from 0, with its vehicle and its limits: its stops, then its record
+unfoldable pub withRound : List ℕ → ℕ → Vehicle → RouteLimits → List ℕ → List ℕ → List ℕ
+withRound s k v limits stops plan =
+    let t = placedOf s (v .depot) limits stops in
+    write (withVisits s t (beginOf (v .depot)) stops plan) (roundAt k) (roundBytes (v .id) (first stops) (buildRoute s (v .depot) limits stops))
 
 unfoldable pub withRounds : List ℕ → ℕ → List Round → List ℕ → List ℕ
 withRounds s k [] plan = plan
-withRounds s k (r ∷ rs) plan = withRounds s (k + 1) rs (withRound s k (vehicleOf s (r .vehicle)) (r .stops) plan)
+withRounds s k (r ∷ rs) plan = withRounds s (k + 1) rs (withRound s k (vehicleOf s (r .vehicle)) (limitsAt s (r .vehicle)) (r .stops) plan)
 
 -- "the set-aside chain too"
 unfoldable pub withAside : List ℕ → List ℕ → List ℕ → List ℕ
@@ -83,7 +84,7 @@ withAside s (row ∷ rows) plan = withAside s rows (write plan (visitAt (rowsOf 
 unfoldable pub priceAfter : List ℕ → Float → ℕ → List ℕ → Float
 priceAfter s total v stops =
     let vehicle = vehicleOf s v in
-    priceWith total vehicle (buildRoute s (vehicle .depot) (limitsOf vehicle) stops)
+    priceWith total vehicle (buildRoute s (vehicle .depot) (limitsAt s v) stops)
 
 -- the rounds' costs, in order
 unfoldable pub priceOf : List ℕ → Float → List Round → Float

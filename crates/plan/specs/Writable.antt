@@ -10,7 +10,8 @@ use Rattle.sheet.specs.Values.{vehicleOf}
 use Rattle.sheet.specs.declared.vehicle.Vehicle.{Vehicle}
 use Rattle.sheet.specs.Accepted.{Sized}
 use Rattle.evaluation.specs.Serve.{restStart}
-use Rattle.evaluation.specs.Limits.{limitsOf}
+use Rattle.evaluation.specs.Limits.{limitsAt}
+use Rattle.evaluation.specs.declared.limits.RouteLimits.{RouteLimits}
 use Rattle.evaluator.specs.Record.{placedOf, beginOf, visitedOf, buildRoute, priceStart}
 use Rattle.evaluator.specs.declared.Progress.{Progress}
 use Rattle.evaluator.specs.declared.Placed.{Placed}
@@ -39,13 +40,13 @@ VisitsWritable s t p [] = Unit
 VisitsWritable s t p (row ∷ rows) = VisitWritable (visitedOf s t p row) × VisitsWritable s t (visitedOf s t p row) rows
 
 -- a vehicle's round
-pub record RoundWritable (s : List ℕ) (v : Vehicle) (stops : List ℕ) : Type 0 where
-  pub visits : VisitsWritable s (placedOf s (v .depot) (limitsOf v) stops) (beginOf (v .depot)) stops
-  pub figures : RecordWritable (buildRoute s (v .depot) (limitsOf v) stops)
+pub record RoundWritable (s : List ℕ) (v : Vehicle) (limits : RouteLimits) (stops : List ℕ) : Type 0 where
+  pub visits : VisitsWritable s (placedOf s (v .depot) limits stops) (beginOf (v .depot)) stops
+  pub figures : RecordWritable (buildRoute s (v .depot) limits stops)
 
 -- every figure of every plan of the sheet
 pub record Writable (s : List ℕ) : Type 0 where
-  pub round : (r : Round) → RoundOf s r → RoundWritable s (vehicleOf s (r .vehicle)) (r .stops)
+  pub round : (r : Round) → RoundOf s r → RoundWritable s (vehicleOf s (r .vehicle)) (limitsAt s (r .vehicle)) (r .stops)
   pub cost : (rs : List Round) → length rs ≤ rowsOf s → RoundsOf s rs → Number (priceOf s priceStart rs)
 
 -- stops that are chained, and not visited

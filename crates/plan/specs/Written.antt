@@ -13,7 +13,8 @@ use Rattle.sheet.specs.Values.{vehicleOf}
 use Rattle.evaluation.specs.Serve.{restStart}
 use Rattle.evaluation.specs.declared.label.RestAnswer.{RestAnswer}
 use Rattle.evaluation.specs.declared.label.RestAnswer.the-variants.{NoRest, Before}
-use Rattle.evaluation.specs.Limits.{limitsOf}
+use Rattle.evaluation.specs.Limits.{limitsAt}
+use Rattle.evaluation.specs.Laws.Limits.{limits-rest}
 use Rattle.evaluator.specs.Record.{placedOf, beginOf, visitedOf, buildRoute, priceStart}
 use Rattle.evaluator.specs.Finite.{StartBounded, ProgressBounded, RecordBounded, begin-bounded, visited-bounded, placed-bounded, record-bounded, price-bounded, price-first-bounded}
 use Rattle.evaluator.specs.declared.Progress.{Progress}
@@ -50,14 +51,14 @@ module _ (s : List ℕ) (a : Accepted s) where
         visits-writable t start resting route (visitedOf s t p row) (i + 1) (omega arith) to (λ j h. rows (suc j) (suc-le-suc h)) c,
       )
 
-  round-writable : (r : Round) → RoundOf s r → RoundWritable s (vehicleOf s (r .vehicle)) (r .stops)
+  round-writable : (r : Round) → RoundOf s r → RoundWritable s (vehicleOf s (r .vehicle)) (limitsAt s (r .vehicle)) (r .stops)
   round-writable r o =
       let v = vehicleOf s (r .vehicle) in
       let rest = vehicle-bounded s a (r .vehicle) (o .vehicle) .rest in
-      let q = placed-bounded s (v .depot) (r .stops) (o .routed) (limitsOf v) rest in
+      let q = placed-bounded s (v .depot) (r .stops) (o .routed) (limitsAt s (r .vehicle)) (rw (limits-rest s (r .vehicle)) rest) in
       record {
-        visits = visits-writable (placedOf s (v .depot) (limitsOf v) (r .stops)) (q .0) (q .1) (r .stops) (beginOf (v .depot)) 0 (omega (arith, o .routed .few)) (o .routed .home) (o .routed .row) (begin-bounded 1024 (v .depot));
-        figures = record-writable 1024 (length (r .stops)) (buildRoute s (v .depot) (limitsOf v) (r .stops)) (record-bounded s (v .depot) (r .stops) (o .routed) (limitsOf v) rest);
+        visits = visits-writable (placedOf s (v .depot) (limitsAt s (r .vehicle)) (r .stops)) (q .0) (q .1) (r .stops) (beginOf (v .depot)) 0 (omega (arith, o .routed .few)) (o .routed .home) (o .routed .row) (begin-bounded 1024 (v .depot));
+        figures = record-writable 1024 (length (r .stops)) (buildRoute s (v .depot) (limitsAt s (r .vehicle)) (r .stops)) (record-bounded s (v .depot) (r .stops) (o .routed) (limitsAt s (r .vehicle)) (rw (limits-rest s (r .vehicle)) rest));
       }
 
   -- the price of the rounds left
@@ -66,9 +67,9 @@ module _ (s : List ℕ) (a : Accepted s) where
   rounds-priced [] total n few u o = no-nan _ total u
   rounds-priced (r ∷ rs) total n few u o =
       let v = vehicleOf s (r .vehicle) in
-      let b = record-bounded s (v .depot) (r .stops) (o .0 .routed) (limitsOf v) (vehicle-bounded s a (r .vehicle) (o .0 .vehicle) .rest) in
+      let b = record-bounded s (v .depot) (r .stops) (o .0 .routed) (limitsAt s (r .vehicle)) (rw (limits-rest s (r .vehicle)) (vehicle-bounded s a (r .vehicle) (o .0 .vehicle) .rest)) in
       rounds-priced rs _ (n + 1) (omega arith)
-      (subst (λ (m : ℕ). Units 70 m (priceAfter s total (r .vehicle) (r .stops))) (count n) (price-bounded v (buildRoute s (v .depot) (limitsOf v) (r .stops)) (length (r .stops)) (o .0 .routed .few) (vehicle-bounded s a (r .vehicle) (o .0 .vehicle)) b (n * 150000) total (omega arith) u))
+      (subst (λ (m : ℕ). Units 70 m (priceAfter s total (r .vehicle) (r .stops))) (count n) (price-bounded v (buildRoute s (v .depot) (limitsAt s (r .vehicle)) (r .stops)) (length (r .stops)) (o .0 .routed .few) (vehicle-bounded s a (r .vehicle) (o .0 .vehicle)) b (n * 150000) total (omega arith) u))
       (o .1)
     where
       count : (m : ℕ) → m * 150000 + 150000 ≡ (m + 1) * 150000
@@ -79,8 +80,8 @@ module _ (s : List ℕ) (a : Accepted s) where
   price-number [] few o = tt
   price-number (r ∷ rs) few o =
       let v = vehicleOf s (r .vehicle) in
-      let b = record-bounded s (v .depot) (r .stops) (o .0 .routed) (limitsOf v) (vehicle-bounded s a (r .vehicle) (o .0 .vehicle) .rest) in
-      rounds-priced rs _ 1 (omega arith) (price-first-bounded v (buildRoute s (v .depot) (limitsOf v) (r .stops)) (length (r .stops)) (o .0 .routed .few) (vehicle-bounded s a (r .vehicle) (o .0 .vehicle)) b) (o .1)
+      let b = record-bounded s (v .depot) (r .stops) (o .0 .routed) (limitsAt s (r .vehicle)) (rw (limits-rest s (r .vehicle)) (vehicle-bounded s a (r .vehicle) (o .0 .vehicle) .rest)) in
+      rounds-priced rs _ 1 (omega arith) (price-first-bounded v (buildRoute s (v .depot) (limitsAt s (r .vehicle)) (r .stops)) (length (r .stops)) (o .0 .routed .few) (vehicle-bounded s a (r .vehicle) (o .0 .vehicle)) b) (o .1)
 
   pub writable : Writable s
   writable = record { round = round-writable; cost = λ rs few o. price-number rs (omega (arith, few, a .sized .rows)) o }

@@ -1,6 +1,7 @@
 // The plan's bytes, written from an outcome's tables.
 use constructive::tables;
 use evaluation::limits;
+use evaluation::limits::RouteLimits;
 use evaluator::Placed;
 use evaluator::Progress;
 use evaluator::Record;
@@ -13,7 +14,7 @@ ghost use Rattle.wire.specs.Bytes.{write};
 ghost use Rattle.sheet.specs.Accepted.{Sized};
 ghost use Rattle.sheet.specs.Fields.{rowsOf, planLength};
 ghost use Rattle.sheet.specs.Values.{vehicleOf};
-ghost use Rattle.evaluation.specs.Limits.{limitsOf};
+ghost use Rattle.evaluation.specs.Limits.{limitsAt};
 ghost use Rattle.evaluation.specs.Routed.{Routed};
 ghost use Rattle.evaluator.specs.Driven.{Driven};
 ghost use Rattle.evaluator.specs.Record.{beginOf, visitedOf, progressOf, buildRoute, priceStart};
@@ -89,15 +90,22 @@ fn write_visits(
 }
 
 // A vehicle's round, counted k from 0, and its figures.
-fn write_round(plan: &mut [u8], sheet: &[u8], k: usize, vehicle: Vehicle, route: &[u16]) -> Record
+fn write_round(
+    plan: &mut [u8],
+    sheet: &[u8],
+    k: usize,
+    vehicle: Vehicle,
+    limits: RouteLimits,
+    route: &[u16],
+) -> Record
     requires { ⌜ Routed (now sheet) (vehicle .depot) (now route) ⌝ }
     requires { ⌜ (k < rowsOf (now sheet)) × (length (now plan) ≡ planLength (now sheet)) ⌝ }
-    requires { ⌜ RoundWritable (now sheet) vehicle (now route) ⌝ }
-    ensures { λ r. ⌜ r ≡ buildRoute (now (sheet .entry)) (vehicle .depot) (limitsOf vehicle) (now (route .entry)) ⌝ }
-    ensures { λ _. ⌜ now (plan .exit) ≡ withRound (now (sheet .entry)) k vehicle (now (route .entry)) (now (plan .entry)) ⌝ }
+    requires { ⌜ RoundWritable (now sheet) vehicle limits (now route) ⌝ }
+    ensures { λ r. ⌜ r ≡ buildRoute (now (sheet .entry)) (vehicle .depot) limits (now (route .entry)) ⌝ }
+    ensures { λ _. ⌜ now (plan .exit) ≡ withRound (now (sheet .entry)) k vehicle limits (now (route .entry)) (now (plan .entry)) ⌝ }
 {
     let depot = vehicle.depot as usize;
-    let placed = evaluator::place_rest(sheet, route, depot, limits::limits_of(vehicle));
+    let placed = evaluator::place_rest(sheet, route, depot, limits);
     let progress = write_visits(plan, sheet, placed, route, depot);
     let answer = placed.answer;
     let figures = progress.record(sheet, depot, answer);
@@ -118,10 +126,11 @@ fn write_priced(
     requires { ⌜ (k < rowsOf (now sheet)) × (length (now plan) ≡ planLength (now sheet)) ⌝ }
     requires { ⌜ Writable (now sheet) ⌝ }
     ensures { λ r. ⌜ r ≡ priceAfter (now (sheet .entry)) cost index (now (route .entry)) ⌝ }
-    ensures { λ _. ⌜ now (plan .exit) ≡ withRound (now (sheet .entry)) k (vehicleOf (now (sheet .entry)) index) (now (route .entry)) (now (plan .entry)) ⌝ }
+    ensures { λ _. ⌜ now (plan .exit) ≡ withRound (now (sheet .entry)) k (vehicleOf (now (sheet .entry)) index) (limitsAt (now (sheet .entry)) index) (now (route .entry)) (now (plan .entry)) ⌝ }
 {
     let vehicle = vehicle::vehicle_at(sheet, index);
-    let figures = write_round(plan, sheet, k, vehicle, route);
+    let limits = limits::limits_at(sheet, index);
+    let figures = write_round(plan, sheet, k, vehicle, limits, route);
     evaluator::price_with(cost, vehicle, figures)
 }
 

@@ -7,7 +7,7 @@ use mathlib.Core.List.{List, [], _∷_}
 use lib.Dec.{T, leb, ltb, eqb, leb→le}
 use lib.Ieee.{Float}
 use lib.ListN.{length, getD}
-use borrow.Author.Tests.{lt-ltb, eq-eqb}
+use borrow.Author.Tests.{lt-ltb, le-leb, eq-eqb}
 use Rattle.lists.specs.Count.{one, count, stop-counted}
 use Rattle.lists.specs.Same.{count-at}
 use Rattle.lists.specs.Every.{Every, every-of, every-at}
@@ -18,12 +18,10 @@ use Rattle.sheet.specs.Fields.{rowsOf, vehiclesOf, methodOf, rowAt, rowMarks, m
 use Rattle.sheet.specs.Depots.{depotsOf}
 use Rattle.sheet.specs.Refusal.{needsVehicle}
 use Rattle.sheet.specs.Accepted.{Accepted}
-use Rattle.sheet.specs.Values.{gateOf, gateAt, windowAt, stopOf, distanceOf, vehicleOf}
+use Rattle.sheet.specs.Values.{gateOf, gateAt, windowAt, stopOf, demandOf, distanceOf, vehicleOf}
 use Rattle.sheet.specs.declared.customer.Window.{Window}
 use Rattle.sheet.specs.Stops.{isStop, allStops}
 use Rattle.sheet.specs.Fleet.{fleetOf}
-use Rattle.evaluation.specs.Limits.{limitsOf}
-use Rattle.evaluation.specs.Feasible.{routeFeasible}
 use Rattle.evaluation.specs.Routed.{Routed}
 use Rattle.evaluation.specs.Checks.{windowed, rowWindowed, someWindowed, hasSoftWindows}
 use Rattle.lawful.specs.Whole.{Whole}
@@ -34,7 +32,9 @@ use Rattle.lawful.specs.Meaning.{feasible-lawful}
 use Rattle.constructive.specs.Outcome.{Round, Outcome, stopsOf, roundAt}
 use Rattle.constructive.specs.Right.{linksRight}
 use Rattle.constructive.specs.Load.{loadOf, inserted-load}
-use Rattle.insertion.specs.Fits.{ClosedTo}
+use Rattle.constructive.specs.Rounds.{passes}
+use Rattle.insertion.specs.Lawful.{ClosedTo, loads}
+use Rattle.insertion.specs.LawfulLaws.{both-not, not-both}
 use Rattle.solomon_i1.specs.Insertion.{planOn, solomonI1}
 use Rattle.solomon_i1.specs.Alone.{NotAlone, insertion-alone}
 use Rattle.solomon_i1.specs.Later.{seedsFirst, ClosedHigher, ClosedAside}
@@ -46,11 +46,6 @@ use Rattle.plan.specs.Read.{readPlan}
 use Rattle.plan_reader.specs.Links.{stop-of, links-at}
 use Rattle.planner.specs.Answer.{planFor, firstVehicle, Later, higher, set-aside, FitsNowhere, ClosedRounds}
 use Rattle.planner.specs.Promised.{plan-back, Right, all-right, load-same}
-
-both-not : (a b : Bool) → (T a → T b → ⊥) → a && b ≡ false
-both-not true true f = absurd (f tt tt)
-both-not true false f = refl
-both-not false b f = refl
 
 -- ---- without a row that has both marks no window is soft
 not-soft : (w p : Bool) (window : Window) (penalty : Float) → (T w → T p → ⊥) → windowed true (gateOf w p window penalty) ≡ false
@@ -179,11 +174,11 @@ module _ (s : List ℕ) (fine : Accepted s) (insertion : methodOf s ≡ 1) (sing
 
   module _ (whole : Whole s) where
     -- a lawful schedule is one that `route_feasible` passes
-    lawful-passes : (v : ℕ) (is : List ℕ) → v < vehiclesOf s → 0 < rowsOf s → length is ≤ 101 → Every (λ (i : ℕ). i < rowsOf s) is → T (lawful s v is) → T (routeFeasible s 0 (limitsOf (vehicleOf s v)) is)
+    lawful-passes : (v : ℕ) (is : List ℕ) → v < vehiclesOf s → 0 < rowsOf s → length is ≤ 101 → Every (λ (i : ℕ). i < rowsOf s) is → T (lawful s v is) → T (passes s 0 v is)
     lawful-passes v is known some few rows t =
         let e = home-first v known in
         let ok : Routed s (homeOf s v) is = record { sheet = fine; home = omega (arith, e); few = few; row = λ k h. every-at (λ (i : ℕ). i < rowsOf s) 0 is k h rows } in
-        subst (λ (d : ℕ). T (routeFeasible s d (limitsOf (vehicleOf s v)) is)) e (subst T (sym (feasible-lawful s v is whole known ok)) t)
+        subst (λ (d : ℕ). T (passes s d v is)) e (subst T (sym (feasible-lawful s v is whole known ok)) t)
 
     kept-load : (v : ℕ) (is : List ℕ) → T (keepsCapacity s v is) → loadOf s is ≤ vehicleOf s v .capacity
     unfolding keepsCapacity vehicleOf
@@ -216,11 +211,10 @@ module _ (s : List ℕ) (fine : Accepted s) (insertion : methodOf s ≡ 1) (sing
         let e = inserted-load k i (r .stops) s in
         let n = inserted-length k i (r .stops) in
         both-not (lawful s (r .vehicle) is) (keepsCapacity s (r .vehicle) is)
-        (λ a b. c k (record {
-          place = l;
-          capacity = omega (arith, e, kept-load (r .vehicle) is b);
-          feasible = lawful-passes (r .vehicle) is known (omega arith) (omega (arith, n, u .few, fine .sized .rows, single)) (inserted-every k i (r .stops) (λ (i : ℕ). i < rowsOf s) h (rows-at (r .stops) (u .links))) a;
-        }))
+        (λ a b.
+        let within = le-leb (loadOf s (r .stops) + demandOf s i) (vehicleOf s (r .vehicle) .capacity) (omega (arith, e, kept-load (r .vehicle) is b)) in
+        not-both (loads s (r .vehicle) (r .stops) i) (passes s 0 (r .vehicle) is) (c k l) (rw within tt)
+        (lawful-passes (r .vehicle) is known (omega arith) (omega (arith, n, u .few, fine .sized .rows, single)) (inserted-every k i (r .stops) (λ (i : ℕ). i < rowsOf s) h (rows-at (r .stops) (u .links))) a))
 
     later-row : (n i : ℕ) → Later s (outcomeOf s) n i → i < rowsOf s
     later-row n i (higher m h l c) = round-row m i c

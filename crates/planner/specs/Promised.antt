@@ -19,8 +19,6 @@ use Rattle.sheet.specs.Accepted.{Accepted}
 use Rattle.sheet.specs.Values.{demandOf, vehicleOf}
 use Rattle.sheet.specs.Stops.{isStop, allStops, all-once}
 use Rattle.sheet.specs.Fleet.{fleetOf}
-use Rattle.evaluation.specs.Limits.{limitsOf}
-use Rattle.evaluation.specs.Feasible.{routeFeasible}
 use Rattle.evaluation.specs.Routed.{Routed}
 use Rattle.evaluation.specs.Checks.{hasSoftWindows}
 use Rattle.lawful.specs.Whole.{Whole}
@@ -29,7 +27,7 @@ use Rattle.lawful.specs.Meaning.{feasible-lawful}
 use Rattle.constructive.specs.Outcome.{Round, chains, stopsOf}
 use Rattle.constructive.specs.Right.{linksRight}
 use Rattle.constructive.specs.Load.{loadOf}
-use Rattle.constructive.specs.Rounds.{Feasible}
+use Rattle.constructive.specs.Rounds.{passes, Feasible}
 use Rattle.nearest_neighbor.specs.Greedy.{growOn, greedy}
 use Rattle.nearest_neighbor.specs.Nearest.{windowRule, nearestNeighbor, nearestNeighborTw}
 use Rattle.nearest_neighbor.specs.Feasible.{window-feasible}
@@ -117,19 +115,19 @@ module _ (s : List ℕ) (fine : Accepted s) where
   record Driven (r : Round) : Type 0 where
     known : r .vehicle < vehiclesOf s
     some : 0 < length (r .stops)
-    feasible : T (routeFeasible s (vehicleOf s (r .vehicle) .depot) (limitsOf (vehicleOf s (r .vehicle))) (r .stops))
+    feasible : T (passes s (vehicleOf s (r .vehicle) .depot) (r .vehicle) (r .stops))
     capacity : T (capacityKept s r)
 
   -- from a depot
   record Sound (d : ℕ) (r : Round) : Type 0 where
-    feasible : T (routeFeasible s d (limitsOf (vehicleOf s (r .vehicle))) (r .stops))
+    feasible : T (passes s d (r .vehicle) (r .stops))
     capacity : T (capacityKept s r)
 
   driven-from : (d : ℕ) (r : Round) → RoundFrom s d r → Sound d r → Driven r
   driven-from d r f u = record {
     known = f .vehicle;
     some = f .some;
-    feasible = subst (λ (n : ℕ). T (routeFeasible s n (limitsOf (vehicleOf s (r .vehicle))) (r .stops))) (sym (f .home)) (u .feasible);
+    feasible = subst (λ (n : ℕ). T (passes s n (r .vehicle) (r .stops))) (sym (f .home)) (u .feasible);
     capacity = u .capacity;
   }
 
@@ -149,7 +147,7 @@ module _ (s : List ℕ) (fine : Accepted s) where
 
   saved-sound : (d v : ℕ) → methodOf s ≡ 0 → (r : Round) → Saved s d v r → Sound d r
   saved-sound d v e r u = record {
-    feasible = subst (λ (w : ℕ). T (routeFeasible s d (limitsOf (vehicleOf s w)) (r .stops))) (sym (u .vehicle)) (u .feasible);
+    feasible = subst (λ (w : ℕ). T (passes s d w (r .stops))) (sym (u .vehicle)) (u .feasible);
     capacity = go (ltb 1 (length (r .stops))) refl;
   }
     where

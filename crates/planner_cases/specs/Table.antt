@@ -23,7 +23,7 @@ use Rattle.evaluation.specs.Window.{waitingOf, latenessOf, violatedOf}
 use Rattle.evaluation.specs.Serve.{restPlace, pass, serveOf, serveRested}
 use Rattle.evaluation.specs.Clock.{stepOf, stepRested, earlierOf, takenOf, movedOf, unrested, endOf, homeward, returned}
 use Rattle.evaluation.specs.Walk.{driveTo, homeFrom, scheduledOf}
-use Rattle.evaluation.specs.Limits.{isUnlimited, allowOf}
+use Rattle.evaluation.specs.Limits.{limitsAt, isUnlimited, allowOf}
 use Rattle.evaluation.specs.Verdict.{heldTo, verdictOf, verdictFrom}
 use Rattle.evaluation.specs.Feasible.{routeFeasible}
 use Rattle.evaluation.specs.Checks.{someWindowed, hasTimeWindows, hasSoftWindows, routeChecksNeeded}
@@ -177,5 +177,5 @@ cases =
     ∷ []
 
 pub right : Every Holds cases
-unfolding answerOf refusalOf headerRight countsRight methodRight lengthsRight needsVehicle fleetRight contents coordinate demand capacity marks amount zeroBits optional interval costPerDistance servingInRange rowInRange maximaInRange restInRange vehicleInRange sameId newId rowsInRange entriesInRange vehiclesInRange inRange all rowsOf vehiclesOf methodOf timesOf spareOf rowMarks idField depotField vehicleMarks marked leading depotsOf gateAt demandOf stopOf limitAt restAfter vehicleOf distanceOf timeOf fixedInDistance waitingOf latenessOf violatedOf pass serveOf serveRested stepOf stepRested earlierOf takenOf movedOf unrested endOf homeward returned driveTo homeFrom scheduledOf isUnlimited allowOf heldTo verdictOf verdictFrom routeFeasible someWindowed hasTimeWindows hasSoftWindows routeChecksNeeded lastOf placedOf readyFor departsAt lateAfter costAfter visitedOf recordOf buildRoute routeCost priceWith visitBytes asideBytes roundCounts roundFigures roundBytes headerBytes withVisits withRound withRounds withAside priceAfter priceOf planBytes planOf count loadOf termsOf choose grow growOn greedy nearestOffer nearestOnward nearestNeighbor windowOffer windowOnward nearestNeighborTw sameBack symmetric directedOf savingsFrom savingsOf numbered ranked goesAlone startsOf slotOf passes mergeOf mergedBy roundsOf asideOf plannedBy clarkeWright farthestFrom judge tryPlaces tryStops inserts insertsOn seeds planOn solomonI1 directionOf partOf turnsLeft below before fits hopeless closes stepped sweptFrom sweptBy sweep insert sorted those fleetOf withVehicle constructOf plannedOf outcomeOf priced planFor number bytes signed write f64At add sub mul div ofBits toBits lt eq le round sum
+unfolding answerOf refusalOf headerRight countsRight methodRight lengthsRight needsVehicle fleetRight contents coordinate demand capacity marks amount zeroBits optional interval costPerDistance servingInRange rowInRange maximaInRange restInRange vehicleInRange sameId newId rowsInRange entriesInRange vehiclesInRange inRange all rowsOf vehiclesOf methodOf timesOf spareOf rowMarks idField depotField vehicleMarks marked leading depotsOf gateAt demandOf stopOf limitsAt limitAt restAfter vehicleOf distanceOf timeOf fixedInDistance waitingOf latenessOf violatedOf pass serveOf serveRested stepOf stepRested earlierOf takenOf movedOf unrested endOf homeward returned driveTo homeFrom scheduledOf isUnlimited allowOf heldTo verdictOf verdictFrom routeFeasible someWindowed hasTimeWindows hasSoftWindows routeChecksNeeded lastOf placedOf readyFor departsAt lateAfter costAfter visitedOf recordOf buildRoute routeCost priceWith visitBytes asideBytes roundCounts roundFigures roundBytes headerBytes withVisits withRound withRounds withAside priceAfter priceOf planBytes planOf count loadOf termsOf choose grow growOn greedy nearestOffer nearestOnward nearestNeighbor windowOffer windowOnward nearestNeighborTw sameBack symmetric directedOf savingsFrom savingsOf numbered ranked goesAlone startsOf slotOf passes mergeOf mergedBy roundsOf asideOf plannedBy clarkeWright farthestFrom judge tryPlaces tryStops inserts insertsOn seeds planOn solomonI1 directionOf partOf turnsLeft below before fits hopeless closes stepped sweptFrom sweptBy sweep insert sorted those fleetOf withVehicle constructOf plannedOf outcomeOf priced planFor number bytes signed write f64At add sub mul div ofBits toBits lt eq le round sum
 right = (refl, (refl, (refl, (refl, (refl, (refl, (refl, (refl, (refl, (refl, (refl, (refl, (refl, (refl, (refl, tt)))))))))))))))

@@ -14,7 +14,7 @@ use Rattle.evaluation.specs.declared.limits.RouteLimits.{RouteLimits}
 use Rattle.evaluation.specs.declared.RouteEval.{RouteEval}
 use Rattle.evaluation.specs.declared.RouteEval.the-variants.{Allowed, NotAllowed}
 use Rattle.evaluation.specs.Serve.{restPlace, restStart}
-use Rattle.evaluation.specs.Limits.{limitsOf}
+use Rattle.evaluation.specs.Limits.{limitsAt}
 use Rattle.evaluation.specs.Feasible.{routeEval}
 use Rattle.evaluator.specs.declared.Progress.{Progress}
 use Rattle.evaluator.specs.declared.Record.{Record}
@@ -72,5 +72,5 @@ figureOf s depot limits route n =
 unfoldable pub probeFigure : List ℕ → List ℕ → ℕ → ℕ → Float
 probeFigure s route v n =
     cond (askable s v && roundRight route (rowsOf s))
-    (figureOf s (vehicleOf s v .depot) (limitsOf (vehicleOf s v)) route n)
+    (figureOf s (vehicleOf s v .depot) (limitsAt s v) route n)
     notRight

@@ -6,7 +6,7 @@ use lib.ListN.{length, take, drop}
 use Rattle.sheet.specs.Fields.{rowsOf}
 use Rattle.sheet.specs.Values.{vehicleOf}
 use Rattle.evaluation.specs.declared.limits.RouteLimits.{RouteLimits}
-use Rattle.evaluation.specs.Limits.{limitsOf}
+use Rattle.evaluation.specs.Limits.{limitsAt}
 use Rattle.evaluation.specs.Feasible.{routeFeasible}
 use Rattle.probe.specs.Asked.{askable, roundsRight}
 
@@ -30,5 +30,5 @@ refused = 0xffff_ffff
 unfoldable pub probeRounds : List ℕ → List ℕ → ℕ → ℕ → ℕ
 probeRounds s stops len v =
     cond (askable s v && roundsRight stops len (rowsOf s))
-    (passedOf s (vehicleOf s v .depot) (limitsOf (vehicleOf s v)) stops len)
+    (passedOf s (vehicleOf s v .depot) (limitsAt s v) stops len)
     refused

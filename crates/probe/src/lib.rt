@@ -28,7 +28,7 @@ pub extern "C" fn probe_rounds(sheet: &[u8], stops: &[u16], len: u32, vehicle: u
         stops,
         rows,
         driver.depot as usize,
-        limits::limits_of(driver),
+        limits::limits_at(sheet, index),
     )
 }
 
@@ -50,7 +50,7 @@ pub extern "C" fn probe_figure(sheet: &[u8], route: &[u16], vehicle: u32, which:
         sheet,
         route,
         driver.depot as usize,
-        limits::limits_of(driver),
+        limits::limits_at(sheet, index),
         which as usize,
     )
 }

@@ -8,7 +8,7 @@ use lib.ListN.{length, take, drop, length-drop}
 use lib.Seq.{length-take-le, drop-drop}
 use Rattle.wire.specs.Bytes.{write}
 use Rattle.sheet.specs.Values.{vehicleOf}
-use Rattle.evaluation.specs.Limits.{limitsOf}
+use Rattle.evaluation.specs.Limits.{limitsAt}
 use Rattle.evaluation.specs.Routed.{Routed}
 use Rattle.constructive.specs.declared.tables.Filled.{Filled}
 use Rattle.constructive.specs.declared.terms.Terms.{Terms}
@@ -31,9 +31,9 @@ members-joinable s depot v members r = record {
   room = omega arith;
   unwalked = record {
     hard = λ e. unchecked-hard s depot v members e;
-    free = λ e. unchecked-free s depot members (limitsOf (vehicleOf s v)) e;
+    free = λ e. unchecked-free s depot members (limitsAt s v) e;
     round = λ e. tt;
-    unrouted = λ e. unchecked-windowless s depot members (limitsOf (vehicleOf s v)) e;
+    unrouted = λ e. unchecked-windowless s depot members (limitsAt s v) e;
   };
 }
 

@@ -2,30 +2,25 @@
 use mathlib.Core.Path.{_≡_}
 use Prim.Native.Nat.{ℕ, _≤_}
 use native.Mathlib.Omega.{arith}
-use mathlib.Core.Bool.{Bool, true, false, _&&_, true≢false}
+use mathlib.Core.Bool.{false}
 use mathlib.Core.List.{List, [], _∷_}
 use lib.Dec.{T, leb}
 use lib.ListN.{length}
 use borrow.Author.Tests.{le-leb}
 use Rattle.lists.specs.Every.{Every}
 use Rattle.sheet.specs.Values.{demandOf, vehicleOf}
-use Rattle.evaluation.specs.Limits.{limitsOf}
-use Rattle.evaluation.specs.Feasible.{routeFeasible}
 use Rattle.constructive.specs.Outcome.{Outcome}
+use Rattle.constructive.specs.Rounds.{passes}
 use Rattle.constructive.specs.declared.terms.Terms.{Terms}
 use Rattle.constructive.specs.Terms.{termsOf, Meant, terms-meant}
 use Rattle.insertion.specs.Place.{feasibleIn}
+use Rattle.insertion.specs.LawfulLaws.{not-both}
 use Rattle.solomon_i1.specs.Insertion.{goesAlone, solomonI1}
 use Rattle.solomon_i1.specs.Planned.{seedIn, Seeds, planned}
 
 -- over capacity alone, or not feasible
 abbrev pub NotAlone : List ℕ → ℕ → ℕ → ℕ → Type 0
-NotAlone s depot v row = demandOf s row ≤ vehicleOf s v .capacity → T (routeFeasible s depot (limitsOf (vehicleOf s v)) (row ∷ [])) → ⊥
-
-not-both : (a b : Bool) → (a && b) ≡ false → T a → T b → ⊥
-not-both true true e f g = true≢false e
-not-both true false e f g = g
-not-both false b e f g = f
+NotAlone s depot v row = demandOf s row ≤ vehicleOf s v .capacity → T (passes s depot v (row ∷ [])) → ⊥
 
 module _ (s : List ℕ) (t : Terms) (m : Meant s t) where
   not-alone : (row : ℕ) → goesAlone s t row ≡ false → NotAlone s (t .depot) (t .vehicle) row

@@ -9,24 +9,23 @@ use mathlib.Core.List.{List, [], _∷_, _++_}
 use lib.Dec.{T, eqb}
 use lib.Ieee.{Float}
 use lib.ListN.{length, getD, take, drop}
-use borrow.Author.Tests.{eqb-true, le-leb}
+use borrow.Author.Tests.{eqb-true}
 use Rattle.lists.specs.Count.{one, count}
 use Rattle.lists.specs.Once.{count-append}
 use Rattle.lists.specs.Same.{every-counted}
 use Rattle.lists.specs.Every.{Every, every-of, every-append, every-take, every-drop}
 use Rattle.lists.specs.Moved.{without, without-every, inserted}
 use Rattle.lists.specs.Ascending.{Ascending}
-use Rattle.sheet.specs.Values.{demandOf}
 use Rattle.sheet.specs.Finite.{distance-bounded}
 use Rattle.evaluation.specs.Checks.{hasSoftWindows}
 use Rattle.evaluation.specs.Routed.{Routed}
 use Rattle.constructive.specs.Outcome.{Round, Outcome, chains, roundAt}
-use Rattle.constructive.specs.Load.{loadOf}
 use Rattle.constructive.specs.declared.terms.Terms.{Terms}
 use Rattle.constructive.specs.Terms.{termsOf, Meant, terms-meant}
-use Rattle.insertion.specs.Place.{feasibleIn, detour, unfit, judged}
+use Rattle.insertion.specs.Place.{feasibleIn, carries, detour, unfit, judged}
 use Rattle.insertion.specs.Judging.{hard-judge}
-use Rattle.insertion.specs.Fits.{ClosedTo}
+use Rattle.insertion.specs.Lawful.{ClosedTo}
+use Rattle.insertion.specs.LawfulLaws.{terms-place, both-not}
 use Rattle.solomon_i1.specs.Insertion.{growing, routeIn, leftIn, seedOf, solomonI1}
 use Rattle.solomon_i1.specs.Chosen.{Shut}
 use Rattle.solomon_i1.specs.Grown.{grow-on-kept, grow-on-shut}
@@ -60,9 +59,10 @@ judged-unfit false cost e h = h
 
 module _ (s : List ℕ) (t : Terms) (m : Meant s t) (hard : t .soft ≡ false) where
   shut-closed : (route : List ℕ) (row : ℕ) → Shut s t route row → ClosedTo s (t .depot) (record { vehicle = t .vehicle; stops = route }) row
-  shut-closed route row shut k f =
-      let l = le-leb (loadOf s route + demandOf s row) (t .capacity) (rw (m .capacity) (f .capacity)) in
-      judged-unfit (feasibleIn s t (inserted k row route)) (detour s (t .depot) route row k) (sym (hard-judge s t route row k hard) ∙ shut (rw l tt) k (f .place)) (rw (m .limits) (f .feasible))
+  shut-closed route row shut k h =
+      let passed = feasibleIn s t (inserted k row route) in
+      sym (terms-place s t m route row k)
+      ∙ both-not (carries s t route row) passed (λ a b. judged-unfit passed (detour s (t .depot) route row k) (sym (hard-judge s t route row k hard) ∙ shut a k h) b)
 
   abbrev roundBy : List ℕ → Round
   roundBy left = record { vehicle = t .vehicle; stops = routeIn (roundIn s t left) }

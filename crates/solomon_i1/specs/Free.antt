@@ -6,7 +6,7 @@ use mathlib.Core.List.{List, [], _∷_}
 use Rattle.sheet.specs.Values.{vehicleOf}
 use Rattle.sheet.specs.declared.customer.Gate.{Gate}
 use Rattle.sheet.specs.declared.customer.Gate.the-variants.{Open, Hard, Soft}
-use Rattle.evaluation.specs.Limits.{limitsOf, isUnlimited}
+use Rattle.evaluation.specs.Limits.{limitsAt, isUnlimited}
 use Rattle.evaluation.specs.Checks.{windowed, rowWindowed, someWindowed, hasTimeWindows, hasSoftWindows, routeChecksNeeded}
 use Rattle.constructive.specs.Unchecked.{neither, unchecked-free, unchecked-windowless}
 use Rattle.constructive.specs.Terms.{termsOf}
@@ -25,11 +25,11 @@ none-soft s (row ∷ rows) e =
     let n = neither (rowWindowed false s row) (someWindowed false s rows) e in
     rw (not-soft _ (n .0), none-soft s rows (n .1))
 
-module _ (s : List ℕ) (depot v : ℕ) (members : List ℕ) (e : routeChecksNeeded s depot members (limitsOf (vehicleOf s v)) ≡ false) where
+module _ (s : List ℕ) (depot v : ℕ) (members : List ℕ) (e : routeChecksNeeded s depot members (limitsAt s v) ≡ false) where
   pub unchecked-hard : hasSoftWindows s depot members ≡ false
   unfolding routeChecksNeeded hasTimeWindows hasSoftWindows
   unchecked-hard =
-      let n = neither (hasTimeWindows s depot members) (not (isUnlimited (limitsOf (vehicleOf s v)))) e .0 in
+      let n = neither (hasTimeWindows s depot members) (not (isUnlimited (limitsAt s v))) e .0 in
       let m = neither (rowWindowed false s depot) (someWindowed false s members) n in
       rw (not-soft _ (m .0), none-soft s members (m .1))
 
@@ -38,7 +38,7 @@ pub terms-unwalked : (s : List ℕ) (depot v : ℕ) (members : List ℕ) → Unw
 unfolding termsOf
 terms-unwalked s depot v members = record {
   hard = unchecked-hard s depot v members;
-  free = unchecked-free s depot members (limitsOf (vehicleOf s v));
+  free = unchecked-free s depot members (limitsAt s v);
   round = λ e. tt;
-  unrouted = unchecked-windowless s depot members (limitsOf (vehicleOf s v));
+  unrouted = unchecked-windowless s depot members (limitsAt s v);
 }

@@ -8,7 +8,7 @@ use lib.ListN.{length}
 use Rattle.lists.specs.Count.{count}
 use Rattle.sheet.specs.Values.{distanceOf}
 use Rattle.constructive.specs.Outcome.{Round, roundAt}
-use Rattle.insertion.specs.Fits.{ClosedTo}
+use Rattle.insertion.specs.Lawful.{ClosedTo}
 
 -- "the seed's rule" takes the farthest, the first of equals: row y before row x
 unfoldable pub seedsFirst : List ℕ → ℕ → ℕ → ℕ → Bool

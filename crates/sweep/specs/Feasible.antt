@@ -13,7 +13,7 @@ use Rattle.sorting.specs.Stable.{sorted}
 use Rattle.sorting.specs.Laws.{Each, sorted-each}
 use Rattle.sheet.specs.Values.{vehicleOf, demandOf}
 use Rattle.evaluation.specs.declared.limits.RouteLimits.{RouteLimits}
-use Rattle.evaluation.specs.Limits.{limitsOf}
+use Rattle.evaluation.specs.Limits.{limitsAt}
 use Rattle.constructive.specs.Outcome.{Round}
 use Rattle.constructive.specs.Load.{loadOf, load-append}
 use Rattle.constructive.specs.Rounds.{OfFleet, of-first, Carried, Feasible}
@@ -121,7 +121,7 @@ each-every P (x ∷ xs) e = (e .0, each-every P xs (e .1))
 
 module _ (s : List ℕ) (depot v : ℕ) (members : List ℕ) where
   abbrev limits : RouteLimits
-  limits = limitsOf (vehicleOf s v)
+  limits = limitsAt s v
 
   packed : (r : Round) → Closed s (termsOf s depot v members) (Known s depot members limits) r → Packed s depot v r
   unfolding termsOf fits

@@ -26,12 +26,12 @@ use Rattle.evaluation.specs.Clock.{Clock, stepOf, movedOf, nextOf, homeO
 use Rattle.evaluation.specs.Walk.{Position, startAt, driveTo, walkedOver, homeFrom, scheduledOf}
 use Rattle.evaluation.specs.Limits.{noMaximum, noRest, isUnlimited, withinOf, allowOf}
 use Rattle.evaluation.specs.Checks.{windowed, rowWindowed, someWindowed}
-use Rattle.evaluation.specs.Verdict.{Verdict, allowed, overLimit, noSchedule, heldTo, verdictOf, verdictFrom, verdictOn, passes, evalOf, answerOf}
+use Rattle.evaluation.specs.Verdict.{Verdict, allowed, overLimit, noSchedule, heldTo, verdictOf, verdictFrom, verdictOn, isFeasible, evalOf, answerOf}
 use Rattle.evaluation.specs.Feasible.{routeFeasible, routeEval, isAllowed}
 use Rattle.evaluation.specs.Laws.Walk.{walked-rest, walked-more}
 
 -- ---- the two answers on one round
-pub allowed-passes : (v : Verdict) → isAllowed (evalOf v) ≡ passes v
+pub allowed-passes : (v : Verdict) → isAllowed (evalOf v) ≡ isFeasible v
 allowed-passes (allowed k) = refl
 allowed-passes (overLimit k) = refl
 allowed-passes noSchedule = refl
@@ -69,12 +69,12 @@ pub held-none : (limits : RouteLimits) → heldTo limits Unlawful ≡ noSchedule
 unfolding heldTo
 held-none limits = refl
 
--- a schedule passes where the limits allow its figures
-pub held-passes : (limits : RouteLimits) (k : Schedule) → passes (heldTo limits (Lawful k)) ≡ allowOf limits (k .distance) (k .duration)
+-- a schedule isFeasible where the limits allow its figures
+pub held-passes : (limits : RouteLimits) (k : Schedule) → isFeasible (heldTo limits (Lawful k)) ≡ allowOf limits (k .distance) (k .duration)
 unfolding heldTo
 held-passes limits k = go (allowOf limits (k .distance) (k .duration))
   where
-    go : (t : Bool) → passes (cond t (allowed k) (overLimit k)) ≡ t
+    go : (t : Bool) → isFeasible (cond t (allowed k) (overLimit k)) ≡ t
     go true = refl
     go false = refl
 
@@ -88,7 +88,7 @@ held-rest limits k = go (allowOf limits (k .distance) (k .duration))
     go false = refl
 
 -- ---- without a rest the verdict is on the walk's own figures
-pub plain-passes : (limits : RouteLimits) (c : Clock) (distance back : Float) (l : Label) → c .rest ≡ restless → c .before ≡ Done l → passes (verdictOf limits c distance back) ≡ allowOf limits distance (l .time ⊕ back)
+pub plain-passes : (limits : RouteLimits) (c : Clock) (distance back : Float) (l : Label) → c .rest ≡ restless → c .before ≡ Done l → isFeasible (verdictOf limits c distance back) ≡ allowOf limits distance (l .time ⊕ back)
 unfolding verdictOf returned unrested
 plain-passes limits c distance back l r e = rw (r, e) (held-passes limits (homeOf l distance back NoRest))
 
@@ -98,18 +98,18 @@ pub walk-feasible : (s : List ℕ) (depot : ℕ) (limits : RouteLimits) (route :
     → routeFeasible s depot limits route ≡ allowOf limits (p .distance ⊕ distanceOf s (p .clock .prev) depot) (l .time ⊕ timeOf s (p .clock .prev) depot)
 unfolding routeFeasible verdictFrom
 walk-feasible s depot limits route p l r e f =
-    ap (λ (x : Rest). passes (verdictFrom s depot limits (walkedOver s (startAt x depot) route))) r
-    ∙ ap (λ (q : Position). passes (verdictFrom s depot limits q)) e
+    ap (λ (x : Rest). isFeasible (verdictFrom s depot limits (walkedOver s (startAt x depot) route))) r
+    ∙ ap (λ (q : Position). isFeasible (verdictFrom s depot limits q)) e
     ∙ plain-passes limits (p .clock) _ _ l (ap (λ (q : Position). q .clock .rest) (sym e) ∙ walked-rest s (startAt restless depot) route) f
 
 -- ---- of a round with one row more, by the position before it
 pub longer-feasible : (s : List ℕ) (depot : ℕ) (limits : RouteLimits) (route : List ℕ) (i : ℕ) (p : Position) → walkedOver s (startAt (limits .rest) depot) route ≡ p
-    → routeFeasible s depot limits (route ++ (i ∷ [])) ≡ passes (verdictOf limits (nextOf s (p .clock) i) (p .distance ⊕ distanceOf s (p .clock .prev) i ⊕ distanceOf s i depot) (timeOf s i depot))
+    → routeFeasible s depot limits (route ++ (i ∷ [])) ≡ isFeasible (verdictOf limits (nextOf s (p .clock) i) (p .distance ⊕ distanceOf s (p .clock .prev) i ⊕ distanceOf s i depot) (timeOf s i depot))
 unfolding routeFeasible verdictFrom driveTo movedOf
 longer-feasible s depot limits route i p e =
-    ap (λ (q : Position). passes (verdictFrom s depot limits q)) (walked-more s (startAt (limits .rest) depot) route i ∙ ap (λ (q : Position). driveTo s q i) e)
+    ap (λ (q : Position). isFeasible (verdictFrom s depot limits q)) (walked-more s (startAt (limits .rest) depot) route i ∙ ap (λ (q : Position). driveTo s q i) e)
 
--- ---- where no row has a window and there is nothing to keep, every round passes
+-- ---- where no row has a window and there is nothing to keep, every round isFeasible
 neither : (a b : Bool) → (a || b) ≡ false → (a ≡ false) × (b ≡ false)
 neither true b e = absurd (true≢false e)
 neither false b e = (refl, e)
@@ -133,7 +133,7 @@ open-passes l arrival service (Soft w penalty) e = absurd (true≢false e)
 
 module _ (s : List ℕ) (depot : ℕ) (limits : RouteLimits) (free : T (isUnlimited limits)) where
   -- from any position without a rest whose label is left
-  free-from : (rows : List ℕ) (p : Position) (l : Label) → someWindowed false s rows ≡ false → p .clock .rest ≡ restless → p .clock .before ≡ Done l → T (passes (verdictFrom s depot limits (walkedOver s p rows)))
+  free-from : (rows : List ℕ) (p : Position) (l : Label) → someWindowed false s rows ≡ false → p .clock .rest ≡ restless → p .clock .before ≡ Done l → T (isFeasible (verdictFrom s depot limits (walkedOver s p rows)))
   unfolding verdictFrom someWindowed driveTo movedOf stepOf serveOf isUnlimited allowOf
   free-from [] p l e r f =
       subst T (sym (plain-passes limits (p .clock) _ _ l r f)) (within-all (limits .«max_distance») (limits .«max_duration») (limits .rest) free _ _)

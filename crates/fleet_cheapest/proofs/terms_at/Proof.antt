@@ -11,8 +11,8 @@ use Rattle.fleet_cheapest.proofs.terms_at.Tie as tie
 vehicle-at-requires : tie.Need-vehicle-at-requires
 vehicle-at-requires c κs = search needs
 
-limits-of-requires : tie.Need-limits-of-requires
-limits-of-requires c κs = search needs
+limits-at-requires : tie.Need-limits-at-requires
+limits-at-requires c κs = search needs
 
 is-unlimited-requires : tie.Need-is-unlimited-requires
 is-unlimited-requires c κs = search needs
@@ -26,14 +26,14 @@ checked c = ⊎-elim (λ w. w .1 ∙ rw (w .0 .taken)) (λ w. w .1 ∙ rw (w .0 
 
 returns : tie.Need-returns
 unfolding termsAt ofBits
-returns c = rw (checked c, c .before .is-unlimited .ensures, c .before .before .limits-of .ensures, c .before .before .before .vehicle-at .ensures)
+returns c = rw (checked c, c .before .is-unlimited .ensures, c .before .before .limits-at .ensures, c .before .before .before .vehicle-at .ensures)
 
 pub terms-at-spec : {M : Type 1} → statement M
 terms-at-spec =
     tie.close
     (tie.spec
     vehicle-at-requires
-    limits-of-requires
+    limits-at-requires
     is-unlimited-requires
     float-from-bits-fixed
     returns)

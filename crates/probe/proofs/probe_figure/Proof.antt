@@ -38,15 +38,15 @@ vehicle-at-requires c κs = (right (c .before .before .before) .sheet, right (c 
 cast-figure : tie.Need-cast-figure
 cast-figure c = search needs
 
-limits-of-requires : tie.Need-limits-of-requires
-limits-of-requires c κs = search needs
+limits-at-requires : tie.Need-limits-at-requires
+limits-at-requires c κs = (right (c .before .before .before .before .before) .sheet, right (c .before .before .before .before .before) .vehicle)
 
 figure-requires : tie.Need-figure-requires
 figure-requires c κs = rw (c .before .before .vehicle-at .ensures) (routed-of _ _ _ (right (c .before .before .before .before .before .before)) (passed (rw (c .before .before .before .before .before .rows .ensures) at (c .before .before .before .before .round-right .ensures)) (not-false (c .before .before .before .before .round-right .result) (c .before .before .before .if2 .left))))
 
 returns-3 : tie.Need-returns-3
 unfolding probeFigure
-returns-3 c = rw (← c .before .before .before .before .before .before .before .before .askable .ensures, not-false (c .before .before .before .before .before .before .before .before .askable .result) (c .before .before .before .before .before .before .before .if1 .left), ← c .before .before .before .before .before .before .rows .ensures, ← c .before .before .before .before .before .round-right .ensures, not-false (c .before .before .before .before .before .round-right .result) (c .before .before .before .before .if2 .left), ← c .before .before .before .vehicle-at .ensures, ← c .before .limits-of .ensures) (c .figure .ensures)
+returns-3 c = rw (← c .before .before .before .before .before .before .before .before .askable .ensures, not-false (c .before .before .before .before .before .before .before .before .askable .result) (c .before .before .before .before .before .before .before .if1 .left), ← c .before .before .before .before .before .before .rows .ensures, ← c .before .before .before .before .before .round-right .ensures, not-false (c .before .before .before .before .before .round-right .result) (c .before .before .before .before .if2 .left), ← c .before .before .before .vehicle-at .ensures, ← c .before .limits-at .ensures) (c .figure .ensures)
 
 pub probe-figure-spec : {M : Type 1} → statement M
 probe-figure-spec =
@@ -60,6 +60,6 @@ probe-figure-spec =
     returns-2
     vehicle-at-requires
     cast-figure
-    limits-of-requires
+    limits-at-requires
     figure-requires
     returns-3)

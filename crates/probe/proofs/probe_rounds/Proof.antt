@@ -41,15 +41,15 @@ vehicle-at-requires c κs = (right (c .before .before .before) .sheet, right (c 
 cast-passed : tie.Need-cast-passed
 cast-passed c = search needs
 
-limits-of-requires : tie.Need-limits-of-requires
-limits-of-requires c κs = search needs
+limits-at-requires : tie.Need-limits-at-requires
+limits-at-requires c κs = (right (c .before .before .before .before .before) .sheet, right (c .before .before .before .before .before) .vehicle)
 
 passed-requires : tie.Need-passed-requires
 passed-requires c κs = let l = lengths (c .before .before .before) in (rw (c .before .before .vehicle-at .ensures) (asked-of _ _ _ (right (c .before .before .before .before .before .before)) (l .each)), (l .some, (l .few, l .short)))
 
 returns-3 : tie.Need-returns-3
 unfolding probeRounds
-returns-3 c = rw (← c .before .before .before .before .before .before .before .before .askable .ensures, not-false (c .before .before .before .before .before .before .before .before .askable .result) (c .before .before .before .before .before .before .before .if1 .left), ← c .before .before .before .before .before .before .rows .ensures, ← c .before .before .before .before .before .rounds-right .ensures, not-false (c .before .before .before .before .before .rounds-right .result) (c .before .before .before .before .if2 .left), ← c .before .before .before .vehicle-at .ensures, ← c .before .limits-of .ensures) (c .passed .ensures)
+returns-3 c = rw (← c .before .before .before .before .before .before .before .before .askable .ensures, not-false (c .before .before .before .before .before .before .before .before .askable .result) (c .before .before .before .before .before .before .before .if1 .left), ← c .before .before .before .before .before .before .rows .ensures, ← c .before .before .before .before .before .rounds-right .ensures, not-false (c .before .before .before .before .before .rounds-right .result) (c .before .before .before .before .if2 .left), ← c .before .before .before .vehicle-at .ensures, ← c .before .limits-at .ensures) (c .passed .ensures)
 
 pub probe-rounds-spec : {M : Type 1} → statement M
 probe-rounds-spec =
@@ -63,6 +63,6 @@ probe-rounds-spec =
     returns-2
     vehicle-at-requires
     cast-passed
-    limits-of-requires
+    limits-at-requires
     passed-requires
     returns-3)

@@ -7,8 +7,8 @@ use Rattle.constructive.proofs.terms.terms_of.Tie as tie
 vehicle-at-requires : tie.Need-vehicle-at-requires
 vehicle-at-requires c κs = search needs
 
-limits-of-requires : tie.Need-limits-of-requires
-limits-of-requires c κs = search needs
+limits-at-requires : tie.Need-limits-at-requires
+limits-at-requires c κs = search needs
 
 route-checks-needed-requires : tie.Need-route-checks-needed-requires
 route-checks-needed-requires c κs = search needs
@@ -21,14 +21,14 @@ fixed-cost-in-distance-requires c κs = search needs
 
 returns : tie.Need-returns
 unfolding termsOf
-returns c = rw (c .before .before .route-checks-needed .ensures, c .before .has-soft-windows .ensures, c .fixed-cost-in-distance .ensures, c .before .before .before .limits-of .ensures, c .before .before .before .before .vehicle-at .ensures)
+returns c = rw (c .before .before .route-checks-needed .ensures, c .before .has-soft-windows .ensures, c .fixed-cost-in-distance .ensures, c .before .before .before .limits-at .ensures, c .before .before .before .before .vehicle-at .ensures)
 
 pub terms-of-spec : {M : Type 1} → statement M
 terms-of-spec =
     tie.close
     (tie.spec
     vehicle-at-requires
-    limits-of-requires
+    limits-at-requires
     route-checks-needed-requires
     has-soft-windows-requires
     fixed-cost-in-distance-requires

@@ -4,26 +4,30 @@ use Prim.Native.Nat.{_-_}
 use native.Mathlib.Omega.{arith}
 use borrow.Author.Needs.{needs}
 use Rattle.sheet.specs.Values.{vehicleOf}
-use Rattle.sheet.specs.declared.vehicle.Vehicle.{Vehicle}
+use Rattle.evaluation.specs.Limits.{limitsAt}
+use Rattle.evaluation.specs.declared.limits.RouteLimits.{RouteLimits}
 use Rattle.nearest_neighbor.specs.Ride.{setOut}
 use Rattle.nearest_neighbor.proofs.Growing.{Growing, begins, length-same, routed, rides, grown-full, inside, stop-row, goes-on, grown-out, ends-at, ends-laid}
 use Rattle.nearest_neighbor.proofs.greedy.grow_round.Statement.{statement}
 use Rattle.nearest_neighbor.proofs.greedy.grow_round.Tie as tie
 
 abbrev Inv-loop : tie.InvT-loop
-Inv-loop sheet depot heuristic index stops₀ start total vehicle ride₀ end₀ stops ride end = (vehicle ≡ vehicleOf sheet index) × Growing sheet depot heuristic index stops₀ start total stops ride end
+Inv-loop sheet depot heuristic index stops₀ start total vehicle limits ride₀ end₀ stops ride end = ((vehicle ≡ vehicleOf sheet index) × (limits ≡ limitsAt sheet index)) × Growing sheet depot heuristic index stops₀ start total stops ride end
 
 abbrev μ-loop : tie.MeasureT-loop
-μ-loop sheet depot heuristic index stops₀ start total vehicle ride₀ end₀ stops ride end = total - end
+μ-loop sheet depot heuristic index stops₀ start total vehicle limits ride₀ end₀ stops ride end = total - end
 
 vehicle-at-requires : tie.Need-vehicle-at-requires Inv-loop μ-loop
 vehicle-at-requires c κs = (c .before .before .pre .0 .routed .sheet, c .before .before .pre .1)
+
+limits-at-requires : tie.Need-limits-at-requires Inv-loop μ-loop
+limits-at-requires c κs = (c .before .before .before .pre .0 .routed .sheet, c .before .before .before .pre .1)
 
 set-out-requires : tie.Need-set-out-requires Inv-loop μ-loop
 set-out-requires c κs = search needs
 
 loop-holds : tie.Need-loop-holds Inv-loop μ-loop
-loop-holds c = (c .before .vehicle-at .ensures, begins (c .before .before .before .before .args .sheet .now) (c .before .before .before .before .args .depot) (c .before .before .before .before .args .heuristic) (c .before .before .before .before .args .index) (c .before .before .before .before .args .stops .now) (c .before .before .before .before .args .start) (c .before .before .before .before .args .total) _ (c .before .before .before .before .pre .0) (c .set-out .ensures ∙ ap (λ (v : Vehicle). setOut (v .rest) (c .before .before .before .before .args .depot)) (c .before .vehicle-at .ensures)))
+loop-holds c = ((c .before .before .vehicle-at .ensures, c .before .limits-at .ensures), begins (c .before .before .before .before .before .args .sheet .now) (c .before .before .before .before .before .args .depot) (c .before .before .before .before .before .args .heuristic) (c .before .before .before .before .before .args .index) (c .before .before .before .before .before .args .stops .now) (c .before .before .before .before .before .args .start) (c .before .before .before .before .before .args .total) _ (c .before .before .before .before .before .pre .0) (c .set-out .ensures ∙ ap (λ (l : RouteLimits). setOut (l .rest) (c .before .before .before .before .before .args .depot)) (c .before .limits-at .ensures)))
 
 mul-best-stop : tie.Need-mul-best-stop Inv-loop μ-loop
 mul-best-stop c = omega (arith, c .before .loop .inv .1 .members .most)
@@ -50,25 +54,25 @@ same-length : tie.Need-same-length Inv-loop μ-loop
 same-length c = length-same _ _ _ _ _ _ _ _ _ _ (c .before .before .before .before .before .before .loop .inv .1)
 
 returns : tie.Need-returns Inv-loop μ-loop
-returns c = let g = c .before .before .before .before .before .before .loop .inv .1 in let t = grown-full _ _ _ _ _ _ _ _ _ _ (c .before .before .before .before .before .before .loop .inv .1) (c .before .before .best-stop .result) _ (c .before .before .before .before .before .before .loop .inv .0) (c .before .before .best-stop .ensures) (c .enum-told .given .1) in (ends-at _ _ _ _ _ _ _ _ _ _ g t, ends-laid _ _ _ _ _ _ _ _ _ _ g t)
+returns c = let g = c .before .before .before .before .before .before .loop .inv .1 in let t = grown-full _ _ _ _ _ _ _ _ _ _ (c .before .before .before .before .before .before .loop .inv .1) (c .before .before .best-stop .result) _ _ (c .before .before .before .before .before .before .loop .inv .0 .0) (c .before .before .before .before .before .before .loop .inv .0 .1) (c .before .before .best-stop .ensures) (c .enum-told .given .1) in (ends-at _ _ _ _ _ _ _ _ _ _ g t, ends-laid _ _ _ _ _ _ _ _ _ _ g t)
 
 add-from : tie.Need-add-from Inv-loop μ-loop
-add-from c = omega (arith, inside _ _ _ _ _ _ _ _ _ _ (c .before .before .before .before .before .before .before .loop .inv .1) (c .before .before .before .best-stop .result) _ (c .before .before .before .before .before .before .before .loop .inv .0) (c .before .before .before .best-stop .ensures) _ _ (c .before .j .given .1), c .before .before .before .before .before .before .before .loop .inv .1 .all, c .before .before .before .before .before .before .before .loop .inv .1 .members .most)
+add-from c = omega (arith, inside _ _ _ _ _ _ _ _ _ _ (c .before .before .before .before .before .before .before .loop .inv .1) (c .before .before .before .best-stop .result) _ _ (c .before .before .before .before .before .before .before .loop .inv .0 .0) (c .before .before .before .before .before .before .before .loop .inv .0 .1) (c .before .before .before .best-stop .ensures) _ _ (c .before .j .given .1), c .before .before .before .before .before .before .before .loop .inv .1 .all, c .before .before .before .before .before .before .before .loop .inv .1 .members .most)
 
 mul-drive-on : tie.Need-mul-drive-on Inv-loop μ-loop
-mul-drive-on c = omega (arith, inside _ _ _ _ _ _ _ _ _ _ (c .before .before .before .before .before .before .before .loop .inv .1) (c .before .before .before .best-stop .result) _ (c .before .before .before .before .before .before .before .loop .inv .0) (c .before .before .before .best-stop .ensures) _ _ (c .before .j .given .1), c .before .before .before .before .before .before .before .loop .inv .1 .all, c .before .before .before .before .before .before .before .loop .inv .1 .members .most)
+mul-drive-on c = omega (arith, inside _ _ _ _ _ _ _ _ _ _ (c .before .before .before .before .before .before .before .loop .inv .1) (c .before .before .before .best-stop .result) _ _ (c .before .before .before .before .before .before .before .loop .inv .0 .0) (c .before .before .before .before .before .before .before .loop .inv .0 .1) (c .before .before .before .best-stop .ensures) _ _ (c .before .j .given .1), c .before .before .before .before .before .before .before .loop .inv .1 .all, c .before .before .before .before .before .before .before .loop .inv .1 .members .most)
 
 slice-read-drive-on : tie.Need-slice-read-drive-on Inv-loop μ-loop
-slice-read-drive-on c = omega (arith, inside _ _ _ _ _ _ _ _ _ _ (c .before .before .before .before .before .before .before .before .loop .inv .1) (c .before .before .before .before .best-stop .result) _ (c .before .before .before .before .before .before .before .before .loop .inv .0) (c .before .before .before .before .best-stop .ensures) _ _ (c .before .before .j .given .1), c .before .before .before .before .before .before .before .before .loop .inv .1 .all, c .before .before .before .before .before .before .before .before .loop .inv .1 .members .within, length-same _ _ _ _ _ _ _ _ _ _ (c .before .before .before .before .before .before .before .before .loop .inv .1))
+slice-read-drive-on c = omega (arith, inside _ _ _ _ _ _ _ _ _ _ (c .before .before .before .before .before .before .before .before .loop .inv .1) (c .before .before .before .before .best-stop .result) _ _ (c .before .before .before .before .before .before .before .before .loop .inv .0 .0) (c .before .before .before .before .before .before .before .before .loop .inv .0 .1) (c .before .before .before .before .best-stop .ensures) _ _ (c .before .before .j .given .1), c .before .before .before .before .before .before .before .before .loop .inv .1 .all, c .before .before .before .before .before .before .before .before .loop .inv .1 .members .within, length-same _ _ _ _ _ _ _ _ _ _ (c .before .before .before .before .before .before .before .before .loop .inv .1))
 
 cast-drive-on : tie.Need-cast-drive-on Inv-loop μ-loop
-cast-drive-on c = omega (arith, stop-row _ _ _ _ _ _ _ _ _ _ (c .before .before .before .before .before .before .before .before .loop .inv .1) (c .before .before .before .before .best-stop .result) _ (c .before .before .before .before .before .before .before .before .loop .inv .0) (c .before .before .before .before .best-stop .ensures) _ _ (c .before .before .j .given .1), c .before .before .before .before .before .before .before .before .loop .inv .1 .members .routed .sheet .sized .rows)
+cast-drive-on c = omega (arith, stop-row _ _ _ _ _ _ _ _ _ _ (c .before .before .before .before .before .before .before .before .loop .inv .1) (c .before .before .before .before .best-stop .result) _ _ (c .before .before .before .before .before .before .before .before .loop .inv .0 .0) (c .before .before .before .before .before .before .before .before .loop .inv .0 .1) (c .before .before .before .before .best-stop .ensures) _ _ (c .before .before .j .given .1), c .before .before .before .before .before .before .before .before .loop .inv .1 .members .routed .sheet .sized .rows)
 
 drive-on-requires : tie.Need-drive-on-requires Inv-loop μ-loop
-drive-on-requires c κs = (rides _ _ _ _ _ _ _ _ _ _ (c .before .before .before .before .before .before .before .before .loop .inv .1) (c .before .before .before .before .before .before .before .loop-test .taken), stop-row _ _ _ _ _ _ _ _ _ _ (c .before .before .before .before .before .before .before .before .loop .inv .1) (c .before .before .before .before .best-stop .result) _ (c .before .before .before .before .before .before .before .before .loop .inv .0) (c .before .before .before .before .best-stop .ensures) _ _ (c .before .before .j .given .1))
+drive-on-requires c κs = (rides _ _ _ _ _ _ _ _ _ _ (c .before .before .before .before .before .before .before .before .loop .inv .1) (c .before .before .before .before .before .before .before .loop-test .taken), stop-row _ _ _ _ _ _ _ _ _ _ (c .before .before .before .before .before .before .before .before .loop .inv .1) (c .before .before .before .before .best-stop .result) _ _ (c .before .before .before .before .before .before .before .before .loop .inv .0 .0) (c .before .before .before .before .before .before .before .before .loop .inv .0 .1) (c .before .before .before .before .best-stop .ensures) _ _ (c .before .before .j .given .1))
 
 bring-requires : tie.Need-bring-requires Inv-loop μ-loop
-bring-requires c κs = (omega arith, omega (arith, inside _ _ _ _ _ _ _ _ _ _ (c .before .before .before .before .before .before .before .before .before .before .loop .inv .1) (c .before .before .before .before .before .before .best-stop .result) _ (c .before .before .before .before .before .before .before .before .before .before .loop .inv .0) (c .before .before .before .before .before .before .best-stop .ensures) _ _ (c .before .before .before .before .j .given .1), c .before .before .before .before .before .before .before .before .before .before .loop .inv .1 .all, c .before .before .before .before .before .before .before .before .before .before .loop .inv .1 .members .within, length-same _ _ _ _ _ _ _ _ _ _ (c .before .before .before .before .before .before .before .before .before .before .loop .inv .1)))
+bring-requires c κs = (omega arith, omega (arith, inside _ _ _ _ _ _ _ _ _ _ (c .before .before .before .before .before .before .before .before .before .before .loop .inv .1) (c .before .before .before .before .before .before .best-stop .result) _ _ (c .before .before .before .before .before .before .before .before .before .before .loop .inv .0 .0) (c .before .before .before .before .before .before .before .before .before .before .loop .inv .0 .1) (c .before .before .before .before .before .before .best-stop .ensures) _ _ (c .before .before .before .before .j .given .1), c .before .before .before .before .before .before .before .before .before .before .loop .inv .1 .all, c .before .before .before .before .before .before .before .before .before .before .loop .inv .1 .members .within, length-same _ _ _ _ _ _ _ _ _ _ (c .before .before .before .before .before .before .before .before .before .before .loop .inv .1)))
 
 add-end : tie.Need-add-end Inv-loop μ-loop
 add-end c = omega (arith, c .before .before .before .before .before .before .before .before .before .before .before .before .before .loop .inv .1 .members .most)
@@ -77,7 +81,7 @@ loop-less : tie.Need-loop-less Inv-loop μ-loop
 loop-less c = omega arith
 
 loop-again : tie.Need-loop-again Inv-loop μ-loop
-loop-again c = (c .before .before .before .before .before .before .before .before .before .before .before .before .before .loop .inv .0, goes-on _ _ _ _ _ _ _ _ _ _ (c .before .before .before .before .before .before .before .before .before .before .before .before .before .loop .inv .1) (c .before .before .before .before .before .before .before .before .before .best-stop .result) _ (c .before .before .before .before .before .before .before .before .before .before .before .before .before .loop .inv .0) (c .before .before .before .before .before .before .before .before .before .best-stop .ensures) _ _ (c .before .before .before .before .before .before .before .j .given .1) _ _ (c .before .before .bring .ensures) (c .before .before .before .before .drive-on .ensures))
+loop-again c = (c .before .before .before .before .before .before .before .before .before .before .before .before .before .loop .inv .0, goes-on _ _ _ _ _ _ _ _ _ _ (c .before .before .before .before .before .before .before .before .before .before .before .before .before .loop .inv .1) (c .before .before .before .before .before .before .before .before .before .best-stop .result) _ _ (c .before .before .before .before .before .before .before .before .before .before .before .before .before .loop .inv .0 .0) (c .before .before .before .before .before .before .before .before .before .before .before .before .before .loop .inv .0 .1) (c .before .before .before .before .before .before .before .before .before .best-stop .ensures) _ _ (c .before .before .before .before .before .before .before .j .given .1) _ _ (c .before .before .bring .ensures) (c .before .before .before .before .drive-on .ensures))
 
 same-length-2 : tie.Need-same-length-2 Inv-loop μ-loop
 same-length-2 c = length-same _ _ _ _ _ _ _ _ _ _ (c .before .loop .inv .1)
@@ -92,6 +96,7 @@ grow-round-spec =
     Inv-loop
     μ-loop
     vehicle-at-requires
+    limits-at-requires
     set-out-requires
     loop-holds
     mul-best-stop

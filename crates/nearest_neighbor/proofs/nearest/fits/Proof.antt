@@ -18,14 +18,11 @@ travel-time-requires c κs = search needs
 travel-time-requires-2 : tie.Need-travel-time-requires-2
 travel-time-requires-2 c κs = search needs
 
-limits-of-requires : tie.Need-limits-of-requires
-limits-of-requires c κs = search needs
-
 allows-requires : tie.Need-allows-requires
 allows-requires c κs = search needs
 
 returns : tie.Need-returns
-returns c = rw (c .allows .ensures, c .before .limits-of .ensures, c .before .before .travel-time2 .ensures, c .before .before .before .before .before .travel-time .ensures, c .before .before .before .before .before .before .stop-at .ensures, c .before .before .before .before .before .before .before .distance2 .ensures, c .before .before .before .before .before .before .before .before .before .distance .ensures)
+returns c = rw (c .allows .ensures, c .before .travel-time2 .ensures, c .before .before .before .before .travel-time .ensures, c .before .before .before .before .before .stop-at .ensures, c .before .before .before .before .before .before .distance2 .ensures, c .before .before .before .before .before .before .before .before .distance .ensures)
 
 pub fits-spec : {M : Type 1} → statement M
 fits-spec =
@@ -36,6 +33,5 @@ fits-spec =
     stop-at-requires
     travel-time-requires
     travel-time-requires-2
-    limits-of-requires
     allows-requires
     returns)

@@ -12,14 +12,11 @@ distance-requires-2 c κs = search needs
 travel-time-requires : tie.Need-travel-time-requires
 travel-time-requires c κs = search needs
 
-limits-of-requires : tie.Need-limits-of-requires
-limits-of-requires c κs = search needs
-
 allows-requires : tie.Need-allows-requires
 allows-requires c κs = search needs
 
 returns : tie.Need-returns
-returns c = rw (c .allows .ensures, c .before .limits-of .ensures, c .before .before .travel-time .ensures, c .before .before .before .distance2 .ensures, c .before .before .before .before .before .distance .ensures)
+returns c = rw (c .allows .ensures, c .before .travel-time .ensures, c .before .before .distance2 .ensures, c .before .before .before .before .distance .ensures)
 
 pub fits-spec : {M : Type 1} → statement M
 fits-spec =
@@ -28,6 +25,5 @@ fits-spec =
     distance-requires
     distance-requires-2
     travel-time-requires
-    limits-of-requires
     allows-requires
     returns)

@@ -12,9 +12,6 @@ returns c = rw (not-true (c .before .before .before .args .soft) (c .if1 .taken)
 returns-2 : tie.Need-returns-2
 returns-2 c = rw (not-false (c .before .before .before .before .before .args .soft) (c .before .before .if1 .left), c .if2 .taken)
 
-limits-of-requires : tie.Need-limits-of-requires
-limits-of-requires c κs = search needs
-
 effective-cost-requires : tie.Need-effective-cost-requires
 effective-cost-requires c κs = search needs
 
@@ -28,10 +25,10 @@ cast-added : tie.Need-cast-added
 cast-added c = omega (arith, c .shared-slice-known3 .given 0)
 
 added-requires : tie.Need-added-requires
-added-requires c κs = (c .before .before .before .before .before .before .before .before .before .pre .0, (c .before .before .before .before .before .before .before .before .before .pre .1 .0 .row 0 (omega (arith, c .before .before .before .before .before .before .before .before .before .pre .1 .1)), c .before .before .before .before .before .before .before .before .before .pre .1 .0 .home))
+added-requires c κs = (c .before .before .before .before .before .before .before .before .pre .0, (c .before .before .before .before .before .before .before .before .pre .1 .0 .row 0 (omega (arith, c .before .before .before .before .before .before .before .before .pre .1 .1)), c .before .before .before .before .before .before .before .before .pre .1 .0 .home))
 
 returns-3 : tie.Need-returns-3
-returns-3 c = rw (not-false (c .before .before .before .before .before .before .before .before .before .before .args .soft) (c .before .before .before .before .before .before .before .if1 .left), ne-eqb (c .before .before .before .before .before .before .before .before .before .before .args .ride .served) 0 (c .before .before .before .before .before .if2 .left), c .added .ensures, c .before .before .fixed-cost-in-distance .ensures, c .before .before .before .effective-cost .ensures, c .before .before .before .before .limits-of .ensures, ← single (c .before .before .before .before .before .before .before .before .before .before .args .alone .now) (c .before .before .before .before .before .before .before .before .before .before .pre .1 .1))
+returns-3 c = rw (not-false (c .before .before .before .before .before .before .before .before .before .args .soft) (c .before .before .before .before .before .before .if1 .left), ne-eqb (c .before .before .before .before .before .before .before .before .before .args .ride .served) 0 (c .before .before .before .before .if2 .left), c .added .ensures, c .before .before .fixed-cost-in-distance .ensures, c .before .before .before .effective-cost .ensures, ← single (c .before .before .before .before .before .before .before .before .before .args .alone .now) (c .before .before .before .before .before .before .before .before .before .pre .1 .1))
 
 pub is-too-dear-spec : {M : Type 1} → statement M
 is-too-dear-spec =
@@ -39,7 +36,6 @@ is-too-dear-spec =
     (tie.spec
     returns
     returns-2
-    limits-of-requires
     effective-cost-requires
     fixed-cost-in-distance-requires
     shared-slice-read-added

@@ -24,18 +24,18 @@ wins-requires c κs = search needs
 
 returns : tie.Need-returns
 unfolding windowBy
-returns c = loses (c .before .before .before .before .before .before .args .best) (c .before .before .before .before .before .before .args .j) (takesBy (c .before .before .before .before .before .before .args .sheet .now) (c .before .before .before .before .before .before .args .depot) (c .before .before .before .before .before .before .args .vehicle) (c .before .before .before .before .before .before .args .soft) (c .before .before .before .before .before .before .args .ride) (getD (c .before .before .before .before .before .before .args .alone .now) 0 0) (lookOf (c .before .before .before .before .before .before .args .sheet .now) (c .before .before .before .before .before .before .args .ride) (getD (c .before .before .before .before .before .before .args .alone .now) 0 0))) (lookOf (c .before .before .before .before .before .before .args .sheet .now) (c .before .before .before .before .before .before .args .ride) (getD (c .before .before .before .before .before .before .args .alone .now) 0 0) .key) (c .before .before .look-at .result .key) (ap (λ (l : Look). l .key) (c .before .before .look-at .ensures)) (sym (c .before .wins .ensures) ∙ not-true _ (c .if1 .taken))
+returns c = loses (c .before .before .before .before .before .before .args .best) (c .before .before .before .before .before .before .args .j) (takesBy (c .before .before .before .before .before .before .args .sheet .now) (c .before .before .before .before .before .before .args .depot) (c .before .before .before .before .before .before .args .vehicle) (c .before .before .before .before .before .before .args .limits) (c .before .before .before .before .before .before .args .soft) (c .before .before .before .before .before .before .args .ride) (getD (c .before .before .before .before .before .before .args .alone .now) 0 0) (lookOf (c .before .before .before .before .before .before .args .sheet .now) (c .before .before .before .before .before .before .args .ride) (getD (c .before .before .before .before .before .before .args .alone .now) 0 0))) (lookOf (c .before .before .before .before .before .before .args .sheet .now) (c .before .before .before .before .before .before .args .ride) (getD (c .before .before .before .before .before .before .args .alone .now) 0 0) .key) (c .before .before .look-at .result .key) (ap (λ (l : Look). l .key) (c .before .before .look-at .ensures)) (sym (c .before .wins .ensures) ∙ not-true _ (c .if1 .taken))
 
 takes-requires : tie.Need-takes-requires
 takes-requires c κs = search needs
 
 returns-2 : tie.Need-returns-2
 unfolding windowBy
-returns-2 c = stays-out (c .before .before .before .before .before .before .before .before .args .best) (c .before .before .before .before .before .before .before .before .args .j) (takesBy (c .before .before .before .before .before .before .before .before .args .sheet .now) (c .before .before .before .before .before .before .before .before .args .depot) (c .before .before .before .before .before .before .before .before .args .vehicle) (c .before .before .before .before .before .before .before .before .args .soft) (c .before .before .before .before .before .before .before .before .args .ride) (getD (c .before .before .before .before .before .before .before .before .args .alone .now) 0 0) (lookOf (c .before .before .before .before .before .before .before .before .args .sheet .now) (c .before .before .before .before .before .before .before .before .args .ride) (getD (c .before .before .before .before .before .before .before .before .args .alone .now) 0 0))) (lookOf (c .before .before .before .before .before .before .before .before .args .sheet .now) (c .before .before .before .before .before .before .before .before .args .ride) (getD (c .before .before .before .before .before .before .before .before .args .alone .now) 0 0) .key) (ap (λ (l : Look). takesBy (c .before .before .before .before .before .before .before .before .args .sheet .now) (c .before .before .before .before .before .before .before .before .args .depot) (c .before .before .before .before .before .before .before .before .args .vehicle) (c .before .before .before .before .before .before .before .before .args .soft) (c .before .before .before .before .before .before .before .before .args .ride) (getD (c .before .before .before .before .before .before .before .before .args .alone .now) 0 0) l) (sym (c .before .before .before .before .look-at .ensures)) ∙ sym (c .before .takes .ensures) ∙ not-true (c .before .takes .result) (c .if2 .taken))
+returns-2 c = stays-out (c .before .before .before .before .before .before .before .before .args .best) (c .before .before .before .before .before .before .before .before .args .j) (takesBy (c .before .before .before .before .before .before .before .before .args .sheet .now) (c .before .before .before .before .before .before .before .before .args .depot) (c .before .before .before .before .before .before .before .before .args .vehicle) (c .before .before .before .before .before .before .before .before .args .limits) (c .before .before .before .before .before .before .before .before .args .soft) (c .before .before .before .before .before .before .before .before .args .ride) (getD (c .before .before .before .before .before .before .before .before .args .alone .now) 0 0) (lookOf (c .before .before .before .before .before .before .before .before .args .sheet .now) (c .before .before .before .before .before .before .before .before .args .ride) (getD (c .before .before .before .before .before .before .before .before .args .alone .now) 0 0))) (lookOf (c .before .before .before .before .before .before .before .before .args .sheet .now) (c .before .before .before .before .before .before .before .before .args .ride) (getD (c .before .before .before .before .before .before .before .before .args .alone .now) 0 0) .key) (ap (λ (l : Look). takesBy (c .before .before .before .before .before .before .before .before .args .sheet .now) (c .before .before .before .before .before .before .before .before .args .depot) (c .before .before .before .before .before .before .before .before .args .vehicle) (c .before .before .before .before .before .before .before .before .args .limits) (c .before .before .before .before .before .before .before .before .args .soft) (c .before .before .before .before .before .before .before .before .args .ride) (getD (c .before .before .before .before .before .before .before .before .args .alone .now) 0 0) l) (sym (c .before .before .before .before .look-at .ensures)) ∙ sym (c .before .takes .ensures) ∙ not-true (c .before .takes .result) (c .if2 .taken))
 
 returns-3 : tie.Need-returns-3
 unfolding windowBy
-returns-3 c = is-taken (c .before .before .before .before .before .before .before .before .args .best) (c .before .before .before .before .before .before .before .before .args .j) (takesBy (c .before .before .before .before .before .before .before .before .args .sheet .now) (c .before .before .before .before .before .before .before .before .args .depot) (c .before .before .before .before .before .before .before .before .args .vehicle) (c .before .before .before .before .before .before .before .before .args .soft) (c .before .before .before .before .before .before .before .before .args .ride) (getD (c .before .before .before .before .before .before .before .before .args .alone .now) 0 0) (lookOf (c .before .before .before .before .before .before .before .before .args .sheet .now) (c .before .before .before .before .before .before .before .before .args .ride) (getD (c .before .before .before .before .before .before .before .before .args .alone .now) 0 0))) (lookOf (c .before .before .before .before .before .before .before .before .args .sheet .now) (c .before .before .before .before .before .before .before .before .args .ride) (getD (c .before .before .before .before .before .before .before .before .args .alone .now) 0 0) .key) (c .before .before .before .before .look-at .result .key) (ap (λ (l : Look). l .key) (c .before .before .before .before .look-at .ensures)) (sym (c .before .before .before .wins .ensures) ∙ not-false _ (c .before .before .if1 .left)) (ap (λ (l : Look). takesBy (c .before .before .before .before .before .before .before .before .args .sheet .now) (c .before .before .before .before .before .before .before .before .args .depot) (c .before .before .before .before .before .before .before .before .args .vehicle) (c .before .before .before .before .before .before .before .before .args .soft) (c .before .before .before .before .before .before .before .before .args .ride) (getD (c .before .before .before .before .before .before .before .before .args .alone .now) 0 0) l) (sym (c .before .before .before .before .look-at .ensures)) ∙ sym (c .before .takes .ensures) ∙ not-false (c .before .takes .result) (c .if2 .left))
+returns-3 c = is-taken (c .before .before .before .before .before .before .before .before .args .best) (c .before .before .before .before .before .before .before .before .args .j) (takesBy (c .before .before .before .before .before .before .before .before .args .sheet .now) (c .before .before .before .before .before .before .before .before .args .depot) (c .before .before .before .before .before .before .before .before .args .vehicle) (c .before .before .before .before .before .before .before .before .args .limits) (c .before .before .before .before .before .before .before .before .args .soft) (c .before .before .before .before .before .before .before .before .args .ride) (getD (c .before .before .before .before .before .before .before .before .args .alone .now) 0 0) (lookOf (c .before .before .before .before .before .before .before .before .args .sheet .now) (c .before .before .before .before .before .before .before .before .args .ride) (getD (c .before .before .before .before .before .before .before .before .args .alone .now) 0 0))) (lookOf (c .before .before .before .before .before .before .before .before .args .sheet .now) (c .before .before .before .before .before .before .before .before .args .ride) (getD (c .before .before .before .before .before .before .before .before .args .alone .now) 0 0) .key) (c .before .before .before .before .look-at .result .key) (ap (λ (l : Look). l .key) (c .before .before .before .before .look-at .ensures)) (sym (c .before .before .before .wins .ensures) ∙ not-false _ (c .before .before .if1 .left)) (ap (λ (l : Look). takesBy (c .before .before .before .before .before .before .before .before .args .sheet .now) (c .before .before .before .before .before .before .before .before .args .depot) (c .before .before .before .before .before .before .before .before .args .vehicle) (c .before .before .before .before .before .before .before .before .args .limits) (c .before .before .before .before .before .before .before .before .args .soft) (c .before .before .before .before .before .before .before .before .args .ride) (getD (c .before .before .before .before .before .before .before .before .args .alone .now) 0 0) l) (sym (c .before .before .before .before .look-at .ensures)) ∙ sym (c .before .takes .ensures) ∙ not-false (c .before .takes .result) (c .if2 .left))
 
 pub nearer-spec : {M : Type 1} → statement M
 nearer-spec =
