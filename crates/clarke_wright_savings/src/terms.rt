@@ -51,8 +51,8 @@ pub fn directed_of(sheet: &[u8], depot: usize, index: u16, members: &[u16]) -> D
     requires { ⌜ index < vehiclesOf (now sheet) ⌝ }
     ensures { λ r. ⌜ r ≡ directedOf (now (sheet .entry)) depot index (now (members .entry)) ⌝ }
 {
-    let common = terms::terms_of(sheet, depot, index, members);
     let symmetric = symmetric_among(sheet, depot, members);
+    let common = terms::terms_of(sheet, depot, index, members);
     Directed {
         common,
         directed: !symmetric,

@@ -25,7 +25,7 @@ fn within(max: Limit, x: f64) -> bool
     }
 }
 
-pub fn limits_of(vehicle: Vehicle) -> RouteLimits
+fn limits_of(vehicle: Vehicle) -> RouteLimits
     ensures { λ r. ⌜ r ≡ limitsOf vehicle ⌝ }
 {
     let max_distance = vehicle.max_distance;

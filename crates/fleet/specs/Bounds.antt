@@ -3,14 +3,16 @@ use mathlib.Core.Path.{_≡_, refl, sym, ap, _∙_, subst}
 use Prim.Native.Nat.{ℕ, zero, suc, _+_, _≤_, _<_, suc-le-suc}
 use native.Mathlib.Nat.{add-zero, zero-add, zero-lt-suc}
 use native.Mathlib.Omega.{arith}
-use mathlib.Core.Bool.{Bool, true, false, cond}
+use mathlib.Core.Bool.{Bool, true, false, not, _||_, cond}
 use mathlib.Core.List.{List, [], _∷_}
 use lib.Dec.{T}
 use lib.Ieee.{Float}
+use lib.Ieee.Fits.{and-i, and-l}
 use lib.ListN.{length, getD}
 use Rattle.lists.specs.Moved.{inserted}
 use Rattle.constructive.specs.Outcome.{Round, roundAt}
 use Rattle.constructive.specs.Rounds.{passes}
+use Rattle.insertion.specs.Lawful.{loads, lawfulPlace}
 use Rattle.insertion.specs.declared.choice.Choice.{Choice}
 use Rattle.insertion.specs.declared.choice.Choice.the-variants.{Nowhere, Best}
 use Rattle.insertion.specs.Place.{judged, wins, better}
@@ -26,6 +28,15 @@ pub record Place (s : List ℕ) (soft : Bool) (rounds : List Round) (row i k : �
   pub place : k ≤ length (roundAt rounds i .stops)
   pub taken : T (takes s soft (roundAt rounds i .vehicle) (roundAt rounds i .stops) row)
   pub passed : T (passes s 0 (roundAt rounds i .vehicle) (inserted k row (roundAt rounds i .stops)))
+
+-- and it is lawful
+pub place-lawful : (s : List ℕ) (soft : Bool) (rounds : List Round) (row i k : ℕ) → Place s soft rounds row i k → T (lawfulPlace s 0 (roundAt rounds i .vehicle) (roundAt rounds i .stops) row k)
+unfolding takes
+place-lawful s soft rounds row i k p =
+    let v = roundAt rounds i .vehicle in
+    let stops = roundAt rounds i .stops in
+    let within = loads s v stops row in
+    and-i within (passes s 0 v (inserted k row stops)) (and-l within (not soft || passes s 0 v stops) (p .taken)) (p .passed)
 
 abbrev pub Chosen : List ℕ → Bool → List Round → ℕ → Choice → Type 0
 Chosen s soft rounds row Nowhere = Unit

@@ -2,21 +2,20 @@
 use mathlib.Core.Path.{_≡_, refl}
 use Prim.Native.Nat.{ℕ, zero, suc, _+_, _<_}
 use native.Mathlib.Omega.{arith}
-use mathlib.Core.Bool.{Bool, not, _||_}
+use mathlib.Core.Bool.{Bool}
 use mathlib.Core.List.{List, [], _∷_}
 use lib.Dec.{T, leb→le}
-use lib.Ieee.Fits.{and-l}
+use lib.Ieee.Fits.{and-l, and-r}
 use lib.ListN.{length, getD, take, drop}
 use Rattle.lists.specs.Every.{Every, every-of, every-append, every-take, every-drop}
 use Rattle.lists.specs.Moved.{inserted, inserted-length}
 use Rattle.sheet.specs.Values.{demandOf, vehicleOf}
 use Rattle.constructive.specs.Outcome.{Round, Outcome, roundAt}
 use Rattle.constructive.specs.Load.{loadOf, inserted-load}
-use Rattle.constructive.specs.Rounds.{Feasible}
-use Rattle.constructive.specs.Rounds.{passes}
-use Rattle.insertion.specs.Lawful.{loads}
-use Rattle.fleet.specs.Cheapest.{takes}
+use Rattle.constructive.specs.Rounds.{passes, Feasible}
+use Rattle.insertion.specs.Lawful.{loads, lawfulPlace}
 use Rattle.fleet.specs.Limit.{victimOf, putIn, Refit, dropped, dropRound, softIn, limitRoutes}
+use Rattle.fleet.specs.Bounds.{place-lawful}
 use Rattle.fleet.specs.Steps.{refit-on-kept, limit-on-kept}
 
 -- a round with a stop more, before its k-th
@@ -32,7 +31,7 @@ put-every P (suc i) k row (r ∷ rs) h f e = (e .0, put-every P i k row rs (omeg
 
 module _ (s : List ℕ) (soft : Bool) (P : Round → Type 0) where
   abbrev pub Takes : Type 0
-  Takes = (r : Round) (row k : ℕ) → T (takes s soft (r .vehicle) (r .stops) row) → T (passes s 0 (r .vehicle) (inserted k row (r .stops))) → P r → P (withStop k row r)
+  Takes = (r : Round) (row k : ℕ) → T (lawfulPlace s 0 (r .vehicle) (r .stops) row k) → P r → P (withStop k row r)
 
   drop-every : Takes → (o : Outcome) → Every P (o .rounds) → Every P (dropRound s soft o .rounds)
   unfolding dropRound
@@ -40,7 +39,7 @@ module _ (s : List ℕ) (soft : Bool) (P : Round → Type 0) where
       let i = victimOf s (o .rounds) .round in
       let x = dropped s (o .rounds) in
       refit-on-kept s soft (λ (y : Refit). Every P (y .rounds))
-      (λ y j i k h p u. put-every P i k (getD (y .pending) j 0) (y .rounds) (p .round) (f (roundAt (y .rounds) i) (getD (y .pending) j 0) k (p .taken) (p .passed)) u)
+      (λ y j i k h p u. put-every P i k (getD (y .pending) j 0) (y .rounds) (p .round) (f (roundAt (y .rounds) i) (getD (y .pending) j 0) k (place-lawful s soft (y .rounds) (getD (y .pending) j 0) i k p)) u)
       (length (x .pending)) x
       (every-append P (take i (o .rounds)) (drop (i + 1) (o .rounds)) (every-take P i (o .rounds) e) (every-drop P (i + 1) (o .rounds) e))
 
@@ -55,12 +54,13 @@ pub data Stood (s : List ℕ) (before : List Round) (r : Round) : Type 0 where
   refitted : Feasible s 0 r → Stood s before r
 
 stood-takes : (s : List ℕ) (soft : Bool) (before : List Round) → Takes s soft (Stood s before)
-unfolding takes
-stood-takes s soft before r row k t p u =
-    let fits = leb→le (loadOf s (r .stops) + demandOf s row) (vehicleOf s (r .vehicle) .capacity) (and-l (loads s (r .vehicle) (r .stops) row) (not soft || passes s 0 (r .vehicle) (r .stops)) t) in
+stood-takes s soft before r row k t u =
+    let within = loads s (r .vehicle) (r .stops) row in
+    let passed = passes s 0 (r .vehicle) (inserted k row (r .stops)) in
+    let fits = leb→le (loadOf s (r .stops) + demandOf s row) (vehicleOf s (r .vehicle) .capacity) (and-l within passed t) in
     refitted (record {
       carried = record { some = omega (arith, inserted-length k row (r .stops)); capacity = omega (arith, fits, inserted-load k row (r .stops) s) };
-      feasible = p;
+      feasible = and-r within passed t;
     })
 
 pub limit-kept : (s : List ℕ) (greatest : ℕ) (o : Outcome) → Every (Stood s (o .rounds)) (limitRoutes s greatest o .rounds)

@@ -149,5 +149,5 @@ limit-counts s greatest o t =
     let known = known-every s (o .rounds) (and-l (idsKnown s (o .rounds)) (linksRight s (stopsOf o) && eachOnce s (stopsOf o)) t) in
     let once = limit-once s greatest o (outcome-once s o t) in
     and-i (idsKnown s (q .rounds)) (linksRight s (stopsOf q) && eachOnce s (stopsOf q))
-    (every-known s (q .rounds) (limit-every s greatest o (Known s) (λ r row k a b h. h) known))
+    (every-known s (q .rounds) (limit-every s greatest o (Known s) (λ r row k t h. h) known))
     (and-i (linksRight s (stopsOf q)) (eachOnce s (stopsOf q)) (links-of s (stopsOf q) (λ x h. stop-counted (isStop s x) (omega (arith, h, once x)))) (once-of s (stopsOf q) once))

@@ -12,7 +12,6 @@ use lib.Ieee.Exact.{HasValue, odd-sign}
 use Rattle.numbers.specs.Upto.{Upto, Exact, exact-scaled, round-upto}
 use Rattle.sheet.specs.Fields.{vehiclesOf}
 use Rattle.sheet.specs.Finite.{vehicle-bounded}
-use Rattle.sheet.specs.Values.{vehicleOf}
 use Rattle.evaluation.specs.Sums.{_⊕_, _⊖_}
 use Rattle.evaluation.specs.Limits.{limitsAt}
 use Rattle.evaluation.specs.Laws.Limits.{limits-rest}

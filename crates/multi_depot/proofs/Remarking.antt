@@ -19,7 +19,7 @@ use Rattle.constructive.specs.Members.{membersOf}
 use Rattle.constructive.specs.Marks.{Marks, markedBy}
 use Rattle.multi_depot_offers.specs.ByDepot.{isNobody, nextDepot, plannedOf, plannedUpto, planned, movesTo, offeredFrom, offered}
 use Rattle.multi_depot_offers.specs.Asked.{Cleared, Alike, Next}
-use Rattle.multi_depot_offers.proofs.Plans.{aside-members}
+use Rattle.multi_depot_planning.proofs.Plans.{aside-members}
 use Rattle.multi_depot.specs.Asked.{Remarked}
 
 -- ---- a row is turned down by its own depot alone

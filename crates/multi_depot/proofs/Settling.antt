@@ -1,11 +1,11 @@
 -- The rounds of offers: one that moves a stop leaves fewer attempts, and one that moves none is the last; then the stops set aside are laid behind the rounds. Assumes nothing.
-use mathlib.Core.Path.{_≡_, refl, sym, ap, _∙_, subst}
+use mathlib.Core.Path.{_≡_, refl, sym, ap, _∙_}
 use Prim.Native.Nat.{ℕ, zero, suc, _+_, _-_, _*_, _≤_, _<_}
 use native.Mathlib.Omega.{arith}
 use mathlib.Core.Bool.{Bool, true, false, _||_}
-use mathlib.Core.List.{List, []}
+use mathlib.Core.List.{List}
 use lib.Dec.{eqb}
-use lib.ListN.{length, getD, take, replicate, length-replicate, getD-replicate}
+use lib.ListN.{length, getD, take}
 use lib.Seq.{length-take-le, take-all}
 use borrow.Author.Tests.{eq-eqb, ne-eqb}
 use Rattle.lists.specs.Same.{same-length}
@@ -15,19 +15,19 @@ use Rattle.wire.specs.Laws.{length-write}
 use Rattle.sheet.specs.Fields.{rowsOf}
 use Rattle.sheet.specs.Depots.{depotsOf}
 use Rattle.sheet.specs.Accepted.{Accepted}
-use Rattle.sheet.specs.Stops.{depots-some, stopsWith, allStops, all-once}
+use Rattle.sheet.specs.Stops.{stopsWith, allStops, all-once}
 use Rattle.constructive.specs.declared.tables.Filled.{Filled}
 use Rattle.constructive.specs.Outcome.{Outcome, stopsOf}
-use Rattle.constructive.specs.Members.{part, membersOf}
+use Rattle.constructive.specs.Members.{part}
 use Rattle.constructive.specs.LaidLaws.{length-chains}
-use Rattle.constructive.specs.Holds.{Held, empty, holds-none, holds-behind, held-outcome, held-tables}
+use Rattle.constructive.specs.Holds.{Held, holds-behind, held-outcome, held-tables}
 use Rattle.constructive.specs.Marks.{Marks, turned}
 use Rattle.multi_depot_offers.specs.ByDepot.{isNobody, plannedOf, planned, leftOut, offered, moved, settledIn, firstAt, settledAt, gathered, byDepot, outcomeOf}
 use Rattle.multi_depot_offers.specs.Settled.{attemptsLeft, length-offered, unmoved, offer-falls, settles, moves-on, length-first, enough}
 use Rattle.multi_depot_offers.specs.Each.{gathered-once}
 use Rattle.multi_depot_offers.specs.Rounds.{outcome-right, rounds-few}
-use Rattle.multi_depot_offers.specs.Asked.{setAside, Lent, Next, Planned}
-use Rattle.multi_depot_offers.proofs.Sharing.{Shared, part-there, length-planned}
+use Rattle.multi_depot_offers.specs.Asked.{setAside, Lent, Planned}
+use Rattle.multi_depot_planning.proofs.Sharing.{part-there}
 use Rattle.multi_depot.specs.Asked.{Desk, Untouched, Told}
 
 -- so many rounds of offers are enough, and settle the stops as they are to be
@@ -100,29 +100,6 @@ module _ {s : List ℕ} (at : List ℕ) {marks stops ends vehicles : List ℕ} {
     within = omega (arith, counted, room-aside, length-write stops (f .routed) (setAside s at marks) room-aside);
     aside = ap (part (write stops (f .routed) (setAside s at marks)) (f .routed)) (sym counted) ∙ part-there stops (f .routed) (setAside s at marks) room-aside ∙ aside-so;
   })
-
--- ---- one depot
-zeros-members : (s : List ℕ) (n : ℕ) → n ≡ rowsOf s → membersOf s (replicate n 0) 0 ≡ allStops s
-unfolding membersOf
-zeros-members s n e =
-    those-alike (λ c. eqb (getD (replicate n 0) c 0) 0) (λ c. true) (rowsOf s - depotsOf s) (depotsOf s)
-    (λ c l u. eq-eqb (getD (replicate n 0) c 0) 0 (getD-replicate n c 0 0 (omega arith)))
-
-module _ {s at₀ fleet stops ends vehicles : List ℕ} (lent : Lent s at₀ fleet stops ends vehicles) {at : List ℕ} (zeros : at ≡ replicate (length at₀) 0) where
-  pub lent-zeros : Lent s at fleet stops ends vehicles
-  lent-zeros = record { sheet = lent .sheet; rows = ap length zeros ∙ length-replicate {A = ℕ} (length at₀) 0 ∙ lent .rows; manned = lent .manned; stopped = lent .stopped; ended = lent .ended; driven = lent .driven }
-
-  members-all : membersOf s at 0 ≡ allStops s
-  members-all = rw zeros (zeros-members s (length at₀) (lent .rows))
-
-  pub next-zeros : Next s at 0 empty
-  next-zeros = record { home = depots-some s; rounds = omega arith; room = rw members-all (omega (arith, those-all (rowsOf s - depotsOf s) (depotsOf s))) }
-
-  pub one-held : {stops′ ends′ vehicles′ : List ℕ} {done : Filled} {total : ℕ} → Shared stops ends vehicles empty (plannedOf s 0 (membersOf s at 0)) stops′ ends′ vehicles′ done total → Held stops′ ends′ vehicles′ done (rowsOf s - depotsOf s) (plannedOf s 0 (allStops s))
-  one-held {stops′} {ends′} {vehicles′} {done} {total} h =
-      let k : Shared stops ends vehicles empty (plannedOf s 0 (allStops s)) stops′ ends′ vehicles′ done total = rw members-all at h in
-      let n : total ≡ rowsOf s - depotsOf s = omega (arith, k .count, length-planned s 0 (allStops s), those-all (rowsOf s - depotsOf s) (depotsOf s)) in
-      subst (λ (m : ℕ). Held stops′ ends′ vehicles′ done m (plannedOf s 0 (allStops s))) n (record { holds = k .holds [] (holds-none stops ends vehicles); from = k .from; within = k .within; aside = k .aside })
 
 -- ---- either
 -- the part of the offers' table that is used

@@ -1,7 +1,6 @@
 // Several depots: each stop goes to the nearest that has a vehicle, and where it is turned down to the next.
 use constructive::tables::Filled;
 use multi_depot_offers::members;
-use multi_depot_offers::planning;
 use sheet::customer;
 ghost use mathlib.Core.Path.{_≡_};
 ghost use mathlib.Core.Bool.{false};
@@ -36,7 +35,7 @@ fn remark(
         rounds: 0,
         routed: 0,
     };
-    planning::plan_depot(
+    multi_depot_planning::plan_depot(
         sheet,
         at,
         marks,
@@ -134,7 +133,16 @@ fn by_depot(
     let rows = at.len();
     let mut before = [0u16; 101];
     multi_depot_offers::first_at(sheet, depots, at);
-    let filled = planning::plan_depots(sheet, depots, at, marks, fleet, stops, ends, vehicles);
+    let filled = multi_depot_planning::plan_depots(
+        sheet,
+        depots,
+        at,
+        marks,
+        fleet,
+        stops,
+        ends,
+        vehicles,
+    );
     if !settle(
         sheet,
         depots,
@@ -149,36 +157,18 @@ fn by_depot(
         members::lay_aside(sheet, at, marks, stops, filled.routed);
         return filled;
     }
-    let last = planning::plan_depots(sheet, depots, at, marks, fleet, stops, ends, vehicles);
+    let last = multi_depot_planning::plan_depots(
+        sheet,
+        depots,
+        at,
+        marks,
+        fleet,
+        stops,
+        ends,
+        vehicles,
+    );
     members::lay_aside(sheet, at, marks, stops, last.routed);
     last
-}
-
-// One depot with every stop.
-fn one_depot(
-    sheet: &[u8],
-    at: &mut [u16],
-    fleet: &mut [u16],
-    stops: &mut [u16],
-    ends: &mut [u16],
-    vehicles: &mut [u16],
-) -> Filled
-    requires { ⌜ Lent (now sheet) (now at) (now fleet) (now stops) (now ends) (now vehicles) ⌝ }
-    ensures { λ r. ⌜ Held (now (stops .exit)) (now (ends .exit)) (now (vehicles .exit)) r (rowsOf (now (sheet .entry)) - depotsOf (now (sheet .entry))) (plannedOf (now (sheet .entry)) 0 (allStops (now (sheet .entry)))) ⌝ }
-{
-    constructive::marks::fill(at, 0);
-    let filled = Filled {
-        rounds: 0,
-        routed: 0,
-    };
-    let total = constructive::members::members_of(sheet, at, 0, stops, 0);
-    if total == 0 {
-        return filled;
-    }
-    if planning::saves_many(sheet, total) {
-        return planning::by_savings(sheet, 0, fleet, stops, ends, vehicles, filled, total);
-    }
-    planning::construct(sheet, 0, fleet, stops, ends, vehicles, filled, total)
 }
 
 // The sheet's outcome in the tables that are lent: its rounds, and behind them the stops set aside. `at` and `marks` are for
@@ -197,7 +187,14 @@ pub fn outcome(
 {
     let rows = sheet::rows(sheet);
     if customer::depots(sheet) == 1 {
-        return one_depot(sheet, &mut at[0..rows], fleet, stops, ends, vehicles);
+        return multi_depot_planning::one_depot(
+            sheet,
+            &mut at[0..rows],
+            fleet,
+            stops,
+            ends,
+            vehicles,
+        );
     }
     by_depot(sheet, &mut at[0..rows], marks, fleet, stops, ends, vehicles)
 }

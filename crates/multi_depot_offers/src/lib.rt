@@ -10,7 +10,6 @@ ghost use Rattle.multi_depot_offers.specs.Asked.{Asked, Offering, Cleare
 
 mod depots;
 pub mod members;
-pub mod planning;
 
 // Every row at its nearest depot with a vehicle.
 pub fn first_at(sheet: &[u8], depots: usize, at: &mut [u16])

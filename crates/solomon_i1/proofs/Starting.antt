@@ -7,7 +7,6 @@ use mathlib.Core.List.{List, [], _++_}
 use lib.ListN.{length, take, drop, length-drop}
 use lib.Seq.{length-take-le, drop-drop}
 use Rattle.wire.specs.Bytes.{write}
-use Rattle.sheet.specs.Values.{vehicleOf}
 use Rattle.evaluation.specs.Limits.{limitsAt}
 use Rattle.evaluation.specs.Routed.{Routed}
 use Rattle.constructive.specs.declared.tables.Filled.{Filled}

@@ -3,7 +3,6 @@ use mathlib.Core.Path.{_≡_, refl}
 use Prim.Native.Nat.{ℕ}
 use mathlib.Core.Bool.{true, false, not}
 use mathlib.Core.List.{List, [], _∷_}
-use Rattle.sheet.specs.Values.{vehicleOf}
 use Rattle.sheet.specs.declared.customer.Gate.{Gate}
 use Rattle.sheet.specs.declared.customer.Gate.the-variants.{Open, Hard, Soft}
 use Rattle.evaluation.specs.Limits.{limitsAt, isUnlimited}

@@ -11,7 +11,7 @@ use borrow.Author.Tests.{ltb-false}
 use Rattle.lists.specs.Every.{Every, every-append, every-map}
 use Rattle.sorting.specs.Stable.{sorted}
 use Rattle.sorting.specs.Laws.{Each, sorted-each}
-use Rattle.sheet.specs.Values.{vehicleOf, demandOf}
+use Rattle.sheet.specs.Values.{demandOf}
 use Rattle.evaluation.specs.declared.limits.RouteLimits.{RouteLimits}
 use Rattle.evaluation.specs.Limits.{limitsAt}
 use Rattle.constructive.specs.Outcome.{Round}

@@ -69,7 +69,7 @@ pub held-none : (limits : RouteLimits) → heldTo limits Unlawful ≡ noSchedule
 unfolding heldTo
 held-none limits = refl
 
--- a schedule isFeasible where the limits allow its figures
+-- a schedule passes where the limits allow its figures
 pub held-passes : (limits : RouteLimits) (k : Schedule) → isFeasible (heldTo limits (Lawful k)) ≡ allowOf limits (k .distance) (k .duration)
 unfolding heldTo
 held-passes limits k = go (allowOf limits (k .distance) (k .duration))
@@ -109,7 +109,7 @@ unfolding routeFeasible verdictFrom driveTo movedOf
 longer-feasible s depot limits route i p e =
     ap (λ (q : Position). isFeasible (verdictFrom s depot limits q)) (walked-more s (startAt (limits .rest) depot) route i ∙ ap (λ (q : Position). driveTo s q i) e)
 
--- ---- where no row has a window and there is nothing to keep, every round isFeasible
+-- ---- where no row has a window and there is nothing to keep, every round passes
 neither : (a b : Bool) → (a || b) ≡ false → (a ≡ false) × (b ≡ false)
 neither true b e = absurd (true≢false e)
 neither false b e = (refl, e)

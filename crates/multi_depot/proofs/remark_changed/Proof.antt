@@ -5,7 +5,7 @@ use native.Mathlib.Omega.{arith}
 use lib.ListN.{length}
 use borrow.Author.Tests.{not-true}
 use Rattle.multi_depot_offers.specs.Settled.{length-offered}
-use Rattle.multi_depot_offers.proofs.Plans.{Kept, lent-still}
+use Rattle.multi_depot_planning.proofs.Plans.{Kept, lent-still}
 use Rattle.multi_depot.proofs.Remarking.{Remarking, begins, passes, remarks, ends}
 use Rattle.multi_depot.proofs.remark_changed.Statement.{statement}
 use Rattle.multi_depot.proofs.remark_changed.Tie as tie

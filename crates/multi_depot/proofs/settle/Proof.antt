@@ -10,7 +10,7 @@ use Rattle.sheet.specs.Fields.{rowsOf}
 use Rattle.constructive.specs.Marks.{Marks}
 use Rattle.multi_depot_offers.specs.ByDepot.{planned, offered, moved}
 use Rattle.multi_depot_offers.specs.Settled.{attemptsLeft, length-offered}
-use Rattle.multi_depot_offers.proofs.Plans.{Kept, lent-still}
+use Rattle.multi_depot_planning.proofs.Plans.{Kept, lent-still}
 use Rattle.multi_depot.specs.Asked.{Untouched}
 use Rattle.multi_depot.proofs.Settling.{Settling, begins, copied, falls, goes-on, stays, ends}
 use Rattle.multi_depot.proofs.settle.Statement.{statement}

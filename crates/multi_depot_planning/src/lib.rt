@@ -1,6 +1,6 @@
 // One planning: a depot with its members, by the method's number, and every depot in order. Stops turned down are marked.
-use crate::members;
 use constructive::tables::Filled;
+use multi_depot_offers::members;
 ghost use mathlib.Core.Path.{_≡_};
 ghost use mathlib.Core.Bool.{true, false};
 ghost use Prim.Native.Nat.{ℕ, _-_, _≤_, _<_};
@@ -8,13 +8,15 @@ ghost use lib.ListN.{length};
 ghost use Rattle.lists.specs.Count.{count};
 ghost use Rattle.sheet.specs.Depots.{depotsOf};
 ghost use Rattle.sheet.specs.Fields.{rowsOf, vehiclesOf, methodOf};
+ghost use Rattle.sheet.specs.Stops.{allStops};
+ghost use Rattle.constructive.specs.Holds.{Held};
 ghost use Rattle.constructive.specs.Laid.{Laid, Room, filledBy};
 ghost use Rattle.constructive.specs.Members.{part, Members, membersOf};
 ghost use Rattle.multi_depot_offers.specs.ByDepot.{withVehicle, plannedOf, planned};
 ghost use Rattle.multi_depot_offers.specs.Asked.{Lent, Ready, Next, Added, Planned, constructAt};
 
 // Savings with the depot's first vehicle, by way of the large tables; without one every stop is set aside, as it stands. Chosen
-// by `plan_depot` and by `multi_depot::one_depot` each: a function with two callers is not inlined, so no other planning has
+// by `plan_depot` and by `one_depot` each: a function with two callers is not inlined, so no other planning has
 // its frame.
 pub fn by_savings(
     sheet: &[u8],
@@ -209,4 +211,31 @@ pub fn plan_depots(
         );
     }
     filled
+}
+
+// One depot with every stop.
+pub fn one_depot(
+    sheet: &[u8],
+    at: &mut [u16],
+    fleet: &mut [u16],
+    stops: &mut [u16],
+    ends: &mut [u16],
+    vehicles: &mut [u16],
+) -> Filled
+    requires { ⌜ Lent (now sheet) (now at) (now fleet) (now stops) (now ends) (now vehicles) ⌝ }
+    ensures { λ r. ⌜ Held (now (stops .exit)) (now (ends .exit)) (now (vehicles .exit)) r (rowsOf (now (sheet .entry)) - depotsOf (now (sheet .entry))) (plannedOf (now (sheet .entry)) 0 (allStops (now (sheet .entry)))) ⌝ }
+{
+    constructive::marks::fill(at, 0);
+    let filled = Filled {
+        rounds: 0,
+        routed: 0,
+    };
+    let total = constructive::members::members_of(sheet, at, 0, stops, 0);
+    if total == 0 {
+        return filled;
+    }
+    if saves_many(sheet, total) {
+        return by_savings(sheet, 0, fleet, stops, ends, vehicles, filled, total);
+    }
+    construct(sheet, 0, fleet, stops, ends, vehicles, filled, total)
 }

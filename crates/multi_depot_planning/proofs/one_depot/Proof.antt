@@ -1,10 +1,10 @@
--- `multi_depot::one_depot` meets its contract. Assumes nothing.
+-- `multi_depot_planning::one_depot` meets its contract. Assumes nothing.
 use native.Mathlib.Nat.{sub-zero}
 use borrow.Author.Needs.{needs}
-use Rattle.multi_depot_offers.proofs.Sharing.{members-fit, none-shared, ready, shares}
-use Rattle.multi_depot.proofs.Settling.{lent-zeros, next-zeros, one-held}
-use Rattle.multi_depot.proofs.one_depot.Statement.{statement}
-use Rattle.multi_depot.proofs.one_depot.Tie as tie
+use Rattle.multi_depot_planning.proofs.Sharing.{members-fit, none-shared, ready, shares}
+use Rattle.multi_depot_planning.proofs.Alone.{lent-zeros, next-zeros, one-held}
+use Rattle.multi_depot_planning.proofs.one_depot.Statement.{statement}
+use Rattle.multi_depot_planning.proofs.one_depot.Tie as tie
 
 fill-requires : tie.Need-fill-requires
 fill-requires c κs = search needs

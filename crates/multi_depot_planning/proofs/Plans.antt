@@ -23,11 +23,11 @@ use Rattle.constructive.specs.LaidLaws.{chains-aside, length-chains}
 use Rattle.constructive.specs.Members.{part, membersOf}
 use Rattle.constructive.specs.Holds.{empty, holds-none}
 use Rattle.constructive.specs.Marks.{markedBy, marks-more, marks-none}
 use Rattle.multi_depot_offers.specs.ByDepot.{plannedOf, plannedUpto}
 use Rattle.multi_depot_offers.specs.Each.{planned-keeps, one-more, upto-count}
 use Rattle.multi_depot_offers.specs.Rounds.{upto-routed}
 use Rattle.multi_depot_offers.specs.Asked.{Lent, Next, Added, Planned}
-use Rattle.multi_depot_offers.proofs.Sharing.{Shared}
+use Rattle.multi_depot_planning.proofs.Sharing.{Shared}
 
 -- ---- room for the next members
 upto-length : (s at : List ℕ) (n : ℕ) → length (stopsOf (plannedUpto s at n)) ≡ length (stopsWith s (λ c. ltb (getD at c 0) n))

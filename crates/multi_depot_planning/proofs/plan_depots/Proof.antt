@@ -1,13 +1,13 @@
--- `multi_depot_offers::planning::plan_depots` meets its contract. Assumes nothing.
+-- `multi_depot_planning::plan_depots` meets its contract. Assumes nothing.
 use mathlib.Core.Path.{_≡_, refl, _∙_}
 use Prim.Native.Nat.{_-_, _≤_}
 use native.Mathlib.Omega.{arith}
 use Rattle.sheet.specs.Depots.{depotsOf}
 use Rattle.multi_depot_offers.specs.ByDepot.{plannedUpto}
 use Rattle.multi_depot_offers.specs.Asked.{Planned}
-use Rattle.multi_depot_offers.proofs.Plans.{next-there, planned-more, planned-none, Kept, lent-still}
-use Rattle.multi_depot_offers.proofs.planning.plan_depots.Statement.{statement}
-use Rattle.multi_depot_offers.proofs.planning.plan_depots.Tie as tie
+use Rattle.multi_depot_planning.proofs.Plans.{next-there, planned-more, planned-none, Kept, lent-still}
+use Rattle.multi_depot_planning.proofs.plan_depots.Statement.{statement}
+use Rattle.multi_depot_planning.proofs.plan_depots.Tie as tie
 
 abbrev Inv-loop : tie.InvT-loop
 Inv-loop sheet depots at marks₀ fleet₀ stops₀ ends₀ vehicles₀ filled₀ depot₀ marks fleet stops ends vehicles filled depot =

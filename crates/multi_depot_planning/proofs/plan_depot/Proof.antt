@@ -1,9 +1,9 @@
--- `multi_depot_offers::planning::plan_depot` meets its contract. Assumes nothing.
+-- `multi_depot_planning::plan_depot` meets its contract. Assumes nothing.
 use borrow.Author.Needs.{needs}
-use Rattle.multi_depot_offers.proofs.Sharing.{members-fit, none-shared, ready, shares}
-use Rattle.multi_depot_offers.proofs.Plans.{turned-known, adds, adds-none}
-use Rattle.multi_depot_offers.proofs.planning.plan_depot.Statement.{statement}
-use Rattle.multi_depot_offers.proofs.planning.plan_depot.Tie as tie
+use Rattle.multi_depot_planning.proofs.Sharing.{members-fit, none-shared, ready, shares}
+use Rattle.multi_depot_planning.proofs.Plans.{turned-known, adds, adds-none}
+use Rattle.multi_depot_planning.proofs.plan_depot.Statement.{statement}
+use Rattle.multi_depot_planning.proofs.plan_depot.Tie as tie
 
 members-of-requires : tie.Need-members-of-requires
 members-of-requires c κs =

@@ -1,0 +1,4 @@
+pub mod Fleets
+pub mod Sharing
+pub mod Plans
+pub mod Alone
