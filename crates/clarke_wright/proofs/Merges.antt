@@ -6,14 +6,16 @@ use mathlib.Core.List.{List, [], _∷_}
 use lib.ListN.{length, getD, take, length-map, List·getD-map}
 use lib.Seq.{getD-take}
 use lib.Ieee.{Float}
-use Rattle.lists.specs.Every.{Every, every-of, every-at, every-append}
-use Rattle.sorting.specs.Laws.{Each, each-at, sorted-each}
+use Rattle.lists.specs.Every.{Every}
+use Rattle.lists.specs.Laws.Every.{every-of, every-at, every-append}
+use Rattle.sorting.specs.Lists.{Each}
+use Rattle.sorting.specs.Laws.Stable.{each-at, sorted-each}
 use Rattle.sorting.specs.Descending.{greater}
 use Rattle.sheet.specs.Fields.{rowsOf}
 use Rattle.evaluation.specs.Routed.{Routed}
 use Rattle.clarke_wright_savings.specs.declared.terms.Directed.{Directed}
-use Rattle.clarke_wright_savings.specs.Savings.{Saving, savingOf, saves, savingsFrom, savingsOf, valuesOf, numbered, ranked, startsOf, mergeOf, after, noSaving, mergedBy, routesOf}
-use Rattle.clarke_wright_savings.specs.Ranked.{kept-every, savings-entries}
+use Rattle.clarke_wright_savings.specs.Savings.{Saving, savingOf, saves, savingsFrom, savingsOf, valuesOf, numbered, ranked, startsOf, mergeOf, afterMerge, noSaving, mergedBy, routesOf}
+use Rattle.clarke_wright_savings.specs.Laws.Ranked.{kept-every, savings-entries}
 use Rattle.clarke_wright_savings.specs.Listed.{fromsOf, tosOf, Listed}
 use Rattle.clarke_wright_savings.proofs.Ranking.{within}
 use Rattle.clarke_wright_merging.specs.Ways.{Legs, mergedIn}
@@ -65,9 +67,9 @@ module _ (savings : List Saving) (from to : List ℕ) (values : List Float) (l :
   merged-same s t [] h routes = refl
   merged-same s t (e ∷ es) h routes =
       let x = getD savings e noSaving in
-      ap (λ (i : ℕ). mergedIn s t from to es (after routes (mergeOf s t routes i (getD to e 0)))) (starts-at e (h .0))
-      ∙ ap (λ (j : ℕ). mergedIn s t from to es (after routes (mergeOf s t routes (x .from) j))) (ends-at e (h .0))
-      ∙ merged-same s t es (h .1) (after routes (mergeOf s t routes (x .from) (x .to)))
+      ap (λ (i : ℕ). mergedIn s t from to es (afterMerge routes (mergeOf s t routes i (getD to e 0)))) (starts-at e (h .0))
+      ∙ ap (λ (j : ℕ). mergedIn s t from to es (afterMerge routes (mergeOf s t routes (x .from) j))) (ends-at e (h .0))
+      ∙ merged-same s t es (h .1) (afterMerge routes (mergeOf s t routes (x .from) (x .to)))
 
 module _
     (s : List ℕ)

@@ -9,12 +9,12 @@ use Rattle.constructive.specs.declared.tables.Filled.{Filled}
 use Rattle.constructive.specs.Terms.{termsOf}
 use Rattle.constructive.specs.Outcome.{Outcome}
 use Rattle.constructive.specs.Members.{part, Members}
-use Rattle.constructive.specs.Laid.{Room, filledBy, Laid}
+use Rattle.constructive.specs.Stored.{Room, filledBy, Stored}
 use Rattle.clarke_wright_savings.specs.declared.terms.Directed.{Directed}
 use Rattle.clarke_wright_savings.specs.Savings.{directedOf, roundsOf, asideOf, routesOf, plannedBy, clarkeWright}
-use Rattle.clarke_wright_slots.specs.HowMany.{routes-many, aside-few}
-use Rattle.clarke_wright_slots.specs.Slots.{slotsIn, stopsIn, Slotted, Laying}
-use Rattle.clarke_wright_slots.specs.SlotsLaws.{route-few}
+use Rattle.clarke_wright_slots.specs.Laws.HowMany.{routes-many, aside-few}
+use Rattle.clarke_wright_slots.specs.Slots.{slotsIn, routedStops, Slotted, Laying}
+use Rattle.clarke_wright_slots.specs.Laws.Slots.{route-few}
 use Rattle.clarke_wright_slots.proofs.Rounds.{laidSo}
 
 -- how many members there are
@@ -30,8 +30,8 @@ module _ {s : List ℕ} {depot : ℕ} {stops ends vehicles : List ℕ} {f : Fill
   routes-in : slotsIn (total - f .routed) cells lens ≡ routesOf s t members
   routes-in = ap (λ (n : ℕ). slotsIn n cells lens) (sym (members-long ok)) ∙ same
 
-  many : f .routed + stopsIn (slotsIn (total - f .routed) cells lens) + length (asideOf s (t .common) members) ≡ total
-  many = omega (arith, ap stopsIn routes-in, routes-many s t members, members-long ok, ok .from)
+  many : f .routed + routedStops (slotsIn (total - f .routed) cells lens) + length (asideOf s (t .common) members) ≡ total
+  many = omega (arith, ap routedStops routes-in, routes-many s t members, members-long ok, ok .from)
 
   pub laying : Laying (total - f .routed) cells lens stops ends vehicles f
   laying = record {
@@ -51,7 +51,7 @@ module _ {s : List ℕ} {depot : ℕ} {stops ends vehicles : List ℕ} {f : Fill
   aside-within e h = omega (arith, aside-few s (t .common) members, ok .routed .few)
 
   module _ {aside : List ℕ} (left : aside ≡ asideOf s (t .common) members) where
-    pub aside-fits : f .routed + stopsIn (slotsIn (total - f .routed) cells lens) + length aside ≤ length stops
+    pub aside-fits : f .routed + routedStops (slotsIn (total - f .routed) cells lens) + length aside ≤ length stops
     aside-fits = omega (arith, many, ap length left, ok .within)
 
     -- what is laid down is the outcome
@@ -66,6 +66,6 @@ module _ {s : List ℕ} {depot : ℕ} {stops ends vehicles : List ℕ} {f : Fill
       pub planned-count : {r : Filled} → r ≡ filledBy f (roundsOf v (slotsIn (total - f .routed) cells lens)) → r ≡ filledBy f (clarkeWright s depot v members .rounds)
       planned-count e = e ∙ ap (λ (o : Outcome). filledBy f (o .rounds)) planned
 
-      pub planned-laid : {stops′ ends′ vehicles′ : List ℕ} → Laid stops ends vehicles f (laidSo (roundsOf v (slotsIn (total - f .routed) cells lens)) aside) stops′ ends′ vehicles′
-          → Laid stops ends vehicles f (clarkeWright s depot v members) stops′ ends′ vehicles′
-      planned-laid {stops′} {ends′} {vehicles′} e = subst (λ (o : Outcome). Laid stops ends vehicles f o stops′ ends′ vehicles′) planned e
+      pub planned-laid : {stops′ ends′ vehicles′ : List ℕ} → Stored stops ends vehicles f (laidSo (roundsOf v (slotsIn (total - f .routed) cells lens)) aside) stops′ ends′ vehicles′
+          → Stored stops ends vehicles f (clarkeWright s depot v members) stops′ ends′ vehicles′
+      planned-laid {stops′} {ends′} {vehicles′} e = subst (λ (o : Outcome). Stored stops ends vehicles f o stops′ ends′ vehicles′) planned e

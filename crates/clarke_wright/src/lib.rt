@@ -8,9 +8,9 @@ ghost use mathlib.Core.Path.{_≡_};
 ghost use Prim.Native.Nat.{ℕ, _-_, _*_, _≤_, _<_};
 ghost use lib.ListN.{length, take};
 ghost use Rattle.lists.specs.Count.{count};
-ghost use Rattle.sheet.specs.Fields.{vehiclesOf};
+ghost use Rattle.sheet.specs.Fields.{vehiclesOf, mostRows};
 ghost use Rattle.evaluation.specs.Routed.{Routed};
-ghost use Rattle.constructive.specs.Laid.{Laid, Room, filledBy};
+ghost use Rattle.constructive.specs.Stored.{Stored, Room, filledBy};
 ghost use Rattle.constructive.specs.Members.{part, Members};
 ghost use Rattle.clarke_wright_savings.specs.Savings.{routesOf, asideOf, clarkeWright};
 ghost use Rattle.clarke_wright_savings.specs.Listed.{Space};
@@ -36,7 +36,7 @@ fn merge_members(
     requires { ⌜ ((x : ℕ) → count x (now members) ≤ 1) ⌝ }
     requires { ⌜ Space (now from) (now to) (now values) (now entries) (length (now members) * length (now members)) ⌝ }
     requires { ⌜ Roomy (length (now members)) (now cells) (now lens) (now loads) (now slots) ⌝ }
-    requires { ⌜ (101 ≤ length (now trial)) × (101 ≤ length (now aside)) ⌝ }
+    requires { ⌜ (mostRows ≤ length (now trial)) × (mostRows ≤ length (now aside)) ⌝ }
     ensures { λ r. ⌜ r ≡ length (asideOf (now (sheet .entry)) (terms .common) (now (members .entry))) ⌝ }
     ensures { λ r. ⌜ take r (now (aside .exit)) ≡ asideOf (now (sheet .entry)) (terms .common) (now (members .entry)) ⌝ }
     ensures { λ _. ⌜ Slotted (now (sheet .entry)) (length (now (members .entry))) (now (cells .exit)) (now (lens .exit)) (now (loads .exit)) (now (slots .exit)) ⌝ }
@@ -96,9 +96,9 @@ fn plan_by(
     requires { ⌜ ((x : ℕ) → count x (part (now stops) (filled .routed) total) ≤ 1) ⌝ }
     requires { ⌜ Space (now from) (now to) (now values) (now entries) ((total - filled .routed) * (total - filled .routed)) ⌝ }
     requires { ⌜ Roomy (total - filled .routed) (now cells) (now lens) (now loads) (now slots) ⌝ }
-    requires { ⌜ (101 ≤ length (now trial)) × (101 ≤ length (now aside)) ⌝ }
+    requires { ⌜ (mostRows ≤ length (now trial)) × (mostRows ≤ length (now aside)) ⌝ }
     ensures { λ r. ⌜ r ≡ filledBy filled (clarkeWright (now (sheet .entry)) depot vehicle (part (now (stops .entry)) (filled .routed) total) .rounds) ⌝ }
-    ensures { λ _. ⌜ Laid (now (stops .entry)) (now (ends .entry)) (now (vehicles .entry)) filled (clarkeWright (now (sheet .entry)) depot vehicle (part (now (stops .entry)) (filled .routed) total)) (now (stops .exit)) (now (ends .exit)) (now (vehicles .exit)) ⌝ }
+    ensures { λ _. ⌜ Stored (now (stops .entry)) (now (ends .entry)) (now (vehicles .entry)) filled (clarkeWright (now (sheet .entry)) depot vehicle (part (now (stops .entry)) (filled .routed) total)) (now (stops .exit)) (now (ends .exit)) (now (vehicles .exit)) ⌝ }
 {
     let start = filled.routed;
     let count = total - start;
@@ -148,18 +148,18 @@ pub fn clarke_wright_savings(
     requires { ⌜ vehicle < vehiclesOf (now sheet) ⌝ }
     requires { ⌜ ((x : ℕ) → count x (part (now stops) (filled .routed) total) ≤ 1) ⌝ }
     ensures { λ r. ⌜ r ≡ filledBy filled (clarkeWright (now (sheet .entry)) depot vehicle (part (now (stops .entry)) (filled .routed) total) .rounds) ⌝ }
-    ensures { λ _. ⌜ Laid (now (stops .entry)) (now (ends .entry)) (now (vehicles .entry)) filled (clarkeWright (now (sheet .entry)) depot vehicle (part (now (stops .entry)) (filled .routed) total)) (now (stops .exit)) (now (ends .exit)) (now (vehicles .exit)) ⌝ }
+    ensures { λ _. ⌜ Stored (now (stops .entry)) (now (ends .entry)) (now (vehicles .entry)) filled (clarkeWright (now (sheet .entry)) depot vehicle (part (now (stops .entry)) (filled .routed) total)) (now (stops .exit)) (now (ends .exit)) (now (vehicles .exit)) ⌝ }
 {
     let mut from = [0u16; 10201];
     let mut to = [0u16; 10201];
     let mut values = [0.0; 10201];
     let mut entries = [0u16; 10201];
     let mut cells = [0u16; 10201];
-    let mut lens = [0u16; 101];
-    let mut loads = [0u32; 101];
-    let mut slots = [0u16; 101];
-    let mut trial = [0u16; 101];
-    let mut aside = [0u16; 101];
+    let mut lens = [0u16; sheet::MOST_ROWS];
+    let mut loads = [0u32; sheet::MOST_ROWS];
+    let mut slots = [0u16; sheet::MOST_ROWS];
+    let mut trial = [0u16; sheet::MOST_ROWS];
+    let mut aside = [0u16; sheet::MOST_ROWS];
     plan_by(
         sheet,
         depot,
@@ -199,18 +199,18 @@ pub fn clarke_wright_few(
     requires { ⌜ ((x : ℕ) → count x (part (now stops) (filled .routed) total) ≤ 1) ⌝ }
     requires { ⌜ total - filled .routed ≤ 24 ⌝ }
     ensures { λ r. ⌜ r ≡ filledBy filled (clarkeWright (now (sheet .entry)) depot vehicle (part (now (stops .entry)) (filled .routed) total) .rounds) ⌝ }
-    ensures { λ _. ⌜ Laid (now (stops .entry)) (now (ends .entry)) (now (vehicles .entry)) filled (clarkeWright (now (sheet .entry)) depot vehicle (part (now (stops .entry)) (filled .routed) total)) (now (stops .exit)) (now (ends .exit)) (now (vehicles .exit)) ⌝ }
+    ensures { λ _. ⌜ Stored (now (stops .entry)) (now (ends .entry)) (now (vehicles .entry)) filled (clarkeWright (now (sheet .entry)) depot vehicle (part (now (stops .entry)) (filled .routed) total)) (now (stops .exit)) (now (ends .exit)) (now (vehicles .exit)) ⌝ }
 {
     let mut from = [0u16; 576];
     let mut to = [0u16; 576];
     let mut values = [0.0; 576];
     let mut entries = [0u16; 576];
     let mut cells = [0u16; 2424];
-    let mut lens = [0u16; 101];
-    let mut loads = [0u32; 101];
-    let mut slots = [0u16; 101];
-    let mut trial = [0u16; 101];
-    let mut aside = [0u16; 101];
+    let mut lens = [0u16; sheet::MOST_ROWS];
+    let mut loads = [0u32; sheet::MOST_ROWS];
+    let mut slots = [0u16; sheet::MOST_ROWS];
+    let mut trial = [0u16; sheet::MOST_ROWS];
+    let mut aside = [0u16; sheet::MOST_ROWS];
     plan_by(
         sheet,
         depot,

@@ -11,27 +11,29 @@ use lib.ListN.{length, getD, take, drop}
 use lib.Seq.{drop-cons, drop-length}
 use borrow.Author.Tests.{ltb-true, eq-eqb, ne-eqb, le-leb, lt-leb}
 use Rattle.lists.specs.Count.{count}
-use Rattle.lists.specs.Every.{Every, every-at}
+use Rattle.lists.specs.Every.{Every}
+use Rattle.lists.specs.Laws.Every.{every-at}
 use Rattle.sheet.specs.Fields.{rowsOf}
 use Rattle.sheet.specs.Accepted.{Accepted}
-use Rattle.sheet.specs.Finite.{demand-bounded}
+use Rattle.sheet.specs.Laws.Finite.{demand-bounded}
 use Rattle.evaluation.specs.Routed.{Routed}
 use Rattle.constructive.specs.declared.terms.Terms.{Terms}
 use Rattle.constructive.specs.Load.{loadOf}
 use Rattle.clarke_wright_savings.specs.declared.terms.Directed.{Directed}
-use Rattle.clarke_wright_savings.specs.Savings.{routeAt, slotOf, firstIs, lastIs, Merge, apart, joined, joining, onlyIf, mayJoin, passesSo, passes, passing, mergeOf, after}
-use Rattle.clarke_wright_savings.specs.Joined.{Slots, Stops}
-use Rattle.clarke_wright_slots.specs.Slots.{slotAt, slotsIn, stopsIn, Roomy, Slotted, endToEnd, Taken}
-use Rattle.clarke_wright_slots.specs.SlotsLaws.{length-slots, slots-at, slots-past, route-few, roomy-within}
+use Rattle.clarke_wright_savings.specs.Savings.{routeAt, slotOf, firstIs, lastIs, Merge, apart, joined, joining, onlyIf, mayJoin, joinedPasses, mergePasses, passing, mergeOf, afterMerge}
+use Rattle.clarke_wright_savings.specs.Routes.{Slots}
+use Rattle.clarke_wright_savings.specs.Laws.Joined.{JoinedStops}
+use Rattle.clarke_wright_slots.specs.Slots.{slotAt, slotsIn, routedStops, Roomy, Slotted, endToEnd, SlotTaken}
+use Rattle.clarke_wright_slots.specs.Laws.Slots.{length-slots, slots-at, slots-past, route-few, roomy-within}
 use Rattle.clarke_wright_slots.proofs.Slotting.{took-over}
 use Rattle.clarke_wright_merging.specs.declared.Way.{Way}
 use Rattle.clarke_wright_merging.specs.declared.Way.the-variants.{Apart, Join}
-use Rattle.clarke_wright_merging.specs.Ways.{meant, wayOf, Ways, Legs, mergedIn}
+use Rattle.clarke_wright_merging.specs.Ways.{meant, wayOf, WaySlots, Legs, mergedIn}
 use Rattle.clarke_wright_merging.proofs.Ways.{joining-meant, way-slots, turned-stops}
 
 -- ---- how many stops a slot has, and what they ask
-two-few : (routes : List (List ℕ)) (a b : ℕ) → (a ≡ b → ⊥) → length (routeAt routes a) + length (routeAt routes b) ≤ stopsIn routes
-unfolding stopsIn
+two-few : (routes : List (List ℕ)) (a b : ℕ) → (a ≡ b → ⊥) → length (routeAt routes a) + length (routeAt routes b) ≤ routedStops routes
+unfolding routedStops
 two-few [] a b n = zero-le
 two-few (r ∷ rs) zero zero n = absurd (n refl)
 two-few (r ∷ rs) zero (suc b) n = let e = route-few rs b in omega arith
@@ -82,7 +84,7 @@ only-apart true = refl
 only-apart false = refl
 
 apart-stays : (s : List ℕ) (t : Terms) (routes : List (List ℕ)) → passing s t routes apart ≡ apart
-apart-stays s t routes = only-apart (passes s t routes apart)
+apart-stays s t routes = only-apart (mergePasses s t routes apart)
 
 module _ (s : List ℕ) (t : Directed) (routes : List (List ℕ)) (i j : ℕ) where
   abbrev a : ℕ
@@ -194,16 +196,16 @@ module _ (s : List ℕ) (n : ℕ) (cells lens loads slots : List ℕ) (g : Slott
     pub slot-low : (x : ℕ) → x < rowsOf s → at x ≤ 101
     slot-low x h = omega (arith, slot-at x h, slot-most x routes, length-slots n cells lens, g .room .most)
 
-    stays : mergeOf s t routes i j ≡ apart → routes ≡ after routes (mergeOf s t routes i j)
-    stays e = sym (ap (after routes) e)
+    stays : mergeOf s t routes i j ≡ apart → routes ≡ afterMerge routes (mergeOf s t routes i j)
+    stays e = sym (ap (afterMerge routes) e)
 
-    pub same-slot : at i ≡ at j → routes ≡ after routes (mergeOf s t routes i j)
+    pub same-slot : at i ≡ at j → routes ≡ afterMerge routes (mergeOf s t routes i j)
     same-slot e = stays (same-apart s t routes i j (sym (slot-at i hi) ∙ e ∙ slot-at j hj))
 
-    pub none-from : at i ≡ n → routes ≡ after routes (mergeOf s t routes i j)
+    pub none-from : at i ≡ n → routes ≡ afterMerge routes (mergeOf s t routes i j)
     none-from e = stays (none-apart s t routes i j (slots-past n cells lens (slotOf i routes) (omega (arith, e, slot-at i hi))))
 
-    pub none-to : at j ≡ n → routes ≡ after routes (mergeOf s t routes i j)
+    pub none-to : at j ≡ n → routes ≡ afterMerge routes (mergeOf s t routes i j)
     none-to e = stays (onto-none-apart s t routes i j (slots-past n cells lens (slotOf j routes) (omega (arith, e, slot-at j hj))))
 
     -- they are two, and both rows have one
@@ -237,7 +239,7 @@ module _ (s : List ℕ) (n : ℕ) (cells lens loads slots : List ℕ) (g : Slott
       pub load-sum : getD loads (at i) 0 + getD loads (at j) 0 < 0x1_0000_0000
       load-sum = loads-fit (at i) (at j) differ below-i below-j
 
-      pub too-much : t .common .capacity < getD loads (at i) 0 + getD loads (at j) 0 → routes ≡ after routes (mergeOf s t routes i j)
+      pub too-much : t .common .capacity < getD loads (at i) 0 + getD loads (at j) 0 → routes ≡ afterMerge routes (mergeOf s t routes i j)
       too-much h = stays (over-apart s t routes i j (omega (arith, h, load-at i hi p, load-at j hj q)))
 
       -- the way that the code finds
@@ -245,7 +247,7 @@ module _ (s : List ℕ) (n : ℕ) (cells lens loads slots : List ℕ) (g : Slott
       wayAt ri rj a b = wayOf (t .directed) (firstIs i ri) (lastIs i ri) (firstIs j rj) (lastIs j rj) a b
 
       module _ (way : Way) (e : way ≡ wayAt (cut cells lens (at i)) (cut cells lens (at j)) (at i) (at j)) where
-        pub ways : Ways routes way
+        pub ways : WaySlots routes way
         ways =
             rw e
             (way-slots routes (at i) (at j) (t .directed) (firstIs i (cut cells lens (at i))) (lastIs i (cut cells lens (at i))) (firstIs j (cut cells lens (at j))) (lastIs j (cut cells lens (at j))) two-slots)
@@ -264,9 +266,9 @@ module _ (s : List ℕ) (n : ℕ) (cells lens loads slots : List ℕ) (g : Slott
             ∙ ap (λ (w : Way). passing s (t .common) routes (meant routes w)) (sym found)
 
   -- ---- a way that joins two slots
-  module _ (way : Way) (into from : ℕ) (back forth : Bool) (y : Ways routes way) (w : way ≡ Join into from back forth) where
+  module _ (way : Way) (into from : ℕ) (back forth : Bool) (y : WaySlots routes way) (w : way ≡ Join into from back forth) where
     two : Slots routes into from
-    two = subst (Ways routes) w y
+    two = subst (WaySlots routes) w y
 
     into-in : into < n
     into-in = omega (arith, two .into, length-slots n cells lens)
@@ -288,7 +290,7 @@ module _ (s : List ℕ) (n : ℕ) (cells lens loads slots : List ℕ) (g : Slott
           ∙ ap (λ (r : List ℕ). endToEnd back forth r (cut cells lens from)) (cut-route into into-in)
           ∙ ap (λ (r : List ℕ). endToEnd back forth (routeAt routes into) r) (cut-route from from-in)
 
-      same-stops : Stops s (λ (i : ℕ). i < rowsOf s) (routeAt routes into) (routeAt routes from) stops
+      same-stops : JoinedStops s (λ (i : ℕ). i < rowsOf s) (routeAt routes into) (routeAt routes from) stops
       same-stops = rw joined-stops (turned-stops s (λ (i : ℕ). i < rowsOf s) back forth (routeAt routes into) (routeAt routes from))
 
       stops-few : length stops ≤ 101
@@ -326,29 +328,29 @@ module _ (s : List ℕ) (n : ℕ) (cells lens loads slots : List ℕ) (g : Slott
       takes-over = (roomy-within (omega (arith, into-in)) (g .room), (roomy-within (omega (arith, from-in)) (g .room), (stops-few, (fitting .from-long, (from-row, load-fits)))))
 
       -- ---- whether it passes
-      module _ (passed : Bool) (v : passed ≡ passesSo s t (cut cells lens into) (cut cells lens from) stops) where
+      module _ (passed : Bool) (v : passed ≡ joinedPasses s t (cut cells lens into) (cut cells lens from) stops) where
         passing-so : passing s t routes (meant routes way) ≡ onlyIf passed (joined into from stops)
-        unfolding passes
+        unfolding mergePasses
         passing-so =
             ap (λ (x : Way). passing s t routes (meant routes x)) w
             ∙ ap (λ (r : List ℕ). passing s t routes (joined into from r)) (sym joined-stops)
             ∙ ap (λ (x : Bool). onlyIf x (joined into from stops))
-            (ap (λ (r : List ℕ). passesSo s t r (routeAt routes from) stops) (sym (cut-route into into-in))
-            ∙ ap (λ (r : List ℕ). passesSo s t (cut cells lens into) r stops) (sym (cut-route from from-in))
+            (ap (λ (r : List ℕ). joinedPasses s t r (routeAt routes from) stops) (sym (cut-route into into-in))
+            ∙ ap (λ (r : List ℕ). joinedPasses s t (cut cells lens into) r stops) (sym (cut-route from from-in))
             ∙ sym v)
 
-        pub not-passed : passed ≡ false → routes ≡ after routes (passing s t routes (meant routes way))
-        not-passed u = sym (ap (after routes) (passing-so ∙ ap (λ (x : Bool). onlyIf x (joined into from stops)) u))
+        pub not-passed : passed ≡ false → routes ≡ afterMerge routes (passing s t routes (meant routes way))
+        not-passed u = sym (ap (afterMerge routes) (passing-so ∙ ap (λ (x : Bool). onlyIf x (joined into from stops)) u))
 
-        pub taken : passed ≡ true → (cells′ lens′ loads′ slots′ : List ℕ) → length slots′ ≡ length slots → Taken cells lens loads slots into from stops cells′ lens′ loads′ slots′
-            → Slotted s n cells′ lens′ loads′ slots′ × (slotsIn n cells′ lens′ ≡ after routes (passing s t routes (meant routes way)))
+        pub taken : passed ≡ true → (cells′ lens′ loads′ slots′ : List ℕ) → length slots′ ≡ length slots → SlotTaken cells lens loads slots into from stops cells′ lens′ loads′ slots′
+            → Slotted s n cells′ lens′ loads′ slots′ × (slotsIn n cells′ lens′ ≡ afterMerge routes (passing s t routes (meant routes way)))
         taken u cells′ lens′ loads′ slots′ l d =
             let r = took-over s n cells lens loads slots g into from stops two same-stops cells′ lens′ loads′ slots′ l d in
-            (r .0, r .1 ∙ sym (ap (after routes) (passing-so ∙ ap (λ (x : Bool). onlyIf x (joined into from stops)) u)))
+            (r .0, r .1 ∙ sym (ap (afterMerge routes) (passing-so ∙ ap (λ (x : Bool). onlyIf x (joined into from stops)) u)))
 
 -- a way that joins nothing
-pub way-apart : (s : List ℕ) (t : Terms) (routes : List (List ℕ)) (way : Way) → way ≡ Apart → routes ≡ after routes (passing s t routes (meant routes way))
-way-apart s t routes way e = sym (ap (after routes) (ap (λ (w : Way). passing s t routes (meant routes w)) e ∙ apart-stays s t routes))
+pub way-apart : (s : List ℕ) (t : Terms) (routes : List (List ℕ)) (way : Way) → way ≡ Apart → routes ≡ afterMerge routes (passing s t routes (meant routes way))
+way-apart s t routes way e = sym (ap (afterMerge routes) (ap (λ (w : Way). passing s t routes (meant routes w)) e ∙ apart-stays s t routes))
 
 -- ---- one saving after another
 pub record Merging (s : List ℕ) (t : Directed) (n : ℕ) (from to entries cells₀ lens₀ loads₀ slots₀ trial₀ cells lens loads slots trial : List ℕ) (k end : ℕ) : Type 0 where
@@ -398,7 +400,7 @@ module _ (s : List ℕ) (t : Directed) (n : ℕ) (from to entries cells₀ lens�
     leg-rows = (g .legs .from-row k inside, g .legs .to-row k inside)
 
     pub goes-on : (cells′ lens′ loads′ slots′ trial′ : List ℕ) → Slotted s n cells′ lens′ loads′ slots′
-        → slotsIn n cells′ lens′ ≡ after (slotsIn n cells lens) (mergeOf s t (slotsIn n cells lens) (getD from e 0) (getD to e 0))
+        → slotsIn n cells′ lens′ ≡ afterMerge (slotsIn n cells lens) (mergeOf s t (slotsIn n cells lens) (getD from e 0) (getD to e 0))
         → length cells′ ≡ length cells → length lens′ ≡ length lens → length loads′ ≡ length loads → length slots′ ≡ length slots → length trial′ ≡ length trial
         → Merging s t n from to entries cells₀ lens₀ loads₀ slots₀ trial₀ cells′ lens′ loads′ slots′ trial′ (k + 1) end
     unfolding mergedIn

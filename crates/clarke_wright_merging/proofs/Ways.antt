@@ -9,14 +9,17 @@ use lib.Dec.{eqb}
 use lib.ListN.{length, getD, length-append, length-reverse}
 use Rattle.lists.specs.Fold.{lastOf}
 use Rattle.lists.specs.Count.{count}
-use Rattle.lists.specs.Once.{count-append}
-use Rattle.lists.specs.Every.{Every, every-append}
-use Rattle.constructive.specs.Load.{loadOf, load-append}
+use Rattle.lists.specs.Laws.Once.{count-append}
+use Rattle.lists.specs.Every.{Every}
+use Rattle.lists.specs.Laws.Every.{every-append}
+use Rattle.constructive.specs.Load.{loadOf}
+use Rattle.constructive.specs.Laws.Load.{load-append}
 use Rattle.clarke_wright_savings.specs.Savings.{routeAt, firstIs, lastIs, apart, joined, joining}
-use Rattle.clarke_wright_savings.specs.Joined.{Slots, Stops, count-reverse, load-reverse, every-reverse}
-use Rattle.clarke_wright_slots.specs.Slots.{turned, endToEnd}
+use Rattle.clarke_wright_savings.specs.Routes.{Slots}
+use Rattle.clarke_wright_savings.specs.Laws.Joined.{JoinedStops, count-reverse, load-reverse, every-reverse}
+use Rattle.clarke_wright_slots.specs.Slots.{orReversed, endToEnd}
 use Rattle.clarke_wright_merging.specs.declared.Way.the-variants.{Apart, Join}
-use Rattle.clarke_wright_merging.specs.Ways.{meant, wayOf, Ways}
+use Rattle.clarke_wright_merging.specs.Ways.{meant, wayOf, WaySlots}
 
 -- ---- a round's first and last stop
 pub first-at : (x : ℕ) (route : List ℕ) → 0 < length route → eqb (getD route 0 0) x ≡ firstIs x route
@@ -60,11 +63,11 @@ module _ (routes : List (List ℕ)) (a b : ℕ) where
       go false false false false false = refl
 
   -- it joins these two slots
-  pub way-slots : (directed iFirst iLast jFirst jLast : Bool) → Slots routes a b → Ways routes (wayOf directed iFirst iLast jFirst jLast a b)
+  pub way-slots : (directed iFirst iLast jFirst jLast : Bool) → Slots routes a b → WaySlots routes (wayOf directed iFirst iLast jFirst jLast a b)
   way-slots directed iFirst iLast jFirst jLast k = go (iLast && jFirst) directed (jLast && iFirst) (iLast && jLast) (iFirst && jFirst)
     where
       go : (along one-way against last first : Bool)
-          → Ways routes (cond along (Join a b false false) (cond one-way Apart (cond against (Join b a false false) (cond last (Join a b false true) (cond first (Join a b true false) Apart)))))
+          → WaySlots routes (cond along (Join a b false false) (cond one-way Apart (cond against (Join b a false false) (cond last (Join a b false true) (cond first (Join a b true false) Apart)))))
       go true one-way against last first = k
       go false true against last first = tt
       go false false true last first = record { differ = λ e. k .differ (sym e); into = k .from; from = k .into }
@@ -73,26 +76,26 @@ module _ (routes : List (List ℕ)) (a b : ℕ) where
       go false false false false false = tt
 
 -- ---- rounds that are laid end to end keep their stops
-count-turned : (x : ℕ) (back : Bool) (route : List ℕ) → count x (turned back route) ≡ count x route
+count-turned : (x : ℕ) (back : Bool) (route : List ℕ) → count x (orReversed back route) ≡ count x route
 count-turned x false route = refl
 count-turned x true route = count-reverse x route
 
-load-turned : (s : List ℕ) (back : Bool) (route : List ℕ) → loadOf s (turned back route) ≡ loadOf s route
+load-turned : (s : List ℕ) (back : Bool) (route : List ℕ) → loadOf s (orReversed back route) ≡ loadOf s route
 load-turned s false route = refl
 load-turned s true route = load-reverse s route
 
-every-turned : (P : ℕ → Type 0) (back : Bool) (route : List ℕ) → Every P route → Every P (turned back route)
+every-turned : (P : ℕ → Type 0) (back : Bool) (route : List ℕ) → Every P route → Every P (orReversed back route)
 every-turned P false route e = e
 every-turned P true route e = every-reverse P route e
 
-length-turned : (back : Bool) (route : List ℕ) → length (turned back route) ≡ length route
+length-turned : (back : Bool) (route : List ℕ) → length (orReversed back route) ≡ length route
 length-turned false route = refl
 length-turned true route = length-reverse route
 
-pub turned-stops : (s : List ℕ) (P : ℕ → Type 0) (back forth : Bool) (into from : List ℕ) → Stops s P into from (endToEnd back forth into from)
+pub turned-stops : (s : List ℕ) (P : ℕ → Type 0) (back forth : Bool) (into from : List ℕ) → JoinedStops s P into from (endToEnd back forth into from)
 turned-stops s P back forth into from = record {
-  counted = λ x. count-append x (turned back into) (turned forth from) ∙ omega (arith, count-turned x back into, count-turned x forth from);
-  load = load-append s (turned back into) (turned forth from) ∙ omega (arith, load-turned s back into, load-turned s forth from);
-  long = length-append (turned back into) (turned forth from) ∙ omega (arith, length-turned back into, length-turned forth from);
-  every = λ e f. every-append P (turned back into) (turned forth from) (every-turned P back into e) (every-turned P forth from f);
+  counted = λ x. count-append x (orReversed back into) (orReversed forth from) ∙ omega (arith, count-turned x back into, count-turned x forth from);
+  load = load-append s (orReversed back into) (orReversed forth from) ∙ omega (arith, load-turned s back into, load-turned s forth from);
+  long = length-append (orReversed back into) (orReversed forth from) ∙ omega (arith, length-turned back into, length-turned forth from);
+  every = λ e f. every-append P (orReversed back into) (orReversed forth from) (every-turned P back into e) (every-turned P forth from f);
 }

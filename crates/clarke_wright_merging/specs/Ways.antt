@@ -5,8 +5,8 @@ use mathlib.Core.List.{List, [], _∷_}
 use lib.ListN.{length, getD}
 use Rattle.sheet.specs.Fields.{rowsOf}
 use Rattle.clarke_wright_savings.specs.declared.terms.Directed.{Directed}
-use Rattle.clarke_wright_savings.specs.Savings.{Merge, apart, joined, routeAt, mergeOf, after}
-use Rattle.clarke_wright_savings.specs.Joined.{Slots}
+use Rattle.clarke_wright_savings.specs.Savings.{Merge, apart, joined, routeAt, mergeOf, afterMerge}
+use Rattle.clarke_wright_savings.specs.Routes.{Slots}
 use Rattle.clarke_wright_slots.specs.Slots.{endToEnd}
 use Rattle.clarke_wright_merging.specs.declared.Way.{Way}
 use Rattle.clarke_wright_merging.specs.declared.Way.the-variants.{Apart, Join}
@@ -26,9 +26,9 @@ wayOf directed iFirst iLast jFirst jLast a b =
     (cond (iFirst && jFirst) (Join a b true false) Apart))))
 
 -- the slots that a way joins
-abbrev pub Ways : List (List ℕ) → Way → Type 0
-Ways routes Apart = Unit
-Ways routes (Join into from back forth) = Slots routes into from
+abbrev pub WaySlots : List (List ℕ) → Way → Type 0
+WaySlots routes Apart = Unit
+WaySlots routes (Join into from back forth) = Slots routes into from
 
 -- legs between rows, at these places
 pub record Legs (s from to entries : List ℕ) : Type 0 where
@@ -40,4 +40,4 @@ pub record Legs (s from to entries : List ℕ) : Type 0 where
 -- the savings at these places, one after another, from where and to where the tables say
 unfoldable pub mergedIn : List ℕ → Directed → List ℕ → List ℕ → List ℕ → List (List ℕ) → List (List ℕ)
 mergedIn s t from to [] routes = routes
-mergedIn s t from to (e ∷ es) routes = mergedIn s t from to es (after routes (mergeOf s t routes (getD from e 0) (getD to e 0)))
+mergedIn s t from to (e ∷ es) routes = mergedIn s t from to es (afterMerge routes (mergeOf s t routes (getD from e 0) (getD to e 0)))

@@ -4,11 +4,11 @@ use constructive::terms::Terms;
 ghost use mathlib.Core.Path.{_≡_};
 ghost use Prim.Native.Nat.{_≤_, _<_};
 ghost use lib.ListN.{length};
-ghost use Rattle.sheet.specs.Fields.{rowsOf};
+ghost use Rattle.sheet.specs.Fields.{rowsOf, mostRows};
 ghost use Rattle.evaluation.specs.Routed.{Routed};
-ghost use Rattle.clarke_wright_savings.specs.Savings.{firstIs, lastIs, tooDear, passesSo, passing, mergeOf, after};
+ghost use Rattle.clarke_wright_savings.specs.Savings.{firstIs, lastIs, mergeTooDear, joinedPasses, passing, mergeOf, afterMerge};
 ghost use Rattle.clarke_wright_slots.specs.Slots.{slotsIn, Slotted};
-ghost use Rattle.clarke_wright_merging.specs.Ways.{meant, wayOf, Ways, Legs, mergedIn};
+ghost use Rattle.clarke_wright_merging.specs.Ways.{meant, wayOf, WaySlots, Legs, mergedIn};
 
 // Two rounds stay apart, or the first slot takes the stops of the second; then whether its own are reversed, and whether those
 // that it takes are.
@@ -62,7 +62,7 @@ fn is_too_dear(sheet: &[u8], terms: Terms, into: &[u16], from: &[u16], stops: &[
     requires { ⌜ Routed (now sheet) (terms .depot) (now into) ⌝ }
     requires { ⌜ Routed (now sheet) (terms .depot) (now from) ⌝ }
     requires { ⌜ Routed (now sheet) (terms .depot) (now stops) ⌝ }
-    ensures { λ r. ⌜ r ≡ tooDear (now (sheet .entry)) terms (now (into .entry)) (now (from .entry)) (now (stops .entry)) ⌝ }
+    ensures { λ r. ⌜ r ≡ mergeTooDear (now (sheet .entry)) terms (now (into .entry)) (now (from .entry)) (now (stops .entry)) ⌝ }
 {
     if !terms.soft {
         return false;
@@ -79,7 +79,7 @@ fn is_passed(sheet: &[u8], terms: Terms, into: &[u16], from: &[u16], stops: &[u1
     requires { ⌜ Routed (now sheet) (terms .depot) (now into) ⌝ }
     requires { ⌜ Routed (now sheet) (terms .depot) (now from) ⌝ }
     requires { ⌜ Routed (now sheet) (terms .depot) (now stops) ⌝ }
-    ensures { λ r. ⌜ r ≡ passesSo (now (sheet .entry)) terms (now (into .entry)) (now (from .entry)) (now (stops .entry)) ⌝ }
+    ensures { λ r. ⌜ r ≡ joinedPasses (now (sheet .entry)) terms (now (into .entry)) (now (from .entry)) (now (stops .entry)) ⌝ }
 {
     if !terms.constrained {
         return true;
@@ -104,17 +104,17 @@ fn merge_by(
 )
     requires { ⌜ Slotted (now sheet) count (now cells) (now lens) (now loads) (now slots) ⌝ }
     requires { ⌜ terms .depot < rowsOf (now sheet) ⌝ }
-    requires { ⌜ Ways (slotsIn count (now cells) (now lens)) way ⌝ }
-    requires { ⌜ 101 ≤ length (now trial) ⌝ }
+    requires { ⌜ WaySlots (slotsIn count (now cells) (now lens)) way ⌝ }
+    requires { ⌜ mostRows ≤ length (now trial) ⌝ }
     ensures { λ _. ⌜ Slotted (now (sheet .entry)) count (now (cells .exit)) (now (lens .exit)) (now (loads .exit)) (now (slots .exit)) ⌝ }
-    ensures { λ _. ⌜ slotsIn count (now (cells .exit)) (now (lens .exit)) ≡ after (slotsIn count (now (cells .entry)) (now (lens .entry))) (passing (now (sheet .entry)) terms (slotsIn count (now (cells .entry)) (now (lens .entry))) (meant (slotsIn count (now (cells .entry)) (now (lens .entry))) way)) ⌝ }
+    ensures { λ _. ⌜ slotsIn count (now (cells .exit)) (now (lens .exit)) ≡ afterMerge (slotsIn count (now (cells .entry)) (now (lens .entry))) (passing (now (sheet .entry)) terms (slotsIn count (now (cells .entry)) (now (lens .entry))) (meant (slotsIn count (now (cells .entry)) (now (lens .entry))) way)) ⌝ }
 {
     let Way::Join(into, from, back, forth) = way else {
         return;
     };
-    let at = 101 * into;
+    let at = sheet::MOST_ROWS * into;
     let end = at + lens[into] as usize;
-    let start = 101 * from;
+    let start = sheet::MOST_ROWS * from;
     let stop = start + lens[from] as usize;
     let n = clarke_wright_slots::join(&cells[at..end], &cells[start..stop], back, forth, trial);
     if !is_passed(
@@ -145,9 +145,9 @@ fn merge(
     requires { ⌜ Slotted (now sheet) count (now cells) (now lens) (now loads) (now slots) ⌝ }
     requires { ⌜ terms .common .depot < rowsOf (now sheet) ⌝ }
     requires { ⌜ (i < rowsOf (now sheet)) × (j < rowsOf (now sheet)) ⌝ }
-    requires { ⌜ 101 ≤ length (now trial) ⌝ }
+    requires { ⌜ mostRows ≤ length (now trial) ⌝ }
     ensures { λ _. ⌜ Slotted (now (sheet .entry)) count (now (cells .exit)) (now (lens .exit)) (now (loads .exit)) (now (slots .exit)) ⌝ }
-    ensures { λ _. ⌜ slotsIn count (now (cells .exit)) (now (lens .exit)) ≡ after (slotsIn count (now (cells .entry)) (now (lens .entry))) (mergeOf (now (sheet .entry)) terms (slotsIn count (now (cells .entry)) (now (lens .entry))) i j) ⌝ }
+    ensures { λ _. ⌜ slotsIn count (now (cells .exit)) (now (lens .exit)) ≡ afterMerge (slotsIn count (now (cells .entry)) (now (lens .entry))) (mergeOf (now (sheet .entry)) terms (slotsIn count (now (cells .entry)) (now (lens .entry))) i j) ⌝ }
 {
     let a = slots[i as usize] as usize;
     let b = slots[j as usize] as usize;
@@ -163,8 +163,8 @@ fn merge(
     if terms.common.capacity < loads[a] + loads[b] {
         return;
     }
-    let ai = 101 * a;
-    let bj = 101 * b;
+    let ai = sheet::MOST_ROWS * a;
+    let bj = sheet::MOST_ROWS * b;
     let way = way_between(
         terms.directed,
         i,
@@ -204,7 +204,7 @@ pub fn merge_all(
     requires { ⌜ Slotted (now sheet) count (now cells) (now lens) (now loads) (now slots) ⌝ }
     requires { ⌜ terms .common .depot < rowsOf (now sheet) ⌝ }
     requires { ⌜ Legs (now sheet) (now from) (now to) (now entries) ⌝ }
-    requires { ⌜ 101 ≤ length (now trial) ⌝ }
+    requires { ⌜ mostRows ≤ length (now trial) ⌝ }
     ensures { λ _. ⌜ Slotted (now (sheet .entry)) count (now (cells .exit)) (now (lens .exit)) (now (loads .exit)) (now (slots .exit)) ⌝ }
     ensures { λ _. ⌜ slotsIn count (now (cells .exit)) (now (lens .exit)) ≡ mergedIn (now (sheet .entry)) terms (now (from .entry)) (now (to .entry)) (now (entries .entry)) (slotsIn count (now (cells .entry)) (now (lens .entry))) ⌝ }
 {

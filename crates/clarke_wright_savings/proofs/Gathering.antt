@@ -11,9 +11,9 @@ use lib.Seq.{take-suc, take-all, length-take-le}
 use lib.Ieee.{Float}
 use Rattle.sheet.proofs.Cells.{square}
 use Rattle.clarke_wright_savings.specs.declared.terms.Directed.{Directed}
-use Rattle.clarke_wright_savings.specs.Savings.{Saving, savingOf, saves, kept, savingsFrom, savingsOf, numbered}
-use Rattle.clarke_wright_savings.specs.Ranked.{from-few, savings-few}
-use Rattle.clarke_wright_savings.specs.Listed.{Space, Pushed}
+use Rattle.clarke_wright_savings.specs.Savings.{Saving, savingOf, saves, keptIf, savingsFrom, savingsOf, numbered}
+use Rattle.clarke_wright_savings.specs.Laws.Ranked.{from-few, savings-few}
+use Rattle.clarke_wright_savings.specs.Listed.{Space, SavingsPushed}
 use Rattle.clarke_wright_savings.proofs.Pushing.{pushes-on}
 
 -- the tables are as long as they were, and hold the savings of the first k members from `at` to `end`
@@ -25,7 +25,7 @@ pub record Gathering (savings : List ℕ → List Saving) (members from₀ to₀
   pub saved : length values ≡ length values₀
   pub placed : length entries ≡ length entries₀
   pub full : end ≡ at + length (savings (take k members))
-  pub pushed : Pushed from₀ to₀ values₀ entries₀ at (savings (take k members)) from to values entries
+  pub pushed : SavingsPushed from₀ to₀ values₀ entries₀ at (savings (take k members)) from to values entries
 
 pub none-yet : (savings : List ℕ → List Saving) → savings [] ≡ [] → (members from to : List ℕ) (values : List Float) (entries : List ℕ) (at : ℕ)
     → Gathering savings members from to values entries at from to values entries at 0 (length members)
@@ -87,7 +87,7 @@ module _
     takes : k < last → (ys : List Saving) → savings (take (k + 1) members) ≡ savings (take k members) ++ ys
         → (from′ to′ : List ℕ) (values′ : List Float) (entries′ : List ℕ) (end′ : ℕ)
         → length from′ ≡ length from → length to′ ≡ length to → length values′ ≡ length values → length entries′ ≡ length entries
-        → end′ ≡ end + length ys → Pushed from to values entries end ys from′ to′ values′ entries′
+        → end′ ≡ end + length ys → SavingsPushed from to values entries end ys from′ to′ values′ entries′
         → Gathering savings members from₀ to₀ values₀ entries₀ at from′ to′ values′ entries′ end′ (k + 1) last
     takes h ys e from′ to′ values′ entries′ end′ f t v p n u = record {
       all = g .all;
@@ -103,7 +103,7 @@ module _
           (rw (← g .full) u));
     }
 
-    pub gathered : last ≤ k → (end ≡ at + length (savings members)) × Pushed from₀ to₀ values₀ entries₀ at (savings members) from to values entries
+    pub gathered : last ≤ k → (end ≡ at + length (savings members)) × SavingsPushed from₀ to₀ values₀ entries₀ at (savings members) from to values entries
     gathered h =
         let e : take k members ≡ members = take-all k members (omega (arith, g .all)) in
         (g .full ∙ rw e, rw e at (g .pushed))
@@ -118,7 +118,7 @@ from-append s t i [] ys = refl
 from-append s t i (j ∷ js) ys = go (saves s t i j) (from-append s t i js ys)
   where
     go : (b : Bool) → savingsFrom s t i (js ++ ys) ≡ savingsFrom s t i js ++ savingsFrom s t i ys
-        → kept b (savingOf s (t .common) i j) (savingsFrom s t i (js ++ ys)) ≡ kept b (savingOf s (t .common) i j) (savingsFrom s t i js) ++ savingsFrom s t i ys
+        → keptIf b (savingOf s (t .common) i j) (savingsFrom s t i (js ++ ys)) ≡ keptIf b (savingOf s (t .common) i j) (savingsFrom s t i js) ++ savingsFrom s t i ys
     go true e = ap (_∷_ (savingOf s (t .common) i j)) e
     go false e = e
 
@@ -162,7 +162,7 @@ module _
     pub from-takes : saves s t i other ≡ true
         → (from′ to′ : List ℕ) (values′ : List Float) (entries′ : List ℕ)
         → length from′ ≡ length from → length to′ ≡ length to → length values′ ≡ length values → length entries′ ≡ length entries
-        → Pushed from to values entries end (savingOf s (t .common) i other ∷ []) from′ to′ values′ entries′
+        → SavingsPushed from to values entries end (savingOf s (t .common) i other ∷ []) from′ to′ values′ entries′
         → Gathering (savingsFrom s t i) members from₀ to₀ values₀ entries₀ at from′ to′ values′ entries′ (end + 1) (k + 1) last
     unfolding savingsFrom
     from-takes e from′ to′ values′ entries′ f o v p u =
@@ -220,7 +220,7 @@ module _
     pub of-takes : (from′ to′ : List ℕ) (values′ : List Float) (entries′ : List ℕ) (end′ : ℕ)
         → length from′ ≡ length from → length to′ ≡ length to → length values′ ≡ length values → length entries′ ≡ length entries
         → end′ ≡ end + length (savingsFrom s t member members)
-        → Pushed from to values entries end (savingsFrom s t member members) from′ to′ values′ entries′
+        → SavingsPushed from to values entries end (savingsFrom s t member members) from′ to′ values′ entries′
         → Gathering (savingsOf s t members) members from₀ to₀ values₀ entries₀ 0 from′ to′ values′ entries′ end′ (k + 1) last
     of-takes from′ to′ values′ entries′ end′ f o v p n u =
         takes (savingsOf s t members) members from₀ to₀ values₀ entries₀ 0 from to values entries end k last g h (savingsFrom s t member members) added

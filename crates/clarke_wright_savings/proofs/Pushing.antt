@@ -9,14 +9,14 @@ use lib.ListN.{length, take, set, length-append}
 use lib.Seq.{take-suc-set}
 use lib.Ieee.{Float}
 use Rattle.clarke_wright_savings.specs.Savings.{Saving, valuesOf, numbered}
-use Rattle.clarke_wright_savings.specs.Listed.{fromsOf, tosOf, Space, Pushed}
+use Rattle.clarke_wright_savings.specs.Listed.{fromsOf, tosOf, Space, SavingsPushed}
 
 -- ---- one saving
 front-set : {A : Type 0} (xs : List A) (i : ℕ) (x : A) → i + 1 ≤ length xs → take (i + 1) (set xs i x) ≡ take i xs ++ (x ∷ [])
 front-set xs i x h = rw add-one (take-suc-set xs i x (omega (arith, h)))
 
 module _ (from to : List ℕ) (values : List Float) (entries : List ℕ) (at : ℕ) (g : Space from to values entries (at + 1)) where
-  pub pushes : (x : Saving) → Pushed from to values entries at (x ∷ []) (set from at (x .from)) (set to at (x .to)) (set values at (x .value)) (set entries at at)
+  pub pushes : (x : Saving) → SavingsPushed from to values entries at (x ∷ []) (set from at (x .from)) (set to at (x .to)) (set values at (x .value)) (set entries at at)
   unfolding numbered
   pushes x = record {
     starts = front-set from at (x .from) (g .starts);
@@ -51,17 +51,17 @@ module _
     (from′ to′ : List ℕ)
     (values′ : List Float)
     (entries′ : List ℕ)
-    (g : Pushed from to values entries at xs from′ to′ values′ entries′)
+    (g : SavingsPushed from to values entries at xs from′ to′ values′ entries′)
     (ys : List Saving)
     (from″ to″ : List ℕ)
     (values″ : List Float)
     (entries″ : List ℕ)
-    (h : Pushed from′ to′ values′ entries′ (at + length xs) ys from″ to″ values″ entries″)
+    (h : SavingsPushed from′ to′ values′ entries′ (at + length xs) ys from″ to″ values″ entries″)
   where
     many : length (xs ++ ys) ≡ length xs + length ys
     many = length-append xs ys
 
-    pub pushes-on : Pushed from to values entries at (xs ++ ys) from″ to″ values″ entries″
+    pub pushes-on : SavingsPushed from to values entries at (xs ++ ys) from″ to″ values″ entries″
     pushes-on = record {
       starts = rw (many, map-append (λ (x : Saving). x .from) xs ys) (fronts from from′ from″ (fromsOf xs) (fromsOf ys) at (length xs) (length ys) (g .starts) (h .starts));
       ends = rw (many, map-append (λ (x : Saving). x .to) xs ys) (fronts to to′ to″ (tosOf xs) (tosOf ys) at (length xs) (length ys) (g .ends) (h .ends));

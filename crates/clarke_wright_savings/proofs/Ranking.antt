@@ -11,8 +11,8 @@ use Rattle.sorting.specs.Stable.{sorted}
 use Rattle.sorting.specs.Descending.{greater, Numbers, Entries}
 use Rattle.clarke_wright_savings.specs.declared.terms.Directed.{Directed}
 use Rattle.clarke_wright_savings.specs.Savings.{Saving, savingsOf, valuesOf, numbered, ranked}
-use Rattle.clarke_wright_savings.specs.Ranked.{savings-numbers, savings-entries, savings-few}
-use Rattle.clarke_wright_savings.specs.Listed.{Pushed, Listed}
+use Rattle.clarke_wright_savings.specs.Laws.Ranked.{savings-numbers, savings-entries, savings-few}
+use Rattle.clarke_wright_savings.specs.Listed.{SavingsPushed, Listed}
 
 -- a front that is there whole lies within its table
 pub within : {A : Type 0} (n : ℕ) (xs ys : List A) → take n xs ≡ ys → length ys ≡ n → n ≤ length xs
@@ -34,7 +34,7 @@ module _
     (entries : List ℕ)
     (count : ℕ)
     (n : count ≡ length (savingsOf s t members members))
-    (p : Pushed from₀ to₀ values₀ entries₀ 0 (savingsOf s t members members) from to values entries)
+    (p : SavingsPushed from₀ to₀ values₀ entries₀ 0 (savingsOf s t members members) from to values entries)
   where
     abbrev savings : List Saving
     savings = savingsOf s t members members

@@ -1,7 +1,4 @@
 pub mod Savings
-pub mod Ranked
-pub mod Joined
+pub mod Routes
 pub mod Listed
-pub mod Permutation
-pub mod Feasible
-pub mod Cases
+pub mod Laws

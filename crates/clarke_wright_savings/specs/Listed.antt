@@ -20,7 +20,7 @@ pub record Space (from to : List ℕ) (values : List Float) (entries : List ℕ)
   pub placed : end ≤ length entries
 
 -- the tables before, how far they were filled, the savings that are added, the tables after
-pub record Pushed (from to : List ℕ) (values : List Float) (entries : List ℕ) (at : ℕ) (savings : List Saving) (from′ to′ : List ℕ) (values′ : List Float) (entries′ : List ℕ) : Type 0 where
+pub record SavingsPushed (from to : List ℕ) (values : List Float) (entries : List ℕ) (at : ℕ) (savings : List Saving) (from′ to′ : List ℕ) (values′ : List Float) (entries′ : List ℕ) : Type 0 where
   pub starts : take (at + length savings) from′ ≡ take at from ++ fromsOf savings
   pub ends : take (at + length savings) to′ ≡ take at to ++ tosOf savings
   pub saved : take (at + length savings) values′ ≡ take at values ++ valuesOf savings

@@ -53,14 +53,14 @@ paired directed i j = not (eqb j i) && (directed || not (ltb j i))
 abbrev pub saves : List ℕ → Directed → ℕ → ℕ → Bool
 saves s t i j = paired (t .directed) i j && lt nought (valueOf s (t .common) i j)
 
-abbrev pub kept : Bool → Saving → List Saving → List Saving
-kept true x xs = x ∷ xs
-kept false x xs = xs
+abbrev pub keptIf : Bool → Saving → List Saving → List Saving
+keptIf true x xs = x ∷ xs
+keptIf false x xs = xs
 
 -- of the legs from i
 unfoldable pub savingsFrom : List ℕ → Directed → ℕ → List ℕ → List Saving
 savingsFrom s t i [] = []
-savingsFrom s t i (j ∷ js) = kept (saves s t i j) (savingOf s (t .common) i j) (savingsFrom s t i js)
+savingsFrom s t i (j ∷ js) = keptIf (saves s t i j) (savingOf s (t .common) i j) (savingsFrom s t i js)
 
 -- as generated
 unfoldable pub savingsOf : List ℕ → Directed → List ℕ → List ℕ → List Saving
@@ -84,17 +84,17 @@ abbrev pub routeAt : List (List ℕ) → ℕ → List ℕ
 routeAt routes k = getD routes k []
 
 -- a stop that may make a round alone; "Capacity is tested at merges only"
-unfoldable pub goesAlone : List ℕ → Terms → ℕ → Bool
-goesAlone s t row = not (t .constrained) || routeFeasible s (t .depot) (t .limits) (row ∷ [])
+unfoldable pub startsAlone : List ℕ → Terms → ℕ → Bool
+startsAlone s t row = not (t .constrained) || routeFeasible s (t .depot) (t .limits) (row ∷ [])
 
 -- each starts on its own, or has no round
-abbrev pub lone : Bool → ℕ → List ℕ
-lone true row = row ∷ []
-lone false row = []
+abbrev pub loneRoute : Bool → ℕ → List ℕ
+loneRoute true row = row ∷ []
+loneRoute false row = []
 
 unfoldable pub startsOf : List ℕ → Terms → List ℕ → List (List ℕ)
 startsOf s t [] = []
-startsOf s t (row ∷ rows) = lone (goesAlone s t row) row ∷ startsOf s t rows
+startsOf s t (row ∷ rows) = loneRoute (startsAlone s t row) row ∷ startsOf s t rows
 
 -- the slot that holds a row; the one past them where none does
 unfoldable pub slotOf : ℕ → List (List ℕ) → ℕ
@@ -132,22 +132,22 @@ onlyIf false m = apart
 abbrev pub mayJoin : List ℕ → Terms → ℕ → ℕ → List ℕ → List ℕ → Bool
 mayJoin s t a b ri rj = not (eqb a b) && leb (loadOf s ri + loadOf s rj) (t .capacity)
 
--- "soft windows also need the added cost to be below going alone plus the fixed cost": of the slot that takes, then of the one taken
-abbrev pub tooDear : List ℕ → Terms → List ℕ → List ℕ → List ℕ → Bool
-tooDear s t into from stops =
+-- "soft windows (..) also need the added cost to be below going alone plus the fixed cost": of the slot that takes, then of the one taken
+abbrev pub mergeTooDear : List ℕ → Terms → List ℕ → List ℕ → List ℕ → Bool
+mergeTooDear s t into from stops =
     t .soft
     && le (effectiveCost s (t .depot) (t .limits) into ⊕ effectiveCost s (t .depot) (t .limits) from ⊕ t .fixed) (effectiveCost s (t .depot) (t .limits) stops)
 
 -- a round so joined may stand
-abbrev pub passesSo : List ℕ → Terms → List ℕ → List ℕ → List ℕ → Bool
-passesSo s t into from stops = not (t .constrained) || (routeFeasible s (t .depot) (t .limits) stops && not (tooDear s t into from stops))
+abbrev pub joinedPasses : List ℕ → Terms → List ℕ → List ℕ → List ℕ → Bool
+joinedPasses s t into from stops = not (t .constrained) || (routeFeasible s (t .depot) (t .limits) stops && not (mergeTooDear s t into from stops))
 
-unfoldable pub passes : List ℕ → Terms → List (List ℕ) → Merge → Bool
-passes s t routes apart = true
-passes s t routes (joined into from stops) = passesSo s t (routeAt routes into) (routeAt routes from) stops
+unfoldable pub mergePasses : List ℕ → Terms → List (List ℕ) → Merge → Bool
+mergePasses s t routes apart = true
+mergePasses s t routes (joined into from stops) = joinedPasses s t (routeAt routes into) (routeAt routes from) stops
 
 abbrev pub passing : List ℕ → Terms → List (List ℕ) → Merge → Merge
-passing s t routes m = onlyIf (passes s t routes m) m
+passing s t routes m = onlyIf (mergePasses s t routes m) m
 
 -- what becomes of the rounds of i and j, in slots a and b
 abbrev pub mergeIn : List ℕ → Directed → List (List ℕ) → ℕ → ℕ → ℕ → ℕ → Merge
@@ -158,9 +158,9 @@ mergeIn s t routes i j a b =
 unfoldable pub mergeOf : List ℕ → Directed → List (List ℕ) → ℕ → ℕ → Merge
 mergeOf s t routes i j = mergeIn s t routes i j (slotOf i routes) (slotOf j routes)
 
-abbrev pub after : List (List ℕ) → Merge → List (List ℕ)
-after routes apart = routes
-after routes (joined into from stops) = set (set routes into stops) from []
+abbrev pub afterMerge : List (List ℕ) → Merge → List (List ℕ)
+afterMerge routes apart = routes
+afterMerge routes (joined into from stops) = set (set routes into stops) from []
 
 abbrev pub noSaving : Saving
 noSaving = record { from = 0; to = 0; value = nought }
@@ -170,7 +170,7 @@ unfoldable pub mergedBy : List ℕ → Directed → List Saving → List ℕ →
 mergedBy s t savings [] routes = routes
 mergedBy s t savings (e ∷ es) routes =
     let x = getD savings e noSaving in
-    mergedBy s t savings es (after routes (mergeOf s t routes (x .from) (x .to)))
+    mergedBy s t savings es (afterMerge routes (mergeOf s t routes (x .from) (x .to)))
 
 -- ---- the outcome
 unfoldable pub roundsOf : ℕ → List (List ℕ) → List Round
@@ -179,13 +179,13 @@ roundsOf v ([] ∷ routes) = roundsOf v routes
 roundsOf v ((row ∷ rows) ∷ routes) = record { vehicle = v; stops = row ∷ rows } ∷ roundsOf v routes
 
 -- the stops that have no round: the members come ascending, and stay so
-abbrev pub unless : Bool → ℕ → List ℕ → List ℕ
-unless true row rows = rows
-unless false row rows = row ∷ rows
+abbrev pub asideUnless : Bool → ℕ → List ℕ → List ℕ
+asideUnless true row rows = rows
+asideUnless false row rows = row ∷ rows
 
 unfoldable pub asideOf : List ℕ → Terms → List ℕ → List ℕ
 asideOf s t [] = []
-asideOf s t (row ∷ rows) = unless (goesAlone s t row) row (asideOf s t rows)
+asideOf s t (row ∷ rows) = asideUnless (startsAlone s t row) row (asideOf s t rows)
 
 abbrev pub routesOf : List ℕ → Directed → List ℕ → List (List ℕ)
 routesOf s t members =

@@ -13,7 +13,7 @@ ghost use Rattle.sheet.specs.Fields.{rowsOf, tablesAt};
 ghost use Rattle.sheet.specs.Values.{distanceOf};
 ghost use Rattle.evaluation.specs.Routed.{Routed};
 ghost use Rattle.clarke_wright_savings.specs.Savings.{paired, valueOf, savingsFrom, savingsOf, ranked};
-ghost use Rattle.clarke_wright_savings.specs.Listed.{Space, Pushed, Listed};
+ghost use Rattle.clarke_wright_savings.specs.Listed.{Space, SavingsPushed, Listed};
 
 // Whether a pair is met: once, unless legs have a direction.
 fn is_paired(directed: bool, from: u16, to: u16) -> bool
@@ -72,7 +72,7 @@ fn push(
 )
     requires { ⌜ Space (now from) (now to) (now values) (now entries) (at + 1) ⌝ }
     requires { ⌜ at < 0x10000 ⌝ }
-    ensures { λ _. ⌜ Pushed (now (from .entry)) (now (to .entry)) (now (values .entry)) (now (entries .entry)) at (record { from = start; to = end; value = value } ∷ []) (now (from .exit)) (now (to .exit)) (now (values .exit)) (now (entries .exit)) ⌝ }
+    ensures { λ _. ⌜ SavingsPushed (now (from .entry)) (now (to .entry)) (now (values .entry)) (now (entries .entry)) at (record { from = start; to = end; value = value } ∷ []) (now (from .exit)) (now (to .exit)) (now (values .exit)) (now (entries .exit)) ⌝ }
 {
     from[at] = start;
     to[at] = end;
@@ -97,7 +97,7 @@ fn savings_from(
     requires { ⌜ Space (now from) (now to) (now values) (now entries) (at + length (now members)) ⌝ }
     requires { ⌜ at + length (now members) < 0x10000 ⌝ }
     ensures { λ r. ⌜ r ≡ at + length (savingsFrom (now (sheet .entry)) terms start (now (members .entry))) ⌝ }
-    ensures { λ _. ⌜ Pushed (now (from .entry)) (now (to .entry)) (now (values .entry)) (now (entries .entry)) at (savingsFrom (now (sheet .entry)) terms start (now (members .entry))) (now (from .exit)) (now (to .exit)) (now (values .exit)) (now (entries .exit)) ⌝ }
+    ensures { λ _. ⌜ SavingsPushed (now (from .entry)) (now (to .entry)) (now (values .entry)) (now (entries .entry)) at (savingsFrom (now (sheet .entry)) terms start (now (members .entry))) (now (from .exit)) (now (to .exit)) (now (values .exit)) (now (entries .exit)) ⌝ }
 {
     let tables = matrix::tables(sheet);
     let rows = sheet::rows(sheet);
@@ -131,7 +131,7 @@ fn savings_of(
     requires { ⌜ Routed (now sheet) (terms .common .depot) (now members) ⌝ }
     requires { ⌜ Space (now from) (now to) (now values) (now entries) (length (now members) * length (now members)) ⌝ }
     ensures { λ r. ⌜ r ≡ length (savingsOf (now (sheet .entry)) terms (now (members .entry)) (now (members .entry))) ⌝ }
-    ensures { λ _. ⌜ Pushed (now (from .entry)) (now (to .entry)) (now (values .entry)) (now (entries .entry)) 0 (savingsOf (now (sheet .entry)) terms (now (members .entry)) (now (members .entry))) (now (from .exit)) (now (to .exit)) (now (values .exit)) (now (entries .exit)) ⌝ }
+    ensures { λ _. ⌜ SavingsPushed (now (from .entry)) (now (to .entry)) (now (values .entry)) (now (entries .entry)) 0 (savingsOf (now (sheet .entry)) terms (now (members .entry)) (now (members .entry))) (now (from .exit)) (now (to .exit)) (now (values .exit)) (now (entries .exit)) ⌝ }
 {
     let mut end: usize = 0;
     for k in 0..members.len() {

@@ -9,8 +9,8 @@ use mathlib.Core.List.{List, [], _∷_, _++_, reverse, reverseAux, append-assoc,
 use lib.ListN.{length, getD, set, take, drop, length-append, length-drop, length-reverse, take-append-drop, drop-of-length-le}
 use lib.Seq.{length-take-le, take-all, take-suc, take-length, drop-drop, set-at}
 use Rattle.wire.specs.Bytes.{write}
-use Rattle.wire.specs.Laws.{length-write, take-write, write-write, write-byte}
-use Rattle.clarke_wright_slots.specs.Slots.{turned, endToEnd}
+use Rattle.wire.specs.Laws.Bytes.{length-write, take-write, write-write, write-byte}
+use Rattle.clarke_wright_slots.specs.Slots.{orReversed, endToEnd}
 
 -- nothing is written
 write-none : (s : List ℕ) (at : ℕ) → s ≡ write s at []
@@ -120,12 +120,12 @@ write-rest s at xs part room e =
     ap (λ (l : List ℕ). take at s ++ (part ++ l)) none ∙ ap (_++_ (take at s)) (append-nil part ∙ f)
 
 -- two rounds, one behind the other
-pub join-ends : (back forth : Bool) (into from trial trial′ part : List ℕ) → length into + length from ≤ length trial → trial′ ≡ write trial 0 (turned back into)
-    → part ≡ write (take (length trial′ - length into) (drop (length into) trial′)) 0 (turned forth from)
+pub join-ends : (back forth : Bool) (into from trial trial′ part : List ℕ) → length into + length from ≤ length trial → trial′ ≡ write trial 0 (orReversed back into)
+    → part ≡ write (take (length trial′ - length into) (drop (length into) trial′)) 0 (orReversed forth from)
     → take (length into + length from) (take (length into) trial′ ++ (part ++ drop (length trial′ - length into) (drop (length into) trial′))) ≡ endToEnd back forth into from
 join-ends back forth into from trial trial′ part room e f =
-    let xs = turned back into in
-    let ys = turned forth from in
+    let xs = orReversed back into in
+    let ys = orReversed forth from in
     let a = long back into in
     let b = long forth from in
     let c : length trial′ ≡ length trial = ap length e ∙ length-write trial 0 xs (omega arith) in
@@ -139,6 +139,6 @@ join-ends back forth into from trial trial′ part room e f =
     ∙ ap (λ (n : ℕ). take n (write trial 0 (xs ++ ys))) g
     ∙ take-write trial 0 (xs ++ ys) (omega (arith, length-append xs ys))
   where
-    long : (b : Bool) (route : List ℕ) → length (turned b route) ≡ length route
+    long : (b : Bool) (route : List ℕ) → length (orReversed b route) ≡ length route
     long false route = refl
     long true route = length-reverse route

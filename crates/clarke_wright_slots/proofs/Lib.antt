@@ -2,5 +2,5 @@ pub mod Copying
 pub mod Relabelling
 pub mod Taking
 pub mod Slotting
-pub mod Seating
+pub mod StartingRoutes
 pub mod Rounds

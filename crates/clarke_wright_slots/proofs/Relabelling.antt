@@ -10,7 +10,7 @@ use lib.ListN.{length, getD, set, take, length-set}
 use lib.Seq.{take-suc, take-length, getD-set-same, getD-set-other}
 use borrow.Author.Tests.{lt-ltb, eqb-true, eqb-false}
 use Rattle.lists.specs.Count.{one, count}
-use Rattle.lists.specs.Once.{count-append}
+use Rattle.lists.specs.Laws.Once.{count-append}
 
 abbrev pub labelled : List ℕ → List ℕ → ℕ → ℕ → ℕ
 labelled slots route slot x = cond (ltb 0 (count x route)) slot (getD slots x 0)

@@ -7,16 +7,16 @@ use mathlib.Core.List.{List, [], _∷_, _++_, append-nil}
 use lib.ListN.{length, getD, take, drop, length-drop, drop-of-length-le}
 use lib.Seq.{length-take-le, take-all, drop-drop}
 use Rattle.wire.specs.Bytes.{write}
-use Rattle.wire.specs.Laws.{length-write, write-write}
-use Rattle.wire.specs.Overwrite.{write-same}
+use Rattle.wire.specs.Laws.Bytes.{length-write, write-write}
+use Rattle.wire.specs.Laws.Overwrite.{write-same}
 use Rattle.constructive.specs.declared.tables.Filled.{Filled}
 use Rattle.constructive.specs.Outcome.{Round, Outcome, chains}
-use Rattle.constructive.specs.Laid.{endsFrom, vehiclesFrom, routedIn, filledBy, Laid}
-use Rattle.constructive.specs.Entered.{enters-one}
-use Rattle.constructive.specs.LaidLaws.{chains-aside, chains-append, length-routed, length-ends, length-vehicles}
+use Rattle.constructive.specs.Stored.{endsFrom, vehiclesFrom, routedIn, filledBy, Stored}
+use Rattle.constructive.specs.Laws.Entered.{enters-one}
+use Rattle.constructive.specs.Laws.Stored.{chains-aside, chains-append, length-routed, length-ends, length-vehicles}
 use Rattle.clarke_wright_savings.specs.Savings.{roundsOf}
-use Rattle.clarke_wright_slots.specs.Slots.{slotAt, slotsFrom, slotsIn, stopsIn, Laying}
-use Rattle.clarke_wright_slots.specs.SlotsLaws.{slots-more}
+use Rattle.clarke_wright_slots.specs.Slots.{slotAt, slotsFrom, slotsIn, routedStops, Laying}
+use Rattle.clarke_wright_slots.specs.Laws.Slots.{slots-more}
 
 -- ---- a table whose end was lent
 pub lent-long : (s : List ℕ) (at : ℕ) → length (take (length s - at) (drop at s)) ≡ length s - at
@@ -40,15 +40,15 @@ module _ (v : ℕ) where
   rounds-append ([] ∷ xs) ys = rounds-append xs ys
   rounds-append ((row ∷ rows) ∷ xs) ys = ap (_∷_ (record { vehicle = v; stops = row ∷ rows })) (rounds-append xs ys)
 
-  rounds-routed : (routes : List (List ℕ)) → routedIn (roundsOf v routes) ≡ stopsIn routes
-  unfolding roundsOf routedIn stopsIn
+  rounds-routed : (routes : List (List ℕ)) → routedIn (roundsOf v routes) ≡ routedStops routes
+  unfolding roundsOf routedIn routedStops
   rounds-routed [] = refl
   rounds-routed ([] ∷ routes) = rounds-routed routes ∙ omega arith
   rounds-routed ((row ∷ rows) ∷ routes) = ap (λ (n : ℕ). length (row ∷ rows) + n) (rounds-routed routes)
 
   -- each has a stop
-  rounds-few : (routes : List (List ℕ)) → length (roundsOf v routes) ≤ stopsIn routes
-  unfolding roundsOf stopsIn
+  rounds-few : (routes : List (List ℕ)) → length (roundsOf v routes) ≤ routedStops routes
+  unfolding roundsOf routedStops
   rounds-few [] = omega arith
   rounds-few ([] ∷ routes) = let l = rounds-few routes in omega arith
   rounds-few ((row ∷ rows) ∷ routes) = let l = rounds-few routes in omega arith
@@ -58,20 +58,20 @@ module _ (v : ℕ) where
   round-one [] h = absurd (omega (arith, h))
   round-one (row ∷ rows) h = refl
 
-stops-append : (xs ys : List (List ℕ)) → stopsIn (xs ++ ys) ≡ stopsIn xs + stopsIn ys
-unfolding stopsIn
+stops-append : (xs ys : List (List ℕ)) → routedStops (xs ++ ys) ≡ routedStops xs + routedStops ys
+unfolding routedStops
 stops-append [] ys = omega arith
 stops-append (x ∷ xs) ys = let e = stops-append xs ys in omega arith
 
 -- the slots before others have no more stops than all
-slots-below : (cells lens : List ℕ) (k m : ℕ) → stopsIn (slotsIn k cells lens) ≤ stopsIn (slotsIn (k + m) cells lens)
-slots-below cells lens k zero = let e = ap (λ (i : ℕ). stopsIn (slotsIn i cells lens)) (add-zero k) in omega (arith, e)
+slots-below : (cells lens : List ℕ) (k m : ℕ) → routedStops (slotsIn k cells lens) ≤ routedStops (slotsIn (k + m) cells lens)
+slots-below cells lens k zero = let e = ap (λ (i : ℕ). routedStops (slotsIn i cells lens)) (add-zero k) in omega (arith, e)
 slots-below cells lens k (suc m) =
     let a = slots-below cells lens k m in
-    let b = ap stopsIn (slots-more (k + m) cells lens) in
+    let b = ap routedStops (slots-more (k + m) cells lens) in
     let c = stops-append (slotsIn (k + m) cells lens) (slotAt cells lens (k + m) ∷ []) in
     let e : k + suc m ≡ k + m + 1 = omega arith in
-    let d = ap (λ (i : ℕ). stopsIn (slotsIn i cells lens)) e in
+    let d = ap (λ (i : ℕ). routedStops (slotsIn i cells lens)) e in
     omega (arith, a, b, c, d)
 
 -- ---- the rounds laid down so far
@@ -81,7 +81,7 @@ laidSo rs left = record { rounds = rs; aside = left }
 pub record Filling (n : ℕ) (cells lens : List ℕ) (v : ℕ) (stops₀ ends₀ vehicles₀ : List ℕ) (f₀ : Filled) (stops ends vehicles : List ℕ) (f : Filled) (k : ℕ) : Type 0 where
   pub room : Laying n cells lens stops₀ ends₀ vehicles₀ f₀
   pub within : k ≤ n
-  pub laid : Laid stops₀ ends₀ vehicles₀ f₀ (laidSo (roundsOf v (slotsIn k cells lens)) []) stops ends vehicles
+  pub laid : Stored stops₀ ends₀ vehicles₀ f₀ (laidSo (roundsOf v (slotsIn k cells lens)) []) stops ends vehicles
   pub count : f ≡ filledBy f₀ (roundsOf v (slotsIn k cells lens))
 
 -- nothing at first
@@ -104,15 +104,15 @@ module _ {n : ℕ} {cells lens : List ℕ} {v : ℕ} {stops₀ ends₀ vehicles�
   done = roundsOf v (slotsIn k cells lens)
 
   abbrev before : ℕ
-  before = stopsIn (slotsIn k cells lens)
+  before = routedStops (slotsIn k cells lens)
 
   abbrev all : ℕ
-  all = stopsIn (slotsIn n cells lens)
+  all = routedStops (slotsIn n cells lens)
 
   below : before ≤ all
   below =
       let e : n ≡ k + (n - k) = omega (arith, g .within) in
-      let a = ap (λ (m : ℕ). stopsIn (slotsIn m cells lens)) e in
+      let a = ap (λ (m : ℕ). routedStops (slotsIn m cells lens)) e in
       omega (arith, a, slots-below cells lens k (n - k))
 
   start-at : f .routed ≡ f₀ .routed + before
@@ -154,12 +154,12 @@ module _ {n : ℕ} {cells lens : List ℕ} {v : ℕ} {stops₀ ends₀ vehicles�
     more = ap (roundsOf v) (slots-more k cells lens) ∙ rounds-append v (slotsIn k cells lens) (route ∷ [])
 
     up-to : before + many ≤ all
-    unfolding stopsIn
+    unfolding routedStops
     up-to =
         let c = stops-append (slotsIn k cells lens) (route ∷ []) in
-        let a : stopsIn (slotsIn (k + 1) cells lens) ≡ before + many = ap stopsIn (slots-more k cells lens) ∙ omega (arith, c, long-route) in
+        let a : routedStops (slotsIn (k + 1) cells lens) ≡ before + many = ap routedStops (slots-more k cells lens) ∙ omega (arith, c, long-route) in
         let e : n ≡ k + 1 + (n - (k + 1)) = omega arith in
-        let b = ap (λ (m : ℕ). stopsIn (slotsIn m cells lens)) e in
+        let b = ap (λ (m : ℕ). routedStops (slotsIn m cells lens)) e in
         omega (arith, a, b, slots-below cells lens (k + 1) (n - (k + 1)))
 
     -- there is room for it, up to the last row
@@ -249,26 +249,26 @@ module _ {n : ℕ} {cells lens : List ℕ} {v : ℕ} {stops₀ ends₀ vehicles�
     pub ends-count : f ≡ filledBy f₀ (roundsOf v (slotsIn n cells lens))
     ends-count = g .count ∙ ap (λ (m : ℕ). filledBy f₀ (roundsOf v (slotsIn m cells lens))) through
 
-    pub ends-laid : Laid stops₀ ends₀ vehicles₀ f₀ (laidSo (roundsOf v (slotsIn n cells lens)) []) stops ends vehicles
+    pub ends-laid : Stored stops₀ ends₀ vehicles₀ f₀ (laidSo (roundsOf v (slotsIn n cells lens)) []) stops ends vehicles
     ends-laid = rw (sym through) (g .laid)
 
 -- ---- the stops set aside, behind the rounds
 module _ (v : ℕ) (routes : List (List ℕ)) (aside : List ℕ) {stops₀ ends₀ vehicles₀ : List ℕ} {f₀ : Filled} {stops ends vehicles : List ℕ} {f : Filled}
-    (laid : Laid stops₀ ends₀ vehicles₀ f₀ (laidSo (roundsOf v routes) []) stops ends vehicles) (count : f ≡ filledBy f₀ (roundsOf v routes)) (room : f₀ .routed + stopsIn routes + length aside ≤ length stops₀) where
+    (laid : Stored stops₀ ends₀ vehicles₀ f₀ (laidSo (roundsOf v routes) []) stops ends vehicles) (count : f ≡ filledBy f₀ (roundsOf v routes)) (room : f₀ .routed + routedStops routes + length aside ≤ length stops₀) where
   routed-to : f .routed ≡ f₀ .routed + length (chains (roundsOf v routes) [])
   routed-to = ap (λ (x : Filled). x .routed) count ∙ ap (λ (m : ℕ). f₀ .routed + m) (sym (length-routed (roundsOf v routes)))
 
-  long-laid : length (chains (roundsOf v routes) []) ≡ stopsIn routes
+  long-laid : length (chains (roundsOf v routes) []) ≡ routedStops routes
   long-laid = length-routed (roundsOf v routes) ∙ rounds-routed v routes
 
-  pub rounds-end : f .routed ≡ f₀ .routed + stopsIn routes
+  pub rounds-end : f .routed ≡ f₀ .routed + routedStops routes
   rounds-end = omega (arith, routed-to, long-laid)
 
   pub aside-room : f .routed + length aside ≤ length stops
   aside-room = omega (arith, rounds-end, long-laid, ap length (laid .stopped), length-write stops₀ (f₀ .routed) (chains (roundsOf v routes) []) (omega (arith, long-laid)))
 
   pub with-aside : (copied : List ℕ) → copied ≡ write (take (length stops - f .routed) (drop (f .routed) stops)) 0 aside
-      → Laid stops₀ ends₀ vehicles₀ f₀ (laidSo (roundsOf v routes) aside) (take (f .routed) stops ++ (copied ++ drop (length stops - f .routed) (drop (f .routed) stops))) ends vehicles
+      → Stored stops₀ ends₀ vehicles₀ f₀ (laidSo (roundsOf v routes) aside) (take (f .routed) stops ++ (copied ++ drop (length stops - f .routed) (drop (f .routed) stops))) ends vehicles
   with-aside copied p = record {
     stopped =
         put-back stops (f .routed) aside copied aside-room p

@@ -10,18 +10,20 @@ use lib.ListN.{length, getD, set, take, drop, length-take, length-drop, length-s
 use lib.Seq.{getD-set-same, getD-set-other, getD-take, getD-drop, ext-getD}
 use borrow.Author.Tests.{lt-ltb, ltb-true, ltb-false, eqb-true, eqb-false}
 use Rattle.lists.specs.Count.{count}
-use Rattle.lists.specs.Every.{Every, every-at}
+use Rattle.lists.specs.Every.{Every}
+use Rattle.lists.specs.Laws.Every.{every-at}
 use Rattle.wire.specs.Bytes.{write}
-use Rattle.wire.specs.Laws.{length-write, byte-before, byte-after}
-use Rattle.wire.specs.Overwrite.{part-write}
+use Rattle.wire.specs.Laws.Bytes.{length-write, byte-before, byte-after}
+use Rattle.wire.specs.Laws.Overwrite.{part-write}
 use Rattle.sheet.specs.Fields.{rowsOf}
 use Rattle.constructive.specs.Load.{loadOf}
-use Rattle.clarke_wright_savings.specs.Savings.{routeAt, slotOf, joined, after}
-use Rattle.clarke_wright_savings.specs.Joined.{Slots, Stops, every-set}
-use Rattle.clarke_wright_savings.specs.Permutation.{counted, counted-joined}
-use Rattle.clarke_wright_slots.specs.HowMany.{stops-joined}
-use Rattle.clarke_wright_slots.specs.Slots.{slotAt, slotsIn, stopsIn, Slotted, Taken}
-use Rattle.clarke_wright_slots.specs.SlotsLaws.{length-slots, slots-at, routes-same, route-few}
+use Rattle.clarke_wright_savings.specs.Savings.{routeAt, slotOf, joined, afterMerge}
+use Rattle.clarke_wright_savings.specs.Routes.{Slots, countInRoutes}
+use Rattle.clarke_wright_savings.specs.Laws.Joined.{JoinedStops, every-set}
+use Rattle.clarke_wright_savings.specs.Laws.Permutation.{counted-joined}
+use Rattle.clarke_wright_slots.specs.Laws.HowMany.{stops-joined}
+use Rattle.clarke_wright_slots.specs.Slots.{slotAt, slotsIn, routedStops, Slotted, SlotTaken}
+use Rattle.clarke_wright_slots.specs.Laws.Slots.{length-slots, slots-at, routes-same, route-few}
 
 -- ---- two places of a list set
 module _ {A : Type 0} (l : List A) (into from : ℕ) (v w : A) where
@@ -54,14 +56,14 @@ slot-same x [] (q ∷ qs) e f = absurd (omega (arith, e))
 slot-same x (r ∷ rs) [] e f = absurd (omega (arith, e))
 slot-same x (r ∷ rs) (q ∷ qs) e f = rw (f 0, slot-same x rs qs (omega (arith, e)) (λ k. f (suc k)))
 
-counted-at : (x : ℕ) (rs : List (List ℕ)) (k : ℕ) → k < length rs → count x (routeAt rs k) ≤ counted x rs
-unfolding counted
+counted-at : (x : ℕ) (rs : List (List ℕ)) (k : ℕ) → k < length rs → count x (routeAt rs k) ≤ countInRoutes x rs
+unfolding countInRoutes
 counted-at x [] k h = absurd (not-suc-le-zero h)
 counted-at x (r ∷ rs) zero h = omega arith
 counted-at x (r ∷ rs) (suc k) h = let l = counted-at x rs k (le-of-suc-le-suc h) in omega arith
 
-pub slot-once : (x : ℕ) (rs : List (List ℕ)) (k : ℕ) → k < length rs → counted x rs ≤ 1 → 0 < count x (routeAt rs k) → slotOf x rs ≡ k
-unfolding slotOf counted
+pub slot-once : (x : ℕ) (rs : List (List ℕ)) (k : ℕ) → k < length rs → countInRoutes x rs ≤ 1 → 0 < count x (routeAt rs k) → slotOf x rs ≡ k
+unfolding slotOf countInRoutes
 slot-once x [] k h o c = absurd (not-suc-le-zero h)
 slot-once x (r ∷ rs) zero h o c = rw (lt-ltb 0 (count x r) c)
 slot-once x (r ∷ rs) (suc k) h o c = let l = counted-at x rs k (le-of-suc-le-suc h) in
@@ -96,19 +98,19 @@ other-same cells into xs room h k n l p = apart-same cells (into * 101) xs room 
 -- a table of what the rounds are, slot by slot
 table-same : (f : List ℕ → ℕ) → f [] ≡ 0 → (n : ℕ) (routes : List (List ℕ)) (table : List ℕ) → length routes ≡ n → n ≤ length table → (into from : ℕ) (stops : List ℕ) → Slots routes into from
     → ((k : ℕ) → k < n → getD table k 0 ≡ f (routeAt routes k)) → (v : ℕ) → v ≡ f stops
-    → (k : ℕ) → k < n → getD (set (set table into v) from 0) k 0 ≡ f (routeAt (after routes (joined into from stops)) k)
-table-same f z n routes table e room into from stops u g v w = each-slot (λ (k : ℕ). k < n → getD (set (set table into v) from 0) k 0 ≡ f (routeAt (after routes (joined into from stops)) k)) into from
+    → (k : ℕ) → k < n → getD (set (set table into v) from 0) k 0 ≡ f (routeAt (afterMerge routes (joined into from stops)) k)
+table-same f z n routes table e room into from stops u g v w = each-slot (λ (k : ℕ). k < n → getD (set (set table into v) from 0) k 0 ≡ f (routeAt (afterMerge routes (joined into from stops)) k)) into from
     (λ h. at-into table into from v 0 0 (u .differ) (omega arith) ∙ w ∙ ap f (sym (at-into routes into from stops [] [] (u .differ) (u .into))))
     (λ h. at-from table into from v 0 0 (omega arith) ∙ sym z ∙ ap f (sym (at-from routes into from stops [] [] (u .from))))
     (λ k p q h. at-other table into from v 0 0 k p q ∙ g k h ∙ ap f (sym (at-other routes into from stops [] [] k p q)))
 
 module _ (s : List ℕ) (n : ℕ) (cells lens loads slots : List ℕ) (g : Slotted s n cells lens loads slots) (into from : ℕ) (stops : List ℕ) (u : Slots (slotsIn n cells lens) into from)
-    (k : Stops s (λ (i : ℕ). i < rowsOf s) (routeAt (slotsIn n cells lens) into) (routeAt (slotsIn n cells lens) from) stops) where
+    (k : JoinedStops s (λ (i : ℕ). i < rowsOf s) (routeAt (slotsIn n cells lens) into) (routeAt (slotsIn n cells lens) from) stops) where
   abbrev routes : List (List ℕ)
   routes = slotsIn n cells lens
 
   abbrev routes′ : List (List ℕ)
-  routes′ = after routes (joined into from stops)
+  routes′ = afterMerge routes (joined into from stops)
 
   many : length routes ≡ n
   many = length-slots n cells lens
@@ -125,13 +127,13 @@ module _ (s : List ℕ) (n : ℕ) (cells lens loads slots : List ℕ) (g : Slott
   other-at : (i : ℕ) → (i ≡ into → ⊥) → (i ≡ from → ⊥) → routeAt routes′ i ≡ routeAt routes i
   other-at i p q = at-other routes into from stops [] [] i p q
 
-  all-stops : stopsIn routes′ ≡ stopsIn routes
+  all-stops : routedStops routes′ ≡ routedStops routes
   all-stops = stops-joined routes into from stops u (k .long)
 
   few : length stops ≤ 101
   few = omega (arith, ap length into-at, route-few routes′ into, all-stops, g .routes .few)
 
-  once : (x : ℕ) → counted x routes′ ≤ 1
+  once : (x : ℕ) → countInRoutes x routes′ ≤ 1
   once x = omega (arith, counted-joined x routes into from stops u (k .counted x), g .routes .once x)
 
   rows : Every (Every (λ (i : ℕ). i < rowsOf s)) routes′
@@ -156,7 +158,7 @@ module _ (s : List ℕ) (n : ℕ) (cells lens loads slots : List ℕ) (g : Slott
           (none ∙ ap (count x) (sym from-at))
           (λ i p q. ap (count x) (sym (other-at i p q))))
 
-  module _ (cells′ lens′ loads′ slots′ : List ℕ) (known : length slots′ ≡ length slots) (t : Taken cells lens loads slots into from stops cells′ lens′ loads′ slots′) where
+  module _ (cells′ lens′ loads′ slots′ : List ℕ) (known : length slots′ ≡ length slots) (t : SlotTaken cells lens loads slots into from stops cells′ lens′ loads′ slots′) where
     room : into * 101 + length stops ≤ length cells
     room = omega (arith, few, g .room .most, g .room .celled, u .into, many)
 
@@ -217,8 +219,8 @@ module _ (s : List ℕ) (n : ℕ) (cells lens loads slots : List ℕ) (g : Slott
 -- the tables hold what the merge makes of the rounds
 pub took-over : (s : List ℕ) (n : ℕ) (cells lens loads slots : List ℕ) → Slotted s n cells lens loads slots
     → (into from : ℕ) (stops : List ℕ) → Slots (slotsIn n cells lens) into from
-    → Stops s (λ (i : ℕ). i < rowsOf s) (routeAt (slotsIn n cells lens) into) (routeAt (slotsIn n cells lens) from) stops
-    → (cells′ lens′ loads′ slots′ : List ℕ) → length slots′ ≡ length slots → Taken cells lens loads slots into from stops cells′ lens′ loads′ slots′
-    → Slotted s n cells′ lens′ loads′ slots′ × (slotsIn n cells′ lens′ ≡ after (slotsIn n cells lens) (joined into from stops))
+    → JoinedStops s (λ (i : ℕ). i < rowsOf s) (routeAt (slotsIn n cells lens) into) (routeAt (slotsIn n cells lens) from) stops
+    → (cells′ lens′ loads′ slots′ : List ℕ) → length slots′ ≡ length slots → SlotTaken cells lens loads slots into from stops cells′ lens′ loads′ slots′
+    → Slotted s n cells′ lens′ loads′ slots′ × (slotsIn n cells′ lens′ ≡ afterMerge (slotsIn n cells lens) (joined into from stops))
 took-over s n cells lens loads slots g into from stops u k cells′ lens′ loads′ slots′ known t =
     (taken-slotted s n cells lens loads slots g into from stops u k cells′ lens′ loads′ slots′ known t, taken-routes s n cells lens loads slots g into from stops u k cells′ lens′ loads′ slots′ known t)

@@ -8,7 +8,7 @@ use lib.Dec.{ltb}
 use lib.ListN.{length, getD, set, take, drop, length-take}
 use Rattle.lists.specs.Count.{count}
 use Rattle.wire.specs.Bytes.{write}
-use Rattle.clarke_wright_slots.specs.Slots.{slotAt, Taken}
+use Rattle.clarke_wright_slots.specs.Slots.{slotAt, SlotTaken}
 use Rattle.clarke_wright_slots.proofs.Copying.{write-rest}
 
 -- a slot, from where it starts to where it ends
@@ -25,7 +25,7 @@ rows-known cells lens slots from room f k h = rw (to-slot cells lens from)
 
 pub taken : (cells lens loads slots : List ℕ) (into from : ℕ) (stops part slots′ : List ℕ) → into * 101 + length stops ≤ length cells → part ≡ write (take (length cells - into * 101) (drop (into * 101) cells)) 0 stops
     → ((x : ℕ) → x < length slots → getD slots′ x 0 ≡ cond (ltb 0 (count x (slotTo cells lens from))) into (getD slots x 0))
-    → Taken cells lens loads slots into from stops (take (into * 101) cells ++ (part ++ drop (length cells - into * 101) (drop (into * 101) cells)))
+    → SlotTaken cells lens loads slots into from stops (take (into * 101) cells ++ (part ++ drop (length cells - into * 101) (drop (into * 101) cells)))
     (set (set lens into (length stops)) from 0) (set (set loads into (getD loads into 0 + getD loads from 0)) from 0) slots′
 taken cells lens loads slots into from stops part slots′ room e f = record {
   celled = write-rest cells (into * 101) stops part room e;

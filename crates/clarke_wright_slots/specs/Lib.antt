@@ -1,3 +1,2 @@
 pub mod Slots
-pub mod SlotsLaws
-pub mod HowMany
+pub mod Laws

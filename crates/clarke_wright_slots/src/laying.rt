@@ -5,9 +5,9 @@ ghost use mathlib.Core.Path.{_≡_};
 ghost use mathlib.Core.List.{[]};
 ghost use Prim.Native.Nat.{_+_, _≤_};
 ghost use lib.ListN.{length};
-ghost use Rattle.constructive.specs.Laid.{Laid, filledBy};
+ghost use Rattle.constructive.specs.Stored.{Stored, filledBy};
 ghost use Rattle.clarke_wright_savings.specs.Savings.{roundsOf};
-ghost use Rattle.clarke_wright_slots.specs.Slots.{slotsIn, stopsIn, Laying};
+ghost use Rattle.clarke_wright_slots.specs.Slots.{slotsIn, routedStops, Laying};
 
 // The slots that have stops, in order, each a round of the vehicle, behind what the tables hold.
 fn lay_slots(
@@ -22,7 +22,7 @@ fn lay_slots(
 ) -> Filled
     requires { ⌜ Laying count (now cells) (now lens) (now stops) (now ends) (now vehicles) filled ⌝ }
     ensures { λ r. ⌜ r ≡ filledBy filled (roundsOf vehicle (slotsIn count (now (cells .entry)) (now (lens .entry)))) ⌝ }
-    ensures { λ _. ⌜ Laid (now (stops .entry)) (now (ends .entry)) (now (vehicles .entry)) filled (record { rounds = roundsOf vehicle (slotsIn count (now (cells .entry)) (now (lens .entry))); aside = [] }) (now (stops .exit)) (now (ends .exit)) (now (vehicles .exit)) ⌝ }
+    ensures { λ _. ⌜ Stored (now (stops .entry)) (now (ends .entry)) (now (vehicles .entry)) filled (record { rounds = roundsOf vehicle (slotsIn count (now (cells .entry)) (now (lens .entry))); aside = [] }) (now (stops .exit)) (now (ends .exit)) (now (vehicles .exit)) ⌝ }
 {
     let mut done = filled;
     for k in 0..count {
@@ -30,7 +30,7 @@ fn lay_slots(
         if n == 0 {
             continue;
         }
-        let at = 101 * k;
+        let at = sheet::MOST_ROWS * k;
         let start = done.routed;
         crate::copy(&cells[at..at + n], &mut stops[start..]);
         done = tables::close_round(ends, vehicles, done, vehicle, start + n);
@@ -51,9 +51,9 @@ pub fn lay(
     filled: Filled,
 ) -> Filled
     requires { ⌜ Laying count (now cells) (now lens) (now stops) (now ends) (now vehicles) filled ⌝ }
-    requires { ⌜ filled .routed + stopsIn (slotsIn count (now cells) (now lens)) + length (now aside) ≤ length (now stops) ⌝ }
+    requires { ⌜ filled .routed + routedStops (slotsIn count (now cells) (now lens)) + length (now aside) ≤ length (now stops) ⌝ }
     ensures { λ r. ⌜ r ≡ filledBy filled (roundsOf vehicle (slotsIn count (now (cells .entry)) (now (lens .entry)))) ⌝ }
-    ensures { λ _. ⌜ Laid (now (stops .entry)) (now (ends .entry)) (now (vehicles .entry)) filled (record { rounds = roundsOf vehicle (slotsIn count (now (cells .entry)) (now (lens .entry))); aside = now (aside .entry) }) (now (stops .exit)) (now (ends .exit)) (now (vehicles .exit)) ⌝ }
+    ensures { λ _. ⌜ Stored (now (stops .entry)) (now (ends .entry)) (now (vehicles .entry)) filled (record { rounds = roundsOf vehicle (slotsIn count (now (cells .entry)) (now (lens .entry))); aside = now (aside .entry) }) (now (stops .exit)) (now (ends .exit)) (now (vehicles .exit)) ⌝ }
 {
     let done = lay_slots(count, cells, lens, vehicle, stops, ends, vehicles, filled);
     let end = done.routed;

@@ -9,9 +9,10 @@ ghost use mathlib.Core.List.{reverse};
 ghost use Prim.Native.Nat.{ℕ, _+_, _*_, _≤_, _<_};
 ghost use lib.Dec.{ltb};
 ghost use lib.ListN.{length, getD, take};
+ghost use Rattle.sheet.specs.Fields.{mostRows};
 ghost use Rattle.lists.specs.Count.{count};
 ghost use Rattle.wire.specs.Bytes.{write};
-ghost use Rattle.clarke_wright_slots.specs.Slots.{slotAt, Roomy, turned, endToEnd, Taken};
+ghost use Rattle.clarke_wright_slots.specs.Slots.{slotAt, Roomy, orReversed, endToEnd, SlotTaken};
 
 // Copies a round over the front of a table.
 pub fn copy(route: &[u16], to: &mut [u16])
@@ -36,7 +37,7 @@ fn copy_back(route: &[u16], to: &mut [u16])
 
 fn copy_turned(route: &[u16], back: bool, to: &mut [u16])
     requires { ⌜ length (now route) ≤ length (now to) ⌝ }
-    ensures { λ _. ⌜ now (to .exit) ≡ write (now (to .entry)) 0 (turned back (now (route .entry))) ⌝ }
+    ensures { λ _. ⌜ now (to .exit) ≡ write (now (to .entry)) 0 (orReversed back (now (route .entry))) ⌝ }
 {
     if back {
         copy_back(route, to);
@@ -80,14 +81,14 @@ pub fn take_over(
 )
     requires { ⌜ Roomy (into + 1) (now cells) (now lens) (now loads) (now slots) ⌝ }
     requires { ⌜ Roomy (from + 1) (now cells) (now lens) (now loads) (now slots) ⌝ }
-    requires { ⌜ length (now stops) ≤ 101 ⌝ }
-    requires { ⌜ getD (now lens) from 0 ≤ 101 ⌝ }
-    requires { ⌜ ((k : ℕ) → k < getD (now lens) from 0 → getD (slotAt (now cells) (now lens) from) k 0 < 101) ⌝ }
+    requires { ⌜ length (now stops) ≤ mostRows ⌝ }
+    requires { ⌜ getD (now lens) from 0 ≤ mostRows ⌝ }
+    requires { ⌜ ((k : ℕ) → k < getD (now lens) from 0 → getD (slotAt (now cells) (now lens) from) k 0 < mostRows) ⌝ }
     requires { ⌜ getD (now loads) into 0 + getD (now loads) from 0 < 0x1_0000_0000 ⌝ }
-    ensures { λ _. ⌜ Taken (now (cells .entry)) (now (lens .entry)) (now (loads .entry)) (now (slots .entry)) into from (now (stops .entry)) (now (cells .exit)) (now (lens .exit)) (now (loads .exit)) (now (slots .exit)) ⌝ }
+    ensures { λ _. ⌜ SlotTaken (now (cells .entry)) (now (lens .entry)) (now (loads .entry)) (now (slots .entry)) into from (now (stops .entry)) (now (cells .exit)) (now (lens .exit)) (now (loads .exit)) (now (slots .exit)) ⌝ }
 {
-    let at = into * 101;
-    let start = from * 101;
+    let at = into * sheet::MOST_ROWS;
+    let start = from * sheet::MOST_ROWS;
     let gone = lens[from] as usize;
     relabel(slots, &cells[start..start + gone], into as u16);
     copy(stops, &mut cells[at..]);

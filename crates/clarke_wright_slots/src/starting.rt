@@ -6,16 +6,16 @@ ghost use Prim.Native.Nat.{ℕ, _+_, _≤_, _<_};
 ghost use lib.ListN.{length, replicate, take};
 ghost use Rattle.lists.specs.Count.{count};
 ghost use Rattle.sheet.specs.Accepted.{Accepted};
-ghost use Rattle.sheet.specs.Fields.{rowsOf};
+ghost use Rattle.sheet.specs.Fields.{rowsOf, mostRows};
 ghost use Rattle.evaluation.specs.Routed.{Routed};
-ghost use Rattle.clarke_wright_savings.specs.Savings.{goesAlone, startsOf, asideOf};
-ghost use Rattle.clarke_wright_slots.specs.Slots.{slotsIn, Roomy, Slotted, Seated};
+ghost use Rattle.clarke_wright_savings.specs.Savings.{startsAlone, startsOf, asideOf};
+ghost use Rattle.clarke_wright_slots.specs.Slots.{slotsIn, Roomy, Slotted, RouteStarted};
 
 // Whether a stop may make a round alone; its load is not asked.
-fn goes_alone(sheet: &[u8], terms: Terms, row: u16) -> bool
+fn starts_alone(sheet: &[u8], terms: Terms, row: u16) -> bool
     requires { ⌜ Accepted (now sheet) ⌝ }
     requires { ⌜ (terms .depot < rowsOf (now sheet)) × (row < rowsOf (now sheet)) ⌝ }
-    ensures { λ r. ⌜ r ≡ goesAlone (now (sheet .entry)) terms row ⌝ }
+    ensures { λ r. ⌜ r ≡ startsAlone (now (sheet .entry)) terms row ⌝ }
 {
     if !terms.constrained {
         return true;
@@ -34,7 +34,7 @@ fn fill(slots: &mut [u16], value: u16)
 }
 
 // A slot with one stop.
-fn seat(
+fn start_route(
     sheet: &[u8],
     row: u16,
     slot: usize,
@@ -46,9 +46,9 @@ fn seat(
     requires { ⌜ Accepted (now sheet) ⌝ }
     requires { ⌜ row < rowsOf (now sheet) ⌝ }
     requires { ⌜ Roomy (slot + 1) (now cells) (now lens) (now loads) (now slots) ⌝ }
-    ensures { λ _. ⌜ Seated (now (sheet .entry)) row slot (now (cells .entry)) (now (lens .entry)) (now (loads .entry)) (now (slots .entry)) (now (cells .exit)) (now (lens .exit)) (now (loads .exit)) (now (slots .exit)) ⌝ }
+    ensures { λ _. ⌜ RouteStarted (now (sheet .entry)) row slot (now (cells .entry)) (now (lens .entry)) (now (loads .entry)) (now (slots .entry)) (now (cells .exit)) (now (lens .exit)) (now (loads .exit)) (now (slots .exit)) ⌝ }
 {
-    cells[101 * slot] = row;
+    cells[sheet::MOST_ROWS * slot] = row;
     lens[slot] = 1;
     loads[slot] = customer::demand(sheet, row as usize);
     slots[row as usize] = slot as u16;
@@ -68,7 +68,7 @@ pub fn start(
     requires { ⌜ Routed (now sheet) (terms .depot) (now members) ⌝ }
     requires { ⌜ ((x : ℕ) → count x (now members) ≤ 1) ⌝ }
     requires { ⌜ Roomy (length (now members)) (now cells) (now lens) (now loads) (now slots) ⌝ }
-    requires { ⌜ 101 ≤ length (now aside) ⌝ }
+    requires { ⌜ mostRows ≤ length (now aside) ⌝ }
     ensures { λ r. ⌜ r ≡ length (asideOf (now (sheet .entry)) terms (now (members .entry))) ⌝ }
     ensures { λ r. ⌜ take r (now (aside .exit)) ≡ asideOf (now (sheet .entry)) terms (now (members .entry)) ⌝ }
     ensures { λ _. ⌜ Slotted (now (sheet .entry)) (length (now (members .entry))) (now (cells .exit)) (now (lens .exit)) (now (loads .exit)) (now (slots .exit)) ⌝ }
@@ -79,8 +79,8 @@ pub fn start(
     let mut end: usize = 0;
     for k in 0..count {
         let row = members[k];
-        if goes_alone(sheet, terms, row) {
-            seat(sheet, row, k, cells, lens, loads, slots);
+        if starts_alone(sheet, terms, row) {
+            start_route(sheet, row, k, cells, lens, loads, slots);
             continue;
         }
         lens[k] = 0;

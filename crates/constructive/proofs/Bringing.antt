@@ -6,7 +6,7 @@ use mathlib.Core.List.{List, [], _∷_, _++_}
 use lib.ListN.{length, getD, set, take, drop, length-drop, take-append-drop}
 use lib.Seq.{length-take-le, take-suc, getD-drop}
 use Rattle.wire.specs.Bytes.{write}
-use Rattle.wire.specs.Laws.{length-write, byte-after, write-write, write-byte}
+use Rattle.wire.specs.Laws.Bytes.{length-write, byte-after, write-write, write-byte}
 
 -- what stands from `to` on in the end, before the stop brought there is taken out of its old place
 abbrev pub moved : List ℕ → ℕ → ℕ → List ℕ

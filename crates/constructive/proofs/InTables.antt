@@ -8,7 +8,7 @@ use lib.ListN.{length, take, drop, getD, length-take, length-drop}
 use lib.Seq.{getD-take, getD-drop}
 use Rattle.sheet.specs.Fields.{rowsOf, vehiclesOf}
 use Rattle.sheet.specs.Accepted.{Accepted}
-use Rattle.sheet.specs.Depots.{depots-few}
+use Rattle.sheet.specs.Laws.Depots.{depots-few}
 use Rattle.sheet.specs.Values.{vehicleOf}
 use Rattle.constructive.specs.Outcome.{roundsIn, startIn}
 use Rattle.constructive.specs.Tables.{RoundOf, RoundsOf, Tables}

@@ -10,7 +10,7 @@ use Rattle.lists.specs.Every.{Every}
 use Rattle.sheet.specs.Fields.{rowsOf}
 use Rattle.sheet.specs.Values.{demandOf}
 use Rattle.sheet.specs.Accepted.{Accepted}
-use Rattle.sheet.specs.Finite.{demand-bounded}
+use Rattle.sheet.specs.Laws.Finite.{demand-bounded}
 use Rattle.evaluation.specs.Routed.{Routed}
 use Rattle.constructive.specs.Load.{loadOf}
 

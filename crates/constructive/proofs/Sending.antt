@@ -6,7 +6,7 @@ use mathlib.Core.List.{List, [], _∷_, _++_}
 use lib.ListN.{length, getD, set, take, drop, length-drop, take-append-drop}
 use lib.Seq.{length-take-le, take-suc, getD-drop, take-length}
 use Rattle.wire.specs.Bytes.{write}
-use Rattle.wire.specs.Laws.{length-write, byte-after, write-write, write-byte}
+use Rattle.wire.specs.Laws.Bytes.{length-write, byte-after, write-write, write-byte}
 
 pub record Sending (stops₀ : List ℕ) (from : ℕ) (stops : List ℕ) (i end : ℕ) : Type 0 where
   pub inside : from < length stops₀

@@ -1,26 +1,9 @@
--- What the stops of a round ask of a vehicle. Assumes nothing.
-use mathlib.Core.Path.{_≡_, ap}
+-- What the stops of a round ask of a vehicle.
 use Prim.Native.Nat.{ℕ, _+_}
-use native.Mathlib.Omega.{arith}
-use mathlib.Core.List.{List, [], _∷_, _++_}
-use lib.ListN.{take, drop, take-append-drop}
-use Rattle.lists.specs.Moved.{inserted}
+use mathlib.Core.List.{List, [], _∷_}
 use Rattle.sheet.specs.Values.{demandOf}
 
 -- the demands of its stops, summed
 unfoldable pub loadOf : List ℕ → List ℕ → ℕ
 loadOf s [] = 0
 loadOf s (i ∷ is) = demandOf s i + loadOf s is
-
-pub load-append : (s xs ys : List ℕ) → loadOf s (xs ++ ys) ≡ loadOf s xs + loadOf s ys
-unfolding loadOf
-load-append s [] ys = omega arith
-load-append s (i ∷ is) ys = let e = load-append s is ys in omega arith
-
-pub inserted-load : (k row : ℕ) (route s : List ℕ) → loadOf s (inserted k row route) ≡ loadOf s route + demandOf s row
-unfolding loadOf
-inserted-load k row route s =
-    let a = load-append s (take k route) (row ∷ drop k route) in
-    let b = load-append s (take k route) (drop k route) in
-    let e = ap (loadOf s) (take-append-drop k route) in
-    omega (arith, a, b, e)

@@ -4,7 +4,7 @@ use mathlib.Core.List.{List}
 use lib.ListN.{length, getD, take, drop}
 use lib.Dec.{eqb}
 use mathlib.Core.Path.{_≡_}
-use Rattle.sheet.specs.Fields.{vehiclesOf, rowsOf}
+use Rattle.sheet.specs.Fields.{vehiclesOf, rowsOf, mostRows}
 use Rattle.sheet.specs.Accepted.{Accepted}
 use Rattle.sheet.specs.Stops.{stopsWith}
 use Rattle.evaluation.specs.Routed.{Routed}
@@ -17,7 +17,7 @@ part table start end = take (end - start) (drop start table)
 pub record Members (s : List ℕ) (depot : ℕ) (stops : List ℕ) (start total : ℕ) : Type 0 where
   pub routed : Routed s depot (part stops start total)
   pub from : start ≤ total
-  pub most : total ≤ 101
+  pub most : total ≤ mostRows
   pub within : total ≤ length stops
 
 -- vehicles of the sheet, by their index

@@ -12,6 +12,9 @@ pub record Outcome : Type 0 where
   pub rounds : List Round
   pub aside : List ℕ
 
+abbrev pub emptyOutcome : Outcome
+emptyOutcome = record { rounds = []; aside = [] }
+
 -- The tables that an outcome is written in: the rounds' stops one after another, then those set aside; where each round ends; its vehicle.
 -- the n rounds from the k-th on, the first of which starts at `start`
 unfoldable pub roundsIn : List ℕ → List ℕ → List ℕ → ℕ → ℕ → ℕ → List Round

@@ -2,7 +2,7 @@
 use Prim.Native.Nat.{ℕ, _≤_, _<_}
 use mathlib.Core.List.{List, [], _∷_}
 use lib.ListN.{length, getD}
-use Rattle.sheet.specs.Fields.{rowsOf, vehiclesOf}
+use Rattle.sheet.specs.Fields.{rowsOf, vehiclesOf, mostRows}
 use Rattle.sheet.specs.Accepted.{Accepted}
 use Rattle.sheet.specs.Values.{vehicleOf}
 use Rattle.evaluation.specs.Routed.{Routed}
@@ -15,7 +15,7 @@ pub record Tables (s stops ends vehicles : List ℕ) (n total : ℕ) : Type 0 wh
   pub ended : n ≤ length ends
   pub fleet : n ≤ length vehicles
   pub all : total ≤ length stops
-  pub most : total ≤ 101
+  pub most : total ≤ mostRows
   pub ascending : (k : ℕ) → k < n → startIn ends k ≤ getD ends k 0
   pub within : (k : ℕ) → k < n → getD ends k 0 ≤ total
   pub row : (i : ℕ) → i < total → getD stops i 0 < rowsOf s

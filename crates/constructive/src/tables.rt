@@ -3,6 +3,7 @@ ghost use mathlib.Core.Path.{_≡_};
 ghost use mathlib.Core.List.{[], _∷_, _++_};
 ghost use Prim.Native.Nat.{_+_, _-_, _≤_, _<_};
 ghost use lib.ListN.{length, getD, take, drop};
+ghost use Rattle.sheet.specs.Fields.{mostRows};
 ghost use Rattle.wire.specs.Bytes.{write};
 ghost use Rattle.constructive.specs.Outcome.{startIn};
 
@@ -21,7 +22,7 @@ pub fn close_round(
     end: usize,
 ) -> Filled
     requires { ⌜ (filled .rounds < length (now ends)) × (filled .rounds < length (now vehicles)) ⌝ }
-    requires { ⌜ end ≤ 101 ⌝ }
+    requires { ⌜ end ≤ mostRows ⌝ }
     ensures { λ r. ⌜ r ≡ record { rounds = filled .rounds + 1; routed = end } ⌝ }
     ensures { λ _. ⌜ (now (ends .exit) ≡ write (now (ends .entry)) (filled .rounds) (end ∷ [])) × (now (vehicles .exit) ≡ write (now (vehicles .entry)) (filled .rounds) (index ∷ [])) ⌝ }
 {

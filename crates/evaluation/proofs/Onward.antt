@@ -6,12 +6,12 @@ use mathlib.Core.Bool.{false}
 use mathlib.Core.List.{List}
 use lib.ListN.{length, drop, getD}
 use lib.Ieee.{Float}
-use Rattle.lists.specs.Fold.{fold-turn, fold-done}
+use Rattle.lists.specs.Laws.Fold.{fold-turn, fold-done}
 use Rattle.sheet.specs.Fields.{rowsOf}
 use Rattle.sheet.specs.Values.{nought, distanceOf, timeOf}
 use Rattle.sheet.specs.declared.vehicle.VehicleBreak.{VehicleBreak}
 use Rattle.sheet.specs.declared.vehicle.Rest.the-variants.{Required}
-use Rattle.evaluation.specs.declared.clock.Scheduled.the-variants.{Unlawful}
+use Rattle.evaluation.specs.declared.clock.Scheduled.the-variants.{NotFound}
 use Rattle.evaluation.specs.declared.clock.BreakClock.{BreakClock}
 use Rattle.evaluation.specs.declared.clock.Pushed.{Pushed}
 use Rattle.evaluation.specs.Sums.{_⊕_}
@@ -84,7 +84,7 @@ module _ (s route : List ℕ) (depot : ℕ) (b : VehicleBreak) (c₀ : BreakCloc
   unfolding scheduledOf
   began = ap (λ (c : BreakClock). homeFrom s depot (walkedOver s (positionAt c nought) route)) e
 
-  pub gone : aliveOf (walkedOver s (positionAt c₀ nought) route .clock) ≡ false → Unlawful ≡ scheduledOf s depot (Required b) route
+  pub gone : aliveOf (walkedOver s (positionAt c₀ nought) route .clock) ≡ false → NotFound ≡ scheduledOf s depot (Required b) route
   gone d = sym (dead-home s depot (walkedOver s (positionAt c₀ nought) route) d) ∙ began
 
   pub home : (c : BreakClock) (distance : Float) → walkedOver s (positionAt c₀ nought) route ≡ positionAt c distance

@@ -7,7 +7,7 @@ use mathlib.Core.Bool.{Bool, true, false, cond}
 use mathlib.Core.List.{List}
 use lib.ListN.{length, drop, getD}
 use lib.Ieee.{Float}
-use Rattle.lists.specs.Fold.{fold-turn, fold-done}
+use Rattle.lists.specs.Laws.Fold.{fold-turn, fold-done}
 use Rattle.sheet.specs.Fields.{rowsOf}
 use Rattle.sheet.specs.Values.{stopOf, distanceOf, timeOf}
 use Rattle.sheet.specs.declared.customer.Gate.{Gate}

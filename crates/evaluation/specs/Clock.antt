@@ -15,7 +15,7 @@ use Rattle.evaluation.specs.declared.label.Served.{Served}
 use Rattle.evaluation.specs.declared.label.Served.the-variants.{Done, Refused}
 use Rattle.evaluation.specs.declared.clock.Schedule.{Schedule}
 use Rattle.evaluation.specs.declared.clock.Scheduled.{Scheduled}
-use Rattle.evaluation.specs.declared.clock.Scheduled.the-variants.{Lawful, Unlawful}
+use Rattle.evaluation.specs.declared.clock.Scheduled.the-variants.{Found, NotFound}
 use Rattle.evaluation.specs.declared.clock.BreakClock.{BreakClock}
 use Rattle.evaluation.specs.declared.clock.Pushed.{Pushed}
 use Rattle.evaluation.specs.Sums.{_⊕_}
@@ -33,14 +33,14 @@ stepRested (Done l) travel s place b = serveRested l travel s place b
 stepRested Refused travel s place b = Refused
 
 -- "Of two rested labels the smaller time wins, then the smaller lateness cost, then the one carried": whether y wins over a carried x
-abbrev pub ahead : Label → Label → Bool
-ahead y x = lt (y .time) (x .time) || (eq (y .time) (x .time) && lt (y .«lateness_cost») (x .«lateness_cost»))
+abbrev pub winsOver : Label → Label → Bool
+winsOver y x = lt (y .time) (x .time) || (eq (y .time) (x .time) && lt (y .«lateness_cost») (x .«lateness_cost»))
 
 -- the rested label that is kept
 unfoldable pub earlierOf : Served → Served → Served
 earlierOf Refused here = here
 earlierOf (Done x) Refused = Done x
-earlierOf (Done x) (Done y) = cond (ahead y x) (Done y) (Done x)
+earlierOf (Done x) (Done y) = cond (winsOver y x) (Done y) (Done x)
 
 -- the label with the rest taken: before, or here. A vehicle without a rest has none.
 unfoldable pub takenOf : Rest → Served → Served → Float → Stop → ℕ → Served
@@ -84,8 +84,8 @@ aliveOf c = served (c .before) || served (c .after)
 
 -- ---- home
 -- "Duration is the last departure plus the time home, distance the sum of all legs."
-abbrev pub homeOf : Label → Float → Float → RestAnswer → Schedule
-homeOf l distance back rest = record {
+abbrev pub homeSchedule : Label → Float → Float → RestAnswer → Schedule
+homeSchedule l distance back rest = record {
   distance = distance;
   duration = l .time ⊕ back;
   lateness = l .lateness;
@@ -95,17 +95,17 @@ homeOf l distance back rest = record {
 
 -- with no rest taken
 unfoldable pub unrested : Served → Float → Float → Scheduled
-unrested (Done l) distance back = Lawful (homeOf l distance back NoRest)
-unrested Refused distance back = Unlawful
+unrested (Done l) distance back = Found (homeSchedule l distance back NoRest)
+unrested Refused distance back = NotFound
 
 -- with the rest taken: "No rest stands on the way home"
 unfoldable pub endOf : Served → Float → Float → Scheduled
-endOf (Done l) distance back = Lawful (homeOf l distance back (l .rest))
-endOf Refused distance back = Unlawful
+endOf (Done l) distance back = Found (homeSchedule l distance back (l .rest))
+endOf Refused distance back = NotFound
 
 -- "No rest is needed if the unrested return is ≤ earliest."
 unfoldable pub homeward : VehicleBreak → Served → Served → Float → Float → Scheduled
-homeward b (Done l) after distance back = cond (le (l .time ⊕ back) (b .earliest)) (Lawful (homeOf l distance back NoRest)) (endOf after distance back)
+homeward b (Done l) after distance back = cond (le (l .time ⊕ back) (b .earliest)) (Found (homeSchedule l distance back NoRest)) (endOf after distance back)
 homeward b Refused after distance back = endOf after distance back
 
 unfoldable pub returned : Rest → Served → Served → Float → Float → Scheduled

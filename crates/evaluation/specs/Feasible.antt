@@ -10,7 +10,7 @@ use Rattle.evaluation.specs.declared.RouteEval.the-variants.{Allowed, No
 use Rattle.evaluation.specs.Sums.{_⊕_}
 use Rattle.evaluation.specs.Verdict.{isFeasible, evalOf, verdictOn}
 
--- the verdict that "a place for a stop is lawful" asks for; the lateness that the walk sums on the way does not enter it
+-- "`route_feasible` passes the round"; the lateness that the walk sums on the way does not enter it
 unfoldable pub routeFeasible : List ℕ → ℕ → RouteLimits → List ℕ → Bool
 routeFeasible s depot limits route = isFeasible (verdictOn s depot limits route)
 

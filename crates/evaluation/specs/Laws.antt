@@ -1,3 +1,5 @@
 pub mod Limits
 pub mod Walk
 pub mod Verdict
+pub mod Bounds
+pub mod Finite

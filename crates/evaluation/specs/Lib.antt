@@ -9,5 +9,3 @@ pub mod Verdict
 pub mod Feasible
 pub mod Checks
 pub mod Laws
-pub mod Bounds
-pub mod Finite

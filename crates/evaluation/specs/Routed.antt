@@ -2,7 +2,7 @@
 use Prim.Native.Nat.{ℕ, _≤_, _<_}
 use mathlib.Core.List.{List}
 use lib.ListN.{length, getD}
-use Rattle.sheet.specs.Fields.{rowsOf}
+use Rattle.sheet.specs.Fields.{rowsOf, mostRows}
 use Rattle.sheet.specs.Accepted.{Accepted}
 use Rattle.evaluation.specs.declared.clock.BreakClock.{BreakClock}
 
@@ -10,7 +10,7 @@ use Rattle.evaluation.specs.declared.clock.BreakClock.{BreakClock}
 pub record Routed (s : List ℕ) (depot : ℕ) (route : List ℕ) : Type 0 where
   pub sheet : Accepted s
   pub home : depot < rowsOf s
-  pub few : length route ≤ 101
+  pub few : length route ≤ mostRows
   pub row : (k : ℕ) → k < length route → getD route k 0 < rowsOf s
 
 -- a clock at a row of an accepted sheet, with room to count its next stop

@@ -9,7 +9,7 @@ use Rattle.evaluation.specs.declared.label.RestAnswer.{RestAnswer}
 use Rattle.evaluation.specs.declared.label.RestAnswer.the-variants.{NoRest}
 use Rattle.evaluation.specs.declared.clock.Schedule.{Schedule}
 use Rattle.evaluation.specs.declared.clock.Scheduled.{Scheduled}
-use Rattle.evaluation.specs.declared.clock.Scheduled.the-variants.{Lawful, Unlawful}
+use Rattle.evaluation.specs.declared.clock.Scheduled.the-variants.{Found, NotFound}
 use Rattle.evaluation.specs.declared.limits.RouteLimits.{RouteLimits}
 use Rattle.evaluation.specs.declared.RouteEval.{RouteEval}
 use Rattle.evaluation.specs.declared.RouteEval.the-variants.{Allowed, NotAllowed}
@@ -26,8 +26,8 @@ pub data Verdict : Type 0 where
 
 -- "and both maxima are kept"
 unfoldable pub heldTo : RouteLimits → Scheduled → Verdict
-heldTo limits (Lawful k) = cond (allowOf limits (k .distance) (k .duration)) (allowed k) (overLimit k)
-heldTo limits Unlawful = noSchedule
+heldTo limits (Found k) = cond (allowOf limits (k .distance) (k .duration)) (allowed k) (overLimit k)
+heldTo limits NotFound = noSchedule
 
 -- on a clock brought home, with `distance` driven in all and `back` the time of the way home
 unfoldable pub verdictOf : RouteLimits → Clock → Float → Float → Verdict
@@ -54,7 +54,7 @@ evalOf (overLimit k) = NotAllowed
 evalOf noSchedule = NotAllowed
 
 -- where the schedule puts the rest; a round without a schedule has none
-abbrev pub answerOf : Verdict → RestAnswer
-answerOf (allowed k) = k .rest
-answerOf (overLimit k) = k .rest
-answerOf noSchedule = NoRest
+abbrev pub placedRest : Verdict → RestAnswer
+placedRest (allowed k) = k .rest
+placedRest (overLimit k) = k .rest
+placedRest noSchedule = NoRest

@@ -14,7 +14,7 @@ ghost use Rattle.sheet.specs.Fields.{rowsOf};
 ghost use Rattle.evaluation.specs.Routed.{Clocked};
 ghost use Rattle.sheet.specs.Values.{timeOf};
 ghost use Rattle.sheet.specs.declared.vehicle.Rest.the-variants.{Required};
-ghost use Rattle.evaluation.specs.Clock.{takenOf, started, movedOf, nextOf, aliveOf, homeOf, endOf, finishOf, clockOf, breakClock, nextBy, pushedOf};
+ghost use Rattle.evaluation.specs.Clock.{takenOf, started, movedOf, nextOf, aliveOf, homeSchedule, endOf, finishOf, clockOf, breakClock, nextBy, pushedOf};
 ghost use Rattle.evaluation.specs.Verdict.{heldTo, verdictOf, isFeasible};
 
 // What a round comes to, depot to depot.
@@ -27,8 +27,8 @@ pub struct Schedule {
 }
 
 pub enum Scheduled {
-    Lawful(Schedule),
-    Unlawful,
+    Found(Schedule),
+    NotFound,
 }
 
 pub struct BreakClock {
@@ -46,7 +46,7 @@ pub struct Pushed {
 
 // The label back at the depot.
 pub fn home(label: Label, distance: f64, back: f64, rest: RestAnswer) -> Schedule
-    ensures { λ r. ⌜ r ≡ homeOf label distance back rest ⌝ }
+    ensures { λ r. ⌜ r ≡ homeSchedule label distance back rest ⌝ }
 {
     Schedule {
         distance,
@@ -63,9 +63,9 @@ fn ended(after: Served, distance: f64, back: f64) -> Scheduled
     match after {
         Served::Done(l) => {
             let rest = l.rest;
-            Scheduled::Lawful(home(l, distance, back, rest))
+            Scheduled::Found(home(l, distance, back, rest))
         }
-        Served::Refused => Scheduled::Unlawful,
+        Served::Refused => Scheduled::NotFound,
     }
 }
 
@@ -227,7 +227,7 @@ impl BreakClock {
         match before {
             Served::Done(l) => {
                 if l.time + back <= self.rest.earliest {
-                    return Scheduled::Lawful(home(l, distance, back, RestAnswer::NoRest));
+                    return Scheduled::Found(home(l, distance, back, RestAnswer::NoRest));
                 }
                 ended(after, distance, back)
             }

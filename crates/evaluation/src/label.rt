@@ -161,8 +161,8 @@ pub fn step_rested(from: Served, travel: f64, stop: Stop, place: u16, rest: Vehi
 }
 
 // Whether a label is preferred to one that is carried.
-fn ahead(y: Label, x: Label) -> bool
-    ensures { λ r. ⌜ r ≡ Rattle.evaluation.specs.Clock.ahead y x ⌝ }
+fn wins_over(y: Label, x: Label) -> bool
+    ensures { λ r. ⌜ r ≡ Rattle.evaluation.specs.Clock.winsOver y x ⌝ }
 {
     if y.time < x.time {
         return true;
@@ -186,7 +186,7 @@ pub fn earlier(carried: Served, here: Served) -> Served
         Served::Done(x) => match here {
             Served::Refused => Served::Done(leaving(x, x.time)),
             Served::Done(y) => {
-                if ahead(y, x) {
+                if wins_over(y, x) {
                     return Served::Done(leaving(y, y.time));
                 }
                 Served::Done(leaving(x, x.time))

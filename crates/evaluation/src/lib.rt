@@ -26,13 +26,13 @@ pub fn eval_by(limits: RouteLimits, scheduled: Scheduled) -> RouteEval
     ensures { λ r. ⌜ r ≡ evalOf (heldTo limits scheduled) ⌝ }
 {
     match scheduled {
-        Scheduled::Lawful(s) => {
+        Scheduled::Found(s) => {
             if limits.allow(s.distance, s.duration) {
                 return RouteEval::Allowed(s);
             }
             RouteEval::NotAllowed
         }
-        Scheduled::Unlawful => RouteEval::NotAllowed,
+        Scheduled::NotFound => RouteEval::NotAllowed,
     }
 }
 

@@ -26,14 +26,14 @@ pub fn walk(sheet: &[u8], route: &[u16], depot: usize) -> Scheduled
         distance = distance + matrix::distance(sheet, prev, row);
         let travel = matrix::travel_time(sheet, prev, row);
         let Served::Done(next) = label::serve(label, travel, customer::stop_at(sheet, row)) else {
-            return Scheduled::Unlawful;
+            return Scheduled::NotFound;
         };
         label = next;
         prev = row;
     }
     distance = distance + matrix::distance(sheet, prev, depot);
     let back = matrix::travel_time(sheet, prev, depot);
-    Scheduled::Lawful(clock::home(label, distance, back, RestAnswer::NoRest))
+    Scheduled::Found(clock::home(label, distance, back, RestAnswer::NoRest))
 }
 
 // With a rest, for as long as the clock is alive.
@@ -48,7 +48,7 @@ pub fn schedule(sheet: &[u8], route: &[u16], depot: usize, rest: VehicleBreak) -
         distance = distance + matrix::distance(sheet, clock.prev, row);
         let pushed = clock.pushed(sheet, row);
         if !pushed.alive {
-            return Scheduled::Unlawful;
+            return Scheduled::NotFound;
         }
         clock = pushed.clock;
     }

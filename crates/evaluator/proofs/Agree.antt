@@ -14,12 +14,12 @@ use Rattle.sheet.specs.declared.vehicle.Rest.{Rest}
 use Rattle.sheet.specs.declared.vehicle.Rest.the-variants.{NoRest as Unrested, Required}
 use Rattle.evaluation.specs.Sums.{_⊕_}
 use Rattle.evaluation.specs.Window.{violatedOf}
-use Rattle.evaluation.specs.Verdict.{heldTo, verdictOn, answerOf}
+use Rattle.evaluation.specs.Verdict.{heldTo, verdictOn, placedRest}
 use Rattle.evaluation.specs.Feasible.{routeEval}
 use Rattle.evaluation.specs.declared.limits.RouteLimits.{RouteLimits}
 use Rattle.evaluation.specs.declared.RouteEval.the-variants.{Allowed}
 use Rattle.evaluation.specs.Serve.{pass, leavingAt, departureOf, laterOf, restedAt, serveOf, serveRested}
-use Rattle.evaluation.specs.Clock.{Clock, stepOf, stepRested, ahead, earlierOf, takenOf, movedOf, homeOf, unrested, endOf, homeward, returned}
+use Rattle.evaluation.specs.Clock.{Clock, stepOf, stepRested, winsOver, earlierOf, takenOf, movedOf, homeSchedule, unrested, endOf, homeward, returned}
 use Rattle.evaluation.specs.declared.label.Label.{Label}
 use Rattle.evaluation.specs.declared.label.RestAnswer.{RestAnswer}
 use Rattle.evaluation.specs.declared.label.RestAnswer.the-variants.{NoRest, Before}
@@ -27,7 +27,7 @@ use Rattle.evaluation.specs.declared.label.Served.{Served}
 use Rattle.evaluation.specs.declared.label.Served.the-variants.{Done, Refused}
 use Rattle.evaluation.specs.declared.clock.Schedule.{Schedule}
 use Rattle.evaluation.specs.declared.clock.Scheduled.{Scheduled}
-use Rattle.evaluation.specs.declared.clock.Scheduled.the-variants.{Lawful, Unlawful}
+use Rattle.evaluation.specs.declared.clock.Scheduled.the-variants.{Found, NotFound}
 use Rattle.evaluation.specs.Walk.{Position, startAt, driveTo, walkedOver, homeFrom, scheduledOf}
 use Rattle.evaluation.specs.Laws.Walk.{unrested-answer}
 use Rattle.evaluation.specs.Laws.Verdict.{verdict-scheduled, allowed-figures, held-rest}
@@ -107,7 +107,7 @@ either : (P : Label → Type 0) (x y : Served) → IfDone P x → IfDone P y →
 unfolding earlierOf
 either P Refused y u v = v
 either P (Done a) Refused u v = u
-either P (Done a) (Done b) u v = go (ahead b a)
+either P (Done a) (Done b) u v = go (winsOver b a)
   where
     go : (t : Bool) → IfDone P (cond t (Done b) (Done a))
     go true = v
@@ -234,14 +234,14 @@ abbrev pub figures : Record → Schedule
 figures r = record { distance = r .distance; duration = r .duration; lateness = r .lateness; «lateness_cost» = r .«lateness_cost»; rest = r .rest }
 
 kept : Schedule → Scheduled → Schedule
-kept d (Lawful k) = k
-kept d Unlawful = d
+kept d (Found k) = k
+kept d NotFound = d
 
-unlawful : (k : Schedule) → Unlawful ≡ Lawful k → ⊥
+unlawful : (k : Schedule) → NotFound ≡ Found k → ⊥
 unlawful k e = let z : _≡_ {A = ℕ} 0 1 = cc in omega arith
 
 home : (s : List ℕ) (depot prev : ℕ) (distance : Float) (r : RestAnswer) (l : Label) (p : Progress) → Agree l p → p .prev ≡ prev → p .distance ≡ distance
-    → figures (recordOf s depot r p) ≡ homeOf l (distance ⊕ distanceOf s prev depot) (timeOf s prev depot) r
+    → figures (recordOf s depot r p) ≡ homeSchedule l (distance ⊕ distanceOf s prev depot) (timeOf s prev depot) r
 unfolding recordOf
 home s depot prev distance r l p a e d = rw (a .time, a .lateness, a .cost, e, d)
 
@@ -249,7 +249,7 @@ abbrev Ends : List ℕ → ℕ → (RestAnswer → Progress) → Schedule → Ty
 Ends s depot f k = figures (recordOf s depot (k .rest) (f (k .rest))) ≡ k
 
 module _ (s : List ℕ) (depot : ℕ) where
-  finished : (rest : Rest) (p : Position) (f : RestAnswer → Progress) → Tracks rest p f → (k : Schedule) → homeFrom s depot p ≡ Lawful k → Ends s depot f k
+  finished : (rest : Rest) (p : Position) (f : RestAnswer → Progress) → Tracks rest p f → (k : Schedule) → homeFrom s depot p ≡ Found k → Ends s depot f k
   unfolding homeFrom returned unrested homeward endOf kept
   finished rest p f t k e = by rest (rw (t .rest) at e)
     where
@@ -259,45 +259,45 @@ module _ (s : List ℕ) (depot : ℕ) where
       back : Float
       back = timeOf s (p .clock .prev) depot
 
-      early-home : (l : Label) → Agree l (f NoRest) → Lawful (homeOf l far back NoRest) ≡ Lawful k → Ends s depot f k
+      early-home : (l : Label) → Agree l (f NoRest) → Found (homeSchedule l far back NoRest) ≡ Found k → Ends s depot f k
       early-home l a q = subst (Ends s depot f) (ap (kept k) q) (home s depot (p .clock .prev) (p .distance) NoRest l (f NoRest) a (t .prev NoRest) (t .travelled NoRest))
 
-      ended : (x : Served) → IfDone (Rested (p .clock .place) f) x → endOf x far back ≡ Lawful k → Ends s depot f k
+      ended : (x : Served) → IfDone (Rested (p .clock .place) f) x → endOf x far back ≡ Found k → Ends s depot f k
       ended Refused a q = absurd (unlawful k q)
       ended (Done l) a q =
-          subst (Ends s depot f) (ap (kept k) (sym (ap (λ (r : RestAnswer). Lawful (homeOf l far back r)) (a .rest)) ∙ q))
+          subst (Ends s depot f) (ap (kept k) (sym (ap (λ (r : RestAnswer). Found (homeSchedule l far back r)) (a .rest)) ∙ q))
           (home s depot (p .clock .prev) (p .distance) (Before (a .at) (a .start)) l (f (Before (a .at) (a .start))) (a .agree) (t .prev _) (t .travelled _))
 
-      plain : (x : Served) → IfDone (λ (l : Label). Agree l (f NoRest)) x → unrested x far back ≡ Lawful k → Ends s depot f k
+      plain : (x : Served) → IfDone (λ (l : Label). Agree l (f NoRest)) x → unrested x far back ≡ Found k → Ends s depot f k
       plain Refused a q = absurd (unlawful k q)
       plain (Done l) a q = early-home l a q
 
-      rested : (b : VehicleBreak) (x y : Served) → IfDone (λ (l : Label). Agree l (f NoRest)) x → IfDone (Rested (p .clock .place) f) y → homeward b x y far back ≡ Lawful k → Ends s depot f k
+      rested : (b : VehicleBreak) (x y : Served) → IfDone (λ (l : Label). Agree l (f NoRest)) x → IfDone (Rested (p .clock .place) f) y → homeward b x y far back ≡ Found k → Ends s depot f k
       rested b Refused y u v q = ended y v q
       rested b (Done l) y u v q = early (le (l .time ⊕ back) (b .earliest)) q
         where
-          early : (w : Bool) → cond w (Lawful (homeOf l far back NoRest)) (endOf y far back) ≡ Lawful k → Ends s depot f k
+          early : (w : Bool) → cond w (Found (homeSchedule l far back NoRest)) (endOf y far back) ≡ Found k → Ends s depot f k
           early true r = early-home l u r
           early false r = ended y v r
 
-      by : (r : Rest) → returned r (p .clock .before) (p .clock .after) far back ≡ Lawful k → Ends s depot f k
+      by : (r : Rest) → returned r (p .clock .before) (p .clock .after) far back ≡ Found k → Ends s depot f k
       by Unrested q = plain (p .clock .before) (t .before) q
       by (Required b) q = rested b (p .clock .before) (p .clock .after) (t .before) (t .after) q
 
-  walk-ends : (route : List ℕ) (rest : Rest) (p : Position) (f : RestAnswer → Progress) → Tracks rest p f → (k : Schedule) → homeFrom s depot (walkedOver s p route) ≡ Lawful k
+  walk-ends : (route : List ℕ) (rest : Rest) (p : Position) (f : RestAnswer → Progress) → Tracks rest p f → (k : Schedule) → homeFrom s depot (walkedOver s p route) ≡ Found k
       → Ends s depot (λ (r : RestAnswer). progressOf s (placed (lasts rest) r) (f r) route) k
   walk-ends [] rest p f t k e = finished rest p f t k e
   walk-ends (row ∷ rows) rest p f t k e = walk-ends rows rest (driveTo s p row) (next s row (lasts rest) f) (tracked s row rest p f t) k e
 
 -- ---- the whole round
 -- the rest stands where the schedule has it
-placed-lawful : (s : List ℕ) (depot : ℕ) (limits : RouteLimits) (route : List ℕ) (k : Schedule) → scheduledOf s depot (limits .rest) route ≡ Lawful k → placedOf s depot limits route ≡ placed (lasts (limits .rest)) (k .rest)
+placed-lawful : (s : List ℕ) (depot : ℕ) (limits : RouteLimits) (route : List ℕ) (k : Schedule) → scheduledOf s depot (limits .rest) route ≡ Found k → placedOf s depot limits route ≡ placed (lasts (limits .rest)) (k .rest)
 unfolding placedOf
 placed-lawful s depot limits route k e =
     by (limits .rest) (λ r. unrested-answer s depot route k (ap (λ (x : Rest). scheduledOf s depot x route) (sym r) ∙ e))
-    (ap answerOf (verdict-scheduled s depot limits route ∙ ap (heldTo limits) e) ∙ held-rest limits k)
+    (ap placedRest (verdict-scheduled s depot limits route ∙ ap (heldTo limits) e) ∙ held-rest limits k)
   where
-    by : (r : Rest) → (r ≡ Unrested → k .rest ≡ NoRest) → answerOf (verdictOn s depot limits route) ≡ k .rest → placedBy r (verdictOn s depot limits route) ≡ placed (lasts r) (k .rest)
+    by : (r : Rest) → (r ≡ Unrested → k .rest ≡ NoRest) → placedRest (verdictOn s depot limits route) ≡ k .rest → placedBy r (verdictOn s depot limits route) ≡ placed (lasts r) (k .rest)
     by Unrested none there = ap (placed nought) (sym (none refl))
     by (Required b) none there = ap (placed (b .duration)) there
 

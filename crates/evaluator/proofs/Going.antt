@@ -4,11 +4,11 @@ use Prim.Native.Nat.{ℕ, _+_, _*_, _≤_, _<_}
 use native.Mathlib.Omega.{arith}
 use mathlib.Core.List.{List}
 use lib.ListN.{length, drop, getD}
-use Rattle.lists.specs.Fold.{fold-turn, fold-done}
+use Rattle.lists.specs.Laws.Fold.{fold-turn, fold-done}
 use Rattle.sheet.specs.Fields.{rowsOf}
 use Rattle.sheet.specs.Accepted.{Accepted}
 use Rattle.sheet.specs.Values.{stopOf}
-use Rattle.sheet.specs.Finite.{demand-bounded}
+use Rattle.sheet.specs.Laws.Finite.{demand-bounded}
 use Rattle.sheet.specs.declared.customer.Stop.{Stop}
 use Rattle.evaluation.specs.Routed.{Routed}
 use Rattle.evaluator.specs.declared.Progress.{Progress}

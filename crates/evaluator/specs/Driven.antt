@@ -1,7 +1,7 @@
 -- What the record's steps ask: a round on the way, on an accepted sheet.
 use Prim.Native.Nat.{ℕ, _+_, _*_, _≤_, _<_}
 use mathlib.Core.List.{List}
-use Rattle.sheet.specs.Fields.{rowsOf}
+use Rattle.sheet.specs.Fields.{rowsOf, mostRows}
 use Rattle.sheet.specs.Accepted.{Accepted}
 use Rattle.evaluator.specs.declared.Progress.{Progress}
 
@@ -9,5 +9,5 @@ use Rattle.evaluator.specs.declared.Progress.{Progress}
 pub record Driven (s : List ℕ) (p : Progress) : Type 0 where
   pub sheet : Accepted s
   pub from : p .prev < rowsOf s
-  pub room : p .place ≤ 101
+  pub room : p .place ≤ mostRows
   pub load : p .load + 1000000 ≤ 1000000 * p .place

@@ -1,3 +1,3 @@
 pub mod Record
 pub mod Driven
-pub mod Finite
+pub mod Laws

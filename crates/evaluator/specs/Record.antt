@@ -13,7 +13,7 @@ use Rattle.sheet.specs.declared.vehicle.Vehicle.{Vehicle}
 use Rattle.evaluation.specs.Sums.{_⊕_, _⊗_}
 use Rattle.evaluation.specs.Window.{violatedOf, latenessOf}
 use Rattle.evaluation.specs.Serve.{departureOf}
-use Rattle.evaluation.specs.Verdict.{Verdict, verdictOn, answerOf}
+use Rattle.evaluation.specs.Verdict.{Verdict, verdictOn, placedRest}
 use Rattle.evaluation.specs.declared.label.RestAnswer.{RestAnswer}
 use Rattle.evaluation.specs.declared.label.RestAnswer.the-variants.{NoRest as Unrested, Before}
 use Rattle.evaluation.specs.declared.limits.RouteLimits.{RouteLimits}
@@ -25,7 +25,7 @@ use Rattle.evaluator.specs.declared.Placed.{Placed}
 -- where the verdict on a round puts it
 abbrev pub placedBy : Rest → Verdict → Placed
 placedBy NoRest v = record { answer = Unrested; duration = nought }
-placedBy (Required b) v = record { answer = answerOf v; duration = b .duration }
+placedBy (Required b) v = record { answer = placedRest v; duration = b .duration }
 
 -- the rest that a vehicle takes on a round
 unfoldable pub placedOf : List ℕ → ℕ → RouteLimits → List ℕ → Placed
@@ -54,7 +54,7 @@ costAfter Open ready cost = cost
 costAfter (Hard w) ready cost = cost
 costAfter (Soft w penalty) ready cost = cond (violatedOf w ready) (cost ⊕ penalty ⊗ latenessOf w ready) cost
 
--- "The arrival in the plan is before the rest": the visit of a row, with the vehicle ready there at `ready`
+-- the visit of a row, with the vehicle ready there at `ready`; the arrival is before the rest, as in the Rust
 abbrev pub visitAt : List ℕ → Progress → ℕ → Float → Float → Progress
 visitAt s p row arrival ready = record {
   arrival = arrival;

@@ -14,7 +14,7 @@ ghost use Prim.Native.Nat.{_+_, _*_, _≤_, _<_};
 ghost use Rattle.sheet.specs.Accepted.{Accepted};
 ghost use Rattle.sheet.specs.Fields.{rowsOf};
 ghost use Rattle.evaluation.specs.Routed.{Routed};
-ghost use Rattle.evaluation.specs.Verdict.{heldTo, answerOf};
+ghost use Rattle.evaluation.specs.Verdict.{heldTo, placedRest};
 ghost use Rattle.evaluator.specs.Record.{placedOf, readyFor, departsAt, lateAfter, costAfter, beginOf, visitedOf, recordOf, buildRoute, routeCost, priceStart, priceWith};
 ghost use Rattle.evaluator.specs.Driven.{Driven};
 
@@ -48,11 +48,11 @@ pub struct Placed {
 
 // Where the schedule has its rest, whatever the limits say of it.
 fn answer(scheduled: Scheduled) -> RestAnswer
-    ensures { λ r. ⌜ ((limits : RouteLimits) → r ≡ answerOf (heldTo limits scheduled)) ⌝ }
+    ensures { λ r. ⌜ ((limits : RouteLimits) → r ≡ placedRest (heldTo limits scheduled)) ⌝ }
 {
     match scheduled {
-        Scheduled::Lawful(s) => s.rest,
-        Scheduled::Unlawful => RestAnswer::NoRest,
+        Scheduled::Found(s) => s.rest,
+        Scheduled::NotFound => RestAnswer::NoRest,
     }
 }
 

@@ -10,36 +10,36 @@ use Rattle.evaluation.specs.Limits.{limitsAt}
 use Rattle.evaluation.specs.Feasible.{effectiveCost}
 use Rattle.constructive.specs.Outcome.{Round}
 use Rattle.constructive.specs.Rounds.{passes}
-use Rattle.insertion.specs.Lawful.{loads}
+use Rattle.insertion.specs.Lawful.{loadFits}
 use Rattle.insertion.specs.declared.choice.Choice.{Choice}
 use Rattle.insertion.specs.declared.choice.Choice.the-variants.{Nowhere, Best}
-use Rattle.insertion.specs.Place.{detour, Judged, judged, better}
+use Rattle.insertion.specs.Place.{detour, Judged, judged, betterPlace}
 use Rattle.fleet.specs.declared.Pick.{Pick}
 use Rattle.fleet.specs.declared.Pick.the-variants.{Nothing, Put}
 
 -- ---- a round of the vehicle at index v. The limiter has one depot, row 0.
--- "distance plus lateness cost", in the units of distance
+-- distance plus lateness cost, in the units of distance
 abbrev pub pricedOf : List ℕ → ℕ → List ℕ → Float
 pricedOf s v route = effectiveCost s 0 (limitsAt s v) route
 
 -- ---- one place. `soft` says whether some row has "window and penalty on one stop".
 -- what the stop adds: with soft windows to the round's priced distance, else to its distance alone
-abbrev pub costAt : List ℕ → Bool → ℕ → List ℕ → ℕ → ℕ → Float
-costAt s soft v route row k = cond soft (pricedOf s v (inserted k row route) ⊖ pricedOf s v route) (detour s 0 route row k)
+abbrev pub insertionCost : List ℕ → Bool → ℕ → List ℕ → ℕ → ℕ → Float
+insertionCost s soft v route row k = cond soft (pricedOf s v (inserted k row route) ⊖ pricedOf s v route) (detour s 0 route row k)
 
 -- one place, judged: "`route_feasible` passes the round with the stop in it"
 unfoldable pub judgeAt : List ℕ → Bool → ℕ → List ℕ → ℕ → ℕ → Judged
-judgeAt s soft v route row k = judged (passes s 0 v (inserted k row route)) (costAt s soft v route row k)
+judgeAt s soft v route row k = judged (passes s 0 v (inserted k row route)) (insertionCost s soft v route row k)
 
 -- n places of the round counted i, from 0, from its k-th place on: "the first least insertion wins"
 unfoldable pub placesFrom : List ℕ → Bool → ℕ → List ℕ → ℕ → ℕ → Choice → ℕ → ℕ → Choice
 placesFrom s soft v route row i c zero k = c
-placesFrom s soft v route row i c (suc n) k = placesFrom s soft v route row i (better c i k (judgeAt s soft v route row k)) n (k + 1)
+placesFrom s soft v route row i c (suc n) k = placesFrom s soft v route row i (betterPlace c i k (judgeAt s soft v route row k)) n (k + 1)
 
 -- ---- one round
 -- with soft windows a round that is not allowed as it stands takes no stop
 unfoldable pub takes : List ℕ → Bool → ℕ → List ℕ → ℕ → Bool
-takes s soft v route row = loads s v route row && (not soft || passes s 0 v route)
+takes s soft v route row = loadFits s v route row && (not soft || passes s 0 v route)
 
 -- from before its first stop to after its last
 unfoldable pub inRound : List ℕ → Bool → ℕ → Choice → ℕ → Round → Choice

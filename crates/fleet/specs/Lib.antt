@@ -1,10 +1,4 @@
 pub mod Cheapest
 pub mod Limit
-pub mod Bounds
-pub mod Steps
-pub mod Few
-pub mod Ends
-pub mod Kept
-pub mod Placed
-pub mod Aside
-pub mod Cases
+pub mod Stood
+pub mod Laws

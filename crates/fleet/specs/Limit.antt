@@ -69,13 +69,13 @@ dropped s rounds =
     let v = victimOf s rounds in
     record { rounds = withoutRound (v .round) rounds; pending = v .stops }
 
-abbrev pub setAside : Refit → List ℕ → Outcome
-setAside x aside = record { rounds = x .rounds; aside = x .pending ++ aside }
+abbrev pub withAsideFirst : Refit → List ℕ → Outcome
+withAsideFirst x aside = record { rounds = x .rounds; aside = x .pending ++ aside }
 
 unfoldable pub dropRound : List ℕ → Bool → Outcome → Outcome
 dropRound s soft o =
     let x = dropped s (o .rounds) in
-    setAside (refitOn s soft (length (x .pending)) x) (o .aside)
+    withAsideFirst (refitOn s soft (length (x .pending)) x) (o .aside)
 
 -- ---- the limiter
 -- at most n rounds are dropped, each while there are more than `greatest`

@@ -8,8 +8,8 @@ use lib.ListN.{length}
 use lib.Ieee.{Float}
 use Rattle.constructive.specs.declared.terms.Terms.{Terms}
 use Rattle.insertion.specs.declared.choice.Choice.{Choice}
-use Rattle.insertion.specs.Place.{detour, costs, judged, judge, better, tryPlaces}
-use Rattle.insertion.specs.Judging.{hard-judge}
+use Rattle.insertion.specs.Place.{detour, costs, judged, judge, betterPlace, tryPlaces}
+use Rattle.insertion.specs.Laws.Judging.{hard-judge}
 use Rattle.insertion.specs.Trial.{Joinable}
 use Rattle.insertion.proofs.Judged.{free-passes}
 
@@ -28,7 +28,7 @@ freely s t route j row c = record {
 
 module _ (s : List ℕ) (t : Terms) (route : List ℕ) (j row : ℕ) (c₀ c : Choice) (k end : ℕ) (g : Freely s t route j row c₀ c k end) where
   -- each place costs its detour
-  pub next : Joinable s t route (row ∷ []) → t .constrained ≡ false → k < end → (cost : Float) → cost ≡ detour s (t .depot) route row k → (d : Choice) → d ≡ better c j k (costs cost)
+  pub next : Joinable s t route (row ∷ []) → t .constrained ≡ false → k < end → (cost : Float) → cost ≡ detour s (t .depot) route row k → (d : Choice) → d ≡ betterPlace c j k (costs cost)
       → Freely s t route j row c₀ d (k + 1) end
   unfolding tryPlaces
   next ok free h cost e d f =
@@ -42,7 +42,7 @@ module _ (s : List ℕ) (t : Terms) (route : List ℕ) (j row : ℕ) (c₀ c : C
         same =
             g .same
             ∙ ap (λ (n : ℕ). tryPlaces s t route j row c n k) (let n : end - k ≡ suc (end - (k + 1)) = omega arith in n)
-            ∙ ap (λ (x : Choice). tryPlaces s t route j row x (end - (k + 1)) (k + 1)) (ap (better c j k) told ∙ sym f);
+            ∙ ap (λ (x : Choice). tryPlaces s t route j row x (end - (k + 1)) (k + 1)) (ap (betterPlace c j k) told ∙ sym f);
       }
 
   pub all : end ≤ k → c ≡ tryPlaces s t route j row c₀ (suc (length route)) 0

@@ -8,11 +8,11 @@ use lib.Dec.{T, leb}
 use lib.ListN.{length, getD}
 use lib.Ieee.{Float, inf, le}
 use borrow.Author.Tests.{lt-leb, le-leb, not-true, not-false}
-use Rattle.lists.specs.Every.{every-of}
+use Rattle.lists.specs.Laws.Every.{every-of}
 use Rattle.lists.specs.Moved.{inserted}
-use Rattle.numbers.specs.Range.{zero-upto}
+use Rattle.numbers.specs.Laws.Range.{zero-upto}
 use Rattle.sheet.specs.Fields.{rowsOf, vehiclesOf}
-use Rattle.sheet.specs.Finite.{demand-bounded}
+use Rattle.sheet.specs.Laws.Finite.{demand-bounded}
 use Rattle.sheet.specs.Values.{nought, demandOf, vehicleOf}
 use Rattle.evaluation.specs.Sums.{_⊕_, _⊖_}
 use Rattle.evaluation.specs.Limits.{limitsAt, isUnlimited}
@@ -24,13 +24,13 @@ use Rattle.constructive.proofs.Loading.{load-few}
 use Rattle.constructive.specs.Rounds.{passes}
 use Rattle.insertion.specs.declared.choice.Choice.{Choice}
 use Rattle.insertion.specs.Place.{judged, judge, tryPlaces}
-use Rattle.insertion.specs.Judging.{hard-judge}
+use Rattle.insertion.specs.Laws.Judging.{hard-judge}
 use Rattle.insertion.specs.Trial.{Joinable, softCost, aloneCost, pricesOf}
 use Rattle.insertion.specs.declared.place.Prices.{Prices}
 use Rattle.insertion.proofs.Trying.{routed}
 use Rattle.fleet.specs.Cheapest.{pricedOf, judgeAt, placesFrom, takes, inRound}
 use Rattle.fleet_cheapest.specs.declared.Windows.{Windows}
-use Rattle.fleet_cheapest.specs.Asked.{WindowsOf, termsAt}
+use Rattle.fleet_cheapest.specs.Contracts.{WindowsOf, termsAt}
 use Rattle.fleet_cheapest.proofs.Priced.{number-below, plus-endless, endless, alone-endless, added-below}
 
 -- where no check is asked

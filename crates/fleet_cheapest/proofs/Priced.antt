@@ -9,16 +9,16 @@ use lib.Dec.{ltb}
 use lib.Ieee.{Float, nan, inf, fin, binary64, prec, emax, low, up, down, odd, units, round, neg, sum, add, sub, lt, eq, le}
 use lib.Ieee.Fits.{down-pos, round-is}
 use lib.Ieee.Exact.{HasValue, odd-sign}
-use Rattle.numbers.specs.Upto.{Upto, Exact, exact-scaled, round-upto}
+use Rattle.numbers.specs.Laws.Upto.{Upto, Exact, exact-scaled, round-upto}
 use Rattle.sheet.specs.Fields.{vehiclesOf}
-use Rattle.sheet.specs.Finite.{vehicle-bounded}
+use Rattle.sheet.specs.Laws.Finite.{vehicle-bounded}
 use Rattle.evaluation.specs.Sums.{_⊕_, _⊖_}
 use Rattle.evaluation.specs.Limits.{limitsAt}
 use Rattle.evaluation.specs.Laws.Limits.{limits-rest}
 use Rattle.evaluation.specs.Routed.{Routed}
 use Rattle.evaluation.specs.Feasible.{pricedDistance, routeEval, costOf, effectiveCost, isAllowed}
 use Rattle.evaluation.specs.Laws.Verdict.{allowed-feasible}
-use Rattle.evaluation.specs.Finite.{EvalBounded, priced-bounded, eval-bounded}
+use Rattle.evaluation.specs.Laws.Finite.{EvalBounded, priced-bounded, eval-bounded}
 use Rattle.evaluation.specs.declared.RouteEval.{RouteEval}
 use Rattle.evaluation.specs.declared.RouteEval.the-variants.{Allowed, NotAllowed}
 use Rattle.constructive.specs.Rounds.{passes}

@@ -11,10 +11,10 @@ use borrow.Author.Tests.{eqb-true, eqb-false}
 use Rattle.lists.specs.Moved.{inserted}
 use Rattle.constructive.specs.Rounds.{passes}
 use Rattle.insertion.specs.declared.choice.Choice.{Choice}
-use Rattle.insertion.specs.Place.{detour, wins, better}
-use Rattle.insertion.specs.Judging.{dear-skipped}
+use Rattle.insertion.specs.Place.{detour, wins, betterPlace}
+use Rattle.insertion.specs.Laws.Judging.{dear-skipped}
 use Rattle.fleet.specs.Cheapest.{judgeAt, placesFrom, takes, inRound}
-use Rattle.fleet_cheapest.specs.Asked.{Unwon}
+use Rattle.fleet_cheapest.specs.Contracts.{Unwon}
 
 -- the places from the first on, up to the k-th
 pub record Losing (s route : List ℕ) (row : ℕ) (c : Choice) (k end : ℕ) : Type 0 where
@@ -45,7 +45,7 @@ module _ (s route : List ℕ) (row : ℕ) (c : Choice) where
     unfolding placesFrom judgeAt
     places-unwon zero k h = refl
     places-unwon (suc n) k h =
-        let skip : better c i k (judgeAt s soft v route row k) ≡ c = rw hard (dear-skipped c i k (passes s 0 v (inserted k row route)) (detour s 0 route row k) (u k (omega arith))) in
+        let skip : betterPlace c i k (judgeAt s soft v route row k) ≡ c = rw hard (dear-skipped c i k (passes s 0 v (inserted k row route)) (detour s 0 route row k) (u k (omega arith))) in
         rw skip (places-unwon n (k + 1) (omega arith))
 
     pub round-unwon : c ≡ inRound s soft row c i (record { vehicle = v; stops = route })

@@ -18,12 +18,12 @@ ghost use mathlib.Core.Bool.{false};
 ghost use Prim.Native.Nat.{_+_, _<_};
 ghost use lib.ListN.{length};
 ghost use Rattle.sheet.specs.Accepted.{Accepted};
-ghost use Rattle.sheet.specs.Fields.{rowsOf, vehiclesOf};
+ghost use Rattle.sheet.specs.Fields.{rowsOf, vehiclesOf, mostRows};
 ghost use Rattle.evaluation.specs.Routed.{Routed};
 ghost use Rattle.constructive.specs.Outcome.{roundsIn};
 ghost use Rattle.constructive.specs.Tables.{Tables};
 ghost use Rattle.fleet.specs.Cheapest.{inRound, cheapestInsertion, pickOf};
-ghost use Rattle.fleet_cheapest.specs.Asked.{WindowsOf, Unwon, termsAt};
+ghost use Rattle.fleet_cheapest.specs.Contracts.{WindowsOf, Unwon, termsAt};
 
 // Whether some row has a window, and whether one has a window with a penalty.
 pub struct Windows {
@@ -86,7 +86,7 @@ fn try_walks(
     requires { ⌜ WindowsOf (now sheet) windows ⌝ }
     requires { ⌜ Routed (now sheet) 0 (now route) ⌝ }
     requires { ⌜ (row < rowsOf (now sheet)) × (index < vehiclesOf (now sheet)) ⌝ }
-    requires { ⌜ (length (now route) < 101) × (length (now trial) ≡ length (now route) + 1) ⌝ }
+    requires { ⌜ (length (now route) < mostRows) × (length (now trial) ≡ length (now route) + 1) ⌝ }
     ensures { λ r. ⌜ r ≡ inRound (now (sheet .entry)) (windows .soft) row best i (record { vehicle = index; stops = now (route .entry) }) ⌝ }
 {
     let terms = terms_at(sheet, windows, index);
@@ -131,7 +131,7 @@ fn try_round(
     requires { ⌜ WindowsOf (now sheet) windows ⌝ }
     requires { ⌜ Routed (now sheet) 0 (now route) ⌝ }
     requires { ⌜ (row < rowsOf (now sheet)) × (index < vehiclesOf (now sheet)) ⌝ }
-    requires { ⌜ (length (now route) < 101) × (length (now trial) ≡ length (now route) + 1) ⌝ }
+    requires { ⌜ (length (now route) < mostRows) × (length (now trial) ≡ length (now route) + 1) ⌝ }
     ensures { λ r. ⌜ r ≡ inRound (now (sheet .entry)) (windows .soft) row best i (record { vehicle = index; stops = now (route .entry) }) ⌝ }
 {
     if !may_win(sheet, windows, route, row, best) {
@@ -153,7 +153,7 @@ fn cheapest_insertion(
 ) -> Choice
     requires { ⌜ WindowsOf (now sheet) windows ⌝ }
     requires { ⌜ Tables (now sheet) (now stops) (now ends) (now vehicles) n (length (now stops)) ⌝ }
-    requires { ⌜ (row < rowsOf (now sheet)) × (length (now stops) < 101) × (length (now stops) < length (now trial)) ⌝ }
+    requires { ⌜ (row < rowsOf (now sheet)) × (length (now stops) < mostRows) × (length (now stops) < length (now trial)) ⌝ }
     ensures { λ r. ⌜ r ≡ cheapestInsertion (now (sheet .entry)) (windows .soft) (roundsIn (now (stops .entry)) (now (ends .entry)) (now (vehicles .entry)) n 0 0) row ⌝ }
 {
     let mut best = Choice::Nowhere;
@@ -191,7 +191,7 @@ pub fn cheapest(
     requires { ⌜ WindowsOf (now sheet) windows ⌝ }
     requires { ⌜ Tables (now sheet) (now stops) (now ends) (now vehicles) n (length (now stops)) ⌝ }
     requires { ⌜ Routed (now sheet) 0 (now pending) ⌝ }
-    requires { ⌜ (length (now stops) < 101) × (length (now stops) < length (now trial)) ⌝ }
+    requires { ⌜ (length (now stops) < mostRows) × (length (now stops) < length (now trial)) ⌝ }
     ensures { λ r. ⌜ r ≡ pickOf (now (sheet .entry)) (windows .soft) (roundsIn (now (stops .entry)) (now (ends .entry)) (now (vehicles .entry)) n 0 0) (now (pending .entry)) ⌝ }
 {
     let mut best = Pick::Nothing;

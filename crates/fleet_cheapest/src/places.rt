@@ -3,8 +3,8 @@
 // are walked once for all places after it (docs/BENCHMARKS.md).
 use constructive::terms::Terms;
 use evaluation::RouteEval;
-use evaluation_ahead;
-use evaluation_ahead::Ahead;
+use evaluation_prefix;
+use evaluation_prefix::Prefix;
 use insertion::choice;
 use insertion::choice::Choice;
 use insertion::place;
@@ -17,8 +17,8 @@ ghost use mathlib.Core.List.{[], _∷_};
 ghost use Prim.Native.Nat.{suc, _≤_};
 ghost use lib.ListN.{length};
 ghost use Rattle.evaluation.specs.Routed.{Routed};
-ghost use Rattle.evaluation_ahead.specs.Ahead.{Behind};
-ghost use Rattle.insertion.specs.Place.{judge, better, tryPlaces};
+ghost use Rattle.evaluation_prefix.specs.Prefix.{WalkedBefore};
+ghost use Rattle.insertion.specs.Place.{judge, betterPlace, tryPlaces};
 ghost use Rattle.insertion.specs.Trial.{Trial, Joinable, pricesOf, judgeTrial};
 
 // Where no check is asked, from before the first stop to after the last: by the legs alone.
@@ -46,10 +46,10 @@ pub fn try_free(
 // The best so far, and the walk up to a place that is not behind those left.
 struct Walked {
     tried: Tried,
-    walk: Ahead,
+    walk: Prefix,
 }
 
-fn walked_to(choice: Choice, at: usize, walk: Ahead) -> Walked
+fn walked_to(choice: Choice, at: usize, walk: Prefix) -> Walked
     ensures { λ r. ⌜ r ≡ record { tried = record { choice = choice; at = at }; walk = walk } ⌝ }
 {
     let tried = Tried { choice, at };
@@ -62,17 +62,17 @@ fn weigh(
     terms: Terms,
     prices: Prices,
     trial: &[u16],
-    walk: Ahead,
+    walk: Prefix,
     best: Choice,
     j: usize,
     k: usize,
 ) -> Choice
     requires { ⌜ Routed (now sheet) (terms .depot) (now trial) ⌝ }
-    requires { ⌜ Behind (now sheet) (terms .depot) (terms .limits) (now trial) walk ⌝ }
-    ensures { λ r. ⌜ r ≡ better best j k (judgeTrial (now (sheet .entry)) terms prices (now (trial .entry))) ⌝ }
+    requires { ⌜ WalkedBefore (now sheet) (terms .depot) (terms .limits) (now trial) walk ⌝ }
+    ensures { λ r. ⌜ r ≡ betterPlace best j k (judgeTrial (now (sheet .entry)) terms prices (now (trial .entry))) ⌝ }
 {
     let limits = terms.limits;
-    let eval = evaluation_ahead::eval_on(sheet, trial, walk, terms.depot, limits);
+    let eval = evaluation_prefix::eval_on(sheet, trial, walk, terms.depot, limits);
     let RouteEval::Allowed(figures) = eval else {
         return best;
     };
@@ -96,11 +96,11 @@ fn try_hard(
 ) -> Walked
     requires { ⌜ Joinable (now sheet) terms (now route) (row ∷ []) ⌝ }
     requires { ⌜ Trial (now route) row (walked .tried .at) (now trial) ⌝ }
-    requires { ⌜ Behind (now sheet) (terms .depot) (terms .limits) (now route) (walked .walk) ⌝ }
+    requires { ⌜ WalkedBefore (now sheet) (terms .depot) (terms .limits) (now route) (walked .walk) ⌝ }
     requires { ⌜ (terms .soft ≡ false) × ((walked .walk .stops ≤ k) × (k ≤ length (now route))) ⌝ }
-    ensures { λ r. ⌜ r .tried .choice ≡ better (walked .tried .choice) j k (judge (now (sheet .entry)) terms (now (route .entry)) row k) ⌝ }
+    ensures { λ r. ⌜ r .tried .choice ≡ betterPlace (walked .tried .choice) j k (judge (now (sheet .entry)) terms (now (route .entry)) row k) ⌝ }
     ensures { λ r. ⌜ Trial (now (route .entry)) row (r .tried .at) (now (trial .exit)) ⌝ }
-    ensures { λ r. ⌜ Behind (now (sheet .entry)) (terms .depot) (terms .limits) (now (route .entry)) (r .walk) × (r .walk .stops ≤ k) ⌝ }
+    ensures { λ r. ⌜ WalkedBefore (now (sheet .entry)) (terms .depot) (terms .limits) (now (route .entry)) (r .walk) × (r .walk .stops ≤ k) ⌝ }
 {
     let tried = walked.tried;
     let best = tried.choice;
@@ -111,8 +111,8 @@ fn try_hard(
     }
     trial::slide(trial, tried.at, k);
     let limits = terms.limits;
-    let next = evaluation_ahead::towards(sheet, route, walk, k, limits);
-    if !evaluation_ahead::feasible_on(sheet, trial, next, terms.depot, limits) {
+    let next = evaluation_prefix::towards(sheet, route, walk, k, limits);
+    if !evaluation_prefix::feasible_on(sheet, trial, next, terms.depot, limits) {
         return walked_to(best, k, next);
     }
     walked_to(Choice::Best(j, k, cost), k, next)
@@ -132,11 +132,11 @@ fn try_place(
 ) -> Walked
     requires { ⌜ Joinable (now sheet) terms (now route) (row ∷ []) ⌝ }
     requires { ⌜ Trial (now route) row (walked .tried .at) (now trial) ⌝ }
-    requires { ⌜ Behind (now sheet) (terms .depot) (terms .limits) (now route) (walked .walk) ⌝ }
+    requires { ⌜ WalkedBefore (now sheet) (terms .depot) (terms .limits) (now route) (walked .walk) ⌝ }
     requires { ⌜ (prices ≡ pricesOf (now sheet) terms (now route) row) × ((walked .walk .stops ≤ k) × (k ≤ length (now route))) ⌝ }
-    ensures { λ r. ⌜ r .tried .choice ≡ better (walked .tried .choice) j k (judge (now (sheet .entry)) terms (now (route .entry)) row k) ⌝ }
+    ensures { λ r. ⌜ r .tried .choice ≡ betterPlace (walked .tried .choice) j k (judge (now (sheet .entry)) terms (now (route .entry)) row k) ⌝ }
     ensures { λ r. ⌜ Trial (now (route .entry)) row (r .tried .at) (now (trial .exit)) ⌝ }
-    ensures { λ r. ⌜ Behind (now (sheet .entry)) (terms .depot) (terms .limits) (now (route .entry)) (r .walk) × (r .walk .stops ≤ k) ⌝ }
+    ensures { λ r. ⌜ WalkedBefore (now (sheet .entry)) (terms .depot) (terms .limits) (now (route .entry)) (r .walk) × (r .walk .stops ≤ k) ⌝ }
 {
     if !terms.soft {
         return try_hard(sheet, terms, route, row, trial, walked, j, k);
@@ -146,7 +146,7 @@ fn try_place(
     let walk = walked.walk;
     trial::slide(trial, tried.at, k);
     let limits = terms.limits;
-    let next = evaluation_ahead::towards(sheet, route, walk, k, limits);
+    let next = evaluation_prefix::towards(sheet, route, walk, k, limits);
     let choice = weigh(sheet, terms, prices, trial, next, best, j, k);
     walked_to(choice, k, next)
 }
@@ -159,7 +159,7 @@ fn rebuilt(walked: Walked) -> Walked
     let best = tried.choice;
     let choice = choice::rebuilt(best);
     let w = walked.walk;
-    let walk = Ahead {
+    let walk = Prefix {
         stops: w.stops,
         prev: w.prev,
         distance: w.distance,
@@ -188,7 +188,7 @@ pub fn try_places(
     ensures { λ r. ⌜ r .choice ≡ tryPlaces (now (sheet .entry)) terms (now (route .entry)) j row (tried .choice) (suc (length (now (route .entry)))) 0 ⌝ }
     ensures { λ r. ⌜ Trial (now (route .entry)) row (r .at) (now (trial .exit)) ⌝ }
 {
-    let walk = evaluation_ahead::start(terms.depot);
+    let walk = evaluation_prefix::start(terms.depot);
     let mut done = Walked { tried, walk };
     for k in 0..route.len() + 1 {
         let next = try_place(sheet, terms, prices, route, row, trial, done, j, k);

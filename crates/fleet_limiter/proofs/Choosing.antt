@@ -11,17 +11,17 @@ use Rattle.evaluation.specs.Routed.{Routed}
 use Rattle.constructive.specs.Outcome.{Outcome, roundsIn, startIn, outcomeIn}
 use Rattle.constructive.specs.Members.{part}
 use Rattle.constructive.specs.Tables.{Tables}
-use Rattle.constructive.specs.Holds.{held-outcome}
+use Rattle.constructive.specs.Laws.TableContents.{held-outcome}
 use Rattle.fleet.specs.declared.Pick.{Pick}
 use Rattle.fleet.specs.Cheapest.{pickOf}
-use Rattle.fleet_tables.specs.Asked.{Tabled}
-use Rattle.fleet_tables.specs.Standing.{tables-tabled, tables-sound, sound-tables, rounds-tabled, alone-sound}
+use Rattle.fleet_tables.specs.Contracts.{TablesOf}
+use Rattle.fleet_tables.specs.Laws.Standing.{tables-tabled, tables-sound, sound-tables, rounds-tabled, alone-sound}
 
 module _ (s stops ends vehicles : List ℕ) (n total : ℕ) (ok : Tables s stops ends vehicles n total) where
   abbrev pub whole : Outcome
   whole = outcomeIn stops ends vehicles n total
 
-  pub held : Tabled stops ends vehicles n total whole
+  pub held : TablesOf stops ends vehicles n total whole
   held = tables-tabled s stops ends vehicles n total ok
 
   -- stops of the tables, to walk
@@ -44,7 +44,7 @@ module _ (s stops ends vehicles : List ℕ) (n total : ℕ) (ok : Tables s stops
     pub routed-long : length (take routed stops) ≡ routed
     routed-long = length-take-le routed stops (omega (arith, routed-within, ok .all))
 
-    alone : Tabled (take routed stops) ends vehicles n routed (record { rounds = whole .rounds; aside = [] })
+    alone : TablesOf (take routed stops) ends vehicles n routed (record { rounds = whole .rounds; aside = [] })
     alone = rw e (rounds-tabled s stops ends vehicles n total whole held)
 
     -- the rounds alone

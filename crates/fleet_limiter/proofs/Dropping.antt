@@ -7,19 +7,19 @@ use mathlib.Core.List.{List, [], append-nil}
 use lib.ListN.{length}
 use Rattle.constructive.specs.Outcome.{Outcome, roundsIn, startIn, outcomeIn}
 use Rattle.constructive.specs.Tables.{Tables}
-use Rattle.constructive.specs.Holds.{held-outcome}
+use Rattle.constructive.specs.Laws.TableContents.{held-outcome}
 use Rattle.fleet.specs.Limit.{Refit, victimOf, withoutRound, dropped}
-use Rattle.fleet.specs.Bounds.{Among, victim-among}
-use Rattle.fleet_tables.specs.Asked.{Tabled, takenOut, Leaves}
-use Rattle.fleet_tables.specs.Standing.{tables-sound, sound-tables, out-sound}
-use Rattle.fleet_limiter.specs.Asked.{Stands, left, refitted}
+use Rattle.fleet.specs.Laws.Bounds.{Among, victim-among}
+use Rattle.fleet_tables.specs.Contracts.{TablesOf, takenOut, Leaves}
+use Rattle.fleet_tables.specs.Laws.Standing.{tables-sound, sound-tables, out-sound}
+use Rattle.fleet_limiter.specs.Contracts.{TablesHold, pendingFirst, refitOutcome}
 use Rattle.fleet_limiter.proofs.Choosing.{whole, held}
 
 module _ (s stops ends vehicles : List ℕ) (n : ℕ) (ok : Tables s stops ends vehicles n (length stops)) (some : 0 < n) (v : ℕ) (told : (vs : List ℕ) → v ≡ victimOf s (roundsIn stops ends vs n 0 0) .round) where
   abbrev o : Outcome
   o = whole s stops ends vehicles n (length stops) ok
 
-  tabled : Tabled stops ends vehicles n (length stops) o
+  tabled : TablesOf stops ends vehicles n (length stops) o
   tabled = held s stops ends vehicles n (length stops) ok
 
   least : v ≡ victimOf s (o .rounds) .round
@@ -32,8 +32,8 @@ module _ (s stops ends vehicles : List ℕ) (n : ℕ) (ok : Tables s stops ends 
   pub leaves : Leaves stops ends vehicles n v
   leaves = record { total = length stops; outcome = o; held = tabled; few = ok .most; round = omega (arith, least, among .round, tabled .holds .count) }
 
-  module _ (full : startIn ends n ≡ length stops) (stops′ ends′ vehicles′ : List ℕ) (out : (total : ℕ) (q : Outcome) → Tabled stops ends vehicles n total q → Tabled stops′ ends′ vehicles′ (n - 1) total (takenOut v q)) (stopped : length stops′ ≡ length stops) where
-    after : Tabled stops′ ends′ vehicles′ (n - 1) (length stops) (takenOut v o)
+  module _ (full : startIn ends n ≡ length stops) (stops′ ends′ vehicles′ : List ℕ) (out : (total : ℕ) (q : Outcome) → TablesOf stops ends vehicles n total q → TablesOf stops′ ends′ vehicles′ (n - 1) total (takenOut v q)) (stopped : length stops′ ≡ length stops) where
+    after : TablesOf stops′ ends′ vehicles′ (n - 1) (length stops) (takenOut v o)
     after = out (length stops) o tabled
 
     after-outcome : outcomeIn stops′ ends′ vehicles′ (n - 1) (length stops′) ≡ takenOut v o
@@ -48,11 +48,11 @@ module _ (s stops ends vehicles : List ℕ) (n : ℕ) (ok : Tables s stops ends 
     unfolding outcomeIn
     none-aside = let z : length stops - startIn ends n ≡ 0 = omega arith in rw z
 
-    left-so : left (takenOut v o) ≡ dropped s (o .rounds)
+    left-so : pendingFirst (takenOut v o) ≡ dropped s (o .rounds)
     left-so = rw (none-aside, append-nil, least) (ap (λ (l : List ℕ). record { rounds = withoutRound (victimOf s (o .rounds) .round) (o .rounds); pending = l }) (sym (among .stops)))
 
-    pub drops : (soft : Bool) (stops″ ends″ : List ℕ) → Stands s stops″ ends″ vehicles′ (n - 1) (length stops′) (refitted s soft (left (outcomeIn stops′ ends′ vehicles′ (n - 1) (length stops′)))) → Stands s stops″ ends″ vehicles′ (n - 1) (length stops) (refitted s soft (dropped s (o .rounds)))
+    pub drops : (soft : Bool) (stops″ ends″ : List ℕ) → TablesHold s stops″ ends″ vehicles′ (n - 1) (length stops′) (refitOutcome s soft (pendingFirst (outcomeIn stops′ ends′ vehicles′ (n - 1) (length stops′)))) → TablesHold s stops″ ends″ vehicles′ (n - 1) (length stops) (refitOutcome s soft (dropped s (o .rounds)))
     drops soft stops″ ends″ g = record {
       tables = rw stopped at (g .tables);
-      outcome = ap (λ (k : ℕ). outcomeIn stops″ ends″ vehicles′ (n - 1) k) (sym stopped) ∙ g .outcome ∙ ap (λ (x : Refit). refitted s soft x) (ap left after-outcome ∙ left-so);
+      outcome = ap (λ (k : ℕ). outcomeIn stops″ ends″ vehicles′ (n - 1) k) (sym stopped) ∙ g .outcome ∙ ap (λ (x : Refit). refitOutcome s soft x) (ap pendingFirst after-outcome ∙ left-so);
     }

@@ -1,6 +1,6 @@
 pub mod Choosing
 pub mod Refitting
 pub mod Dropping
-pub mod Lessening
+pub mod DroppingRounds
 pub mod Windows
 pub mod Ordered

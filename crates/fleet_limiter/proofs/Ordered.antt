@@ -6,25 +6,25 @@ use mathlib.Core.List.{List, [], _++_}
 use lib.Dec.{T}
 use lib.ListN.{length, take}
 use lib.Seq.{length-take-le}
-use Rattle.lists.specs.Same.{same-length}
+use Rattle.lists.specs.Laws.Permutation.{same-length}
 use Rattle.wire.specs.Bytes.{write}
-use Rattle.wire.specs.Laws.{length-write, take-write}
+use Rattle.wire.specs.Laws.Bytes.{length-write, take-write}
 use Rattle.sheet.specs.Fields.{rowsOf}
 use Rattle.constructive.specs.Outcome.{Outcome, startIn, outcomeIn, chains, stopsOf}
-use Rattle.constructive.specs.LaidLaws.{length-rounds, length-chains}
-use Rattle.constructive.specs.Laid.{routedIn}
+use Rattle.constructive.specs.Laws.Stored.{length-rounds, length-chains}
+use Rattle.constructive.specs.Stored.{routedIn}
 use Rattle.constructive.specs.Members.{part}
 use Rattle.constructive.specs.Right.{outcomeRight}
 use Rattle.constructive.specs.Tables.{Tables}
-use Rattle.constructive.specs.TableStops.{stops-in}
-use Rattle.constructive.specs.Holds.{held-outcome, held-tables}
+use Rattle.constructive.specs.Laws.TableStops.{stops-in}
+use Rattle.constructive.specs.Laws.TableContents.{held-outcome, held-tables}
 use Rattle.fleet.specs.Limit.{limitOn, ascending, softIn, limitRoutes}
-use Rattle.fleet.specs.Placed.{outcome-once, limit-counts}
-use Rattle.fleet_tables.specs.Asked.{Tabled, Aside}
-use Rattle.fleet_tables.specs.Places.{tabled}
-use Rattle.fleet_tables.specs.Standing.{tables-tabled}
+use Rattle.fleet.specs.Laws.Placed.{outcome-once, limit-counts}
+use Rattle.fleet_tables.specs.Contracts.{TablesOf, Aside}
+use Rattle.fleet_tables.specs.Laws.Places.{tabled}
+use Rattle.fleet_tables.specs.Laws.Standing.{tables-tabled}
 use Rattle.fleet_limiter.specs.Limitable.{Limitable}
-use Rattle.fleet_limiter.specs.Asked.{Stands}
+use Rattle.fleet_limiter.specs.Contracts.{TablesHold}
 
 module _ (s stops₀ ends₀ vehicles₀ marks₀ trial₀ : List ℕ) (rounds total : ℕ) (l : Limitable s stops₀ ends₀ vehicles₀ marks₀ trial₀ rounds total) (greatest : ℕ) where
   abbrev o : Outcome
@@ -49,9 +49,9 @@ module _ (s stops₀ ends₀ vehicles₀ marks₀ trial₀ : List ℕ) (rounds t
       ∙ ap length (stops-in s stops₀ ends₀ vehicles₀ rounds total (l .tables))
       ∙ length-take-le total stops₀ (l .tables .all)
 
-  module _ (stops ends vehicles : List ℕ) (n : ℕ) (g : Stands s stops ends vehicles n total limited) (from : ℕ) (e : from ≡ startIn ends n) where
-    held : Tabled stops ends vehicles n total limited
-    held = subst (Tabled stops ends vehicles n total) (g .outcome) (tables-tabled s stops ends vehicles n total (g .tables))
+  module _ (stops ends vehicles : List ℕ) (n : ℕ) (g : TablesHold s stops ends vehicles n total limited) (from : ℕ) (e : from ≡ startIn ends n) where
+    held : TablesOf stops ends vehicles n total limited
+    held = subst (TablesOf stops ends vehicles n total) (g .outcome) (tables-tabled s stops ends vehicles n total (g .tables))
 
     aside-so : part stops from total ≡ limited .aside
     aside-so = rw e (held .aside)
@@ -81,7 +81,7 @@ module _ (s stops₀ ends₀ vehicles₀ marks₀ trial₀ : List ℕ) (rounds t
       front : take from stops ≡ chains (limited .rounds) []
       front = rw e (held .holds .stopped)
 
-      after : Tabled stops′ ends vehicles n total (limitRoutes s greatest o)
+      after : TablesOf stops′ ends vehicles n total (limitRoutes s greatest o)
       after = rw limits
           (tabled stops′ ends vehicles n total (record { rounds = limited .rounds; aside = ascending s (limited .aside) }) (held .holds .count) (held .holds .ended) (held .holds .driven)
           (ap (take total) written

@@ -6,18 +6,19 @@ use mathlib.Core.Bool.{Bool}
 use mathlib.Core.List.{List}
 use lib.ListN.{length}
 use lib.Ieee.{Float}
-use Rattle.lists.specs.Moved.{without, without-length}
+use Rattle.lists.specs.Moved.{without}
+use Rattle.lists.specs.Laws.Moved.{without-length}
 use Rattle.constructive.specs.Outcome.{Outcome, startIn, outcomeIn, roundAt}
 use Rattle.constructive.specs.Tables.{Tables}
-use Rattle.constructive.specs.Holds.{held-outcome}
+use Rattle.constructive.specs.Laws.TableContents.{held-outcome}
 use Rattle.fleet.specs.declared.Pick.{Pick}
 use Rattle.fleet.specs.declared.Pick.the-variants.{Nothing, Put}
 use Rattle.fleet.specs.Cheapest.{pickOf}
 use Rattle.fleet.specs.Limit.{Refit, refitBy, refit, refitOn}
-use Rattle.fleet.specs.Bounds.{Picked, pick-picked}
-use Rattle.fleet_tables.specs.Asked.{Tabled, takenIn, Enters}
-use Rattle.fleet_tables.specs.Standing.{tables-sound, sound-tables, in-sound}
-use Rattle.fleet_limiter.specs.Asked.{Stands, left, setDown, refitted}
+use Rattle.fleet.specs.Laws.Bounds.{Picked, pick-picked}
+use Rattle.fleet_tables.specs.Contracts.{TablesOf, takenIn, Enters}
+use Rattle.fleet_tables.specs.Laws.Standing.{tables-sound, sound-tables, in-sound}
+use Rattle.fleet_limiter.specs.Contracts.{TablesHold, pendingFirst, setDown, refitOutcome}
 use Rattle.fleet_limiter.proofs.Choosing.{whole, held}
 
 -- ---- the definition
@@ -37,20 +38,20 @@ pub record Refitting (s : List ℕ) (soft : Bool) (stops₀ ends₀ vehicles tri
   pub stopped : length stops ≡ length stops₀
   pub ended : length ends ≡ length ends₀
   pub tried : length trial ≡ length trial₀
-  pub same : refitted s soft (left (outcomeIn stops ends vehicles n (length stops))) ≡ refitted s soft (left (outcomeIn stops₀ ends₀ vehicles n (length stops₀)))
+  pub same : refitOutcome s soft (pendingFirst (outcomeIn stops ends vehicles n (length stops))) ≡ refitOutcome s soft (pendingFirst (outcomeIn stops₀ ends₀ vehicles n (length stops₀)))
 
 module _ (s : List ℕ) (soft : Bool) (stops₀ ends₀ vehicles trial₀ : List ℕ) (n : ℕ) (stops ends trial : List ℕ) (g : Refitting s soft stops₀ ends₀ vehicles trial₀ n stops ends trial) (p : Pick)
     (told : p ≡ pickOf s soft (outcomeIn stops ends vehicles n (length stops) .rounds) (outcomeIn stops ends vehicles n (length stops) .aside)) where
   abbrev o : Outcome
   o = whole s stops ends vehicles n (length stops) (g .tables)
 
-  tabled : Tabled stops ends vehicles n (length stops) o
+  tabled : TablesOf stops ends vehicles n (length stops) o
   tabled = held s stops ends vehicles n (length stops) (g .tables)
 
   -- nothing is picked
-  pub rests : p ≡ Nothing → Stands s stops ends vehicles n (length stops₀) (refitted s soft (left (outcomeIn stops₀ ends₀ vehicles n (length stops₀))))
+  pub rests : p ≡ Nothing → TablesHold s stops ends vehicles n (length stops₀) (refitOutcome s soft (pendingFirst (outcomeIn stops₀ ends₀ vehicles n (length stops₀))))
   rests e =
-      let z = at-rest s soft (left o) (sym e ∙ told) (length (o .aside)) in
+      let z = at-rest s soft (pendingFirst o) (sym e ∙ told) (length (o .aside)) in
       record {
         tables = rw (g .stopped) at (g .tables);
         outcome = ap (λ (k : ℕ). outcomeIn stops ends vehicles n k) (sym (g .stopped)) ∙ sym (ap setDown z) ∙ g .same;
@@ -73,9 +74,9 @@ module _ (s : List ℕ) (soft : Bool) (stops₀ ends₀ vehicles trial₀ : List
       from = place .0;
     }
 
-    module _ (stops′ ends′ : List ℕ) (put : (v : List ℕ) (total : ℕ) (q : Outcome) → Tabled stops ends v n total q → k ≤ length (roundAt (q .rounds) i .stops) → j < length (q .aside) → Tabled stops′ ends′ v n total (takenIn j i k q))
+    module _ (stops′ ends′ : List ℕ) (put : (v : List ℕ) (total : ℕ) (q : Outcome) → TablesOf stops ends v n total q → k ≤ length (roundAt (q .rounds) i .stops) → j < length (q .aside) → TablesOf stops′ ends′ v n total (takenIn j i k q))
         (stopped : length stops′ ≡ length stops) where
-      after : Tabled stops′ ends′ vehicles n (length stops) (takenIn j i k o)
+      after : TablesOf stops′ ends′ vehicles n (length stops) (takenIn j i k o)
       after = put vehicles (length stops) o tabled (place .1 .place) (place .0)
 
       after-outcome : outcomeIn stops′ ends′ vehicles n (length stops′) ≡ takenIn j i k o
@@ -92,8 +93,8 @@ module _ (s : List ℕ) (soft : Bool) (stops₀ ends₀ vehicles trial₀ : List
         ended = ended ∙ g .ended;
         tried = tried ∙ g .tried;
         same =
-            ap (λ (q : Outcome). refitted s soft (left q)) after-outcome
-            ∙ ap (λ (x : Refit). setDown (refitOn s soft (length (without j (o .aside))) x)) (sym (refit-by s soft (left o) (Put j i k cost) (sym e ∙ told)))
-            ∙ ap (λ (c : ℕ). setDown (refitOn s soft c (left o))) (without-length (o .aside) j (place .0))
+            ap (λ (q : Outcome). refitOutcome s soft (pendingFirst q)) after-outcome
+            ∙ ap (λ (x : Refit). setDown (refitOn s soft (length (without j (o .aside))) x)) (sym (refit-by s soft (pendingFirst o) (Put j i k cost) (sym e ∙ told)))
+            ∙ ap (λ (c : ℕ). setDown (refitOn s soft c (pendingFirst o))) (without-length (o .aside) j (place .0))
             ∙ g .same;
       }

@@ -9,7 +9,7 @@ use lib.ListN.{take}
 use borrow.Author.Tests.{le-leb, lt-ltb}
 use Rattle.lists.specs.Count.{one, count}
 use Rattle.lists.specs.Every.{Every}
-use Rattle.lists.specs.Same.{every-counted}
+use Rattle.lists.specs.Laws.Permutation.{every-counted}
 use Rattle.sheet.specs.Fields.{rowsOf}
 use Rattle.sheet.specs.Values.{stopOf}
 use Rattle.sheet.specs.Depots.{depotsOf}
@@ -23,16 +23,17 @@ use Rattle.evaluation.specs.Limits.{isUnlimited}
 use Rattle.evaluation.specs.Routed.{Routed}
 use Rattle.evaluation.specs.Checks.{windowed, rowWindowed, someWindowed, hasTimeWindows, hasSoftWindows, routeChecksNeeded}
 use Rattle.constructive.specs.Outcome.{Outcome, outcomeIn, stopsOf}
-use Rattle.constructive.specs.Unchecked.{Windowless, unchecked-windowless}
-use Rattle.constructive.specs.TableStops.{stops-in}
+use Rattle.constructive.specs.Unchecked.{Windowless}
+use Rattle.constructive.specs.Laws.Unchecked.{unchecked-windowless}
+use Rattle.constructive.specs.Laws.TableStops.{stops-in}
 use Rattle.fleet.specs.Limit.{limitOn, softIn}
-use Rattle.fleet.specs.Placed.{outcome-once}
+use Rattle.fleet.specs.Laws.Placed.{outcome-once}
 use Rattle.fleet_cheapest.specs.declared.Windows.{Windows}
-use Rattle.fleet_cheapest.specs.Asked.{WindowsOf}
+use Rattle.fleet_cheapest.specs.Contracts.{WindowsOf}
 use Rattle.fleet_limiter.specs.Limitable.{Limitable}
-use Rattle.fleet_limiter.specs.Asked.{windowsIn, Stands, Triable}
+use Rattle.fleet_limiter.specs.Contracts.{windowsIn, TablesHold, Triable}
 use Rattle.fleet_limiter.proofs.Choosing.{held, walked}
-use Rattle.fleet_limiter.proofs.Lessening.{limit-rests}
+use Rattle.fleet_limiter.proofs.DroppingRounds.{limit-rests}
 
 neither : (a b : Bool) → (a || b) ≡ false → (a ≡ false) × (b ≡ false)
 neither true b e = absurd (true≢false e)
@@ -89,17 +90,17 @@ module _ (s stops ends vehicles marks trial : List ℕ) (rounds total : ℕ) (l 
   windows-of : WindowsOf s (windowsIn s (take total stops))
   windows-of = record { sheet = l .tables .sheet; hard = hard s (take total stops); windowless = every-row }
 
-  -- so the rounds can be lessened by what is read
+  -- so the rounds can be dropped by what is read
   module _ (w : Windows) (e : w ≡ windowsIn s (take total stops)) where
     pub triable : 0 < rounds → Triable s w trial
     triable h = record { windows = rw e windows-of; some = omega (arith, l .tables .few); tried = l .tried }
 
-    pub read-so : (stops′ ends′ vehicles′ : List ℕ) (n greatest : ℕ) → Stands s stops′ ends′ vehicles′ n total (limitOn s (w .soft) greatest rounds o) → Stands s stops′ ends′ vehicles′ n total (limitOn s (softIn s o) greatest rounds o)
-    read-so stops′ ends′ vehicles′ n greatest g = subst (λ (soft : Bool). Stands s stops′ ends′ vehicles′ n total (limitOn s soft greatest rounds o)) (ap (λ (x : Windows). x .soft) e ∙ ap (hasSoftWindows s 0) (sym all-stops)) g
+    pub read-so : (stops′ ends′ vehicles′ : List ℕ) (n greatest : ℕ) → TablesHold s stops′ ends′ vehicles′ n total (limitOn s (w .soft) greatest rounds o) → TablesHold s stops′ ends′ vehicles′ n total (limitOn s (softIn s o) greatest rounds o)
+    read-so stops′ ends′ vehicles′ n greatest g = subst (λ (soft : Bool). TablesHold s stops′ ends′ vehicles′ n total (limitOn s soft greatest rounds o)) (ap (λ (x : Windows). x .soft) e ∙ ap (hasSoftWindows s 0) (sym all-stops)) g
 
   pub few-stops : 0 < rounds → total < 101
   few-stops h = omega (arith, l .tables .few, l .tables .sheet .sized .rows, l .one, l .all)
 
   -- no round is dropped
-  pub stays : (greatest : ℕ) → rounds ≤ greatest → Stands s stops ends vehicles rounds total (limitOn s (softIn s o) greatest rounds o)
+  pub stays : (greatest : ℕ) → rounds ≤ greatest → TablesHold s stops ends vehicles rounds total (limitOn s (softIn s o) greatest rounds o)
   stays greatest h = record { tables = l .tables; outcome = sym (limit-rests s (softIn s o) greatest rounds o (omega (arith, held s stops ends vehicles rounds total (l .tables) .holds .count))) }

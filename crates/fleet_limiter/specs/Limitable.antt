@@ -4,7 +4,7 @@ use Prim.Native.Nat.{ℕ, _-_, _≤_}
 use mathlib.Core.List.{List}
 use lib.Dec.{T}
 use lib.ListN.{length}
-use Rattle.sheet.specs.Fields.{rowsOf}
+use Rattle.sheet.specs.Fields.{rowsOf, mostRows}
 use Rattle.sheet.specs.Depots.{depotsOf}
 use Rattle.constructive.specs.Outcome.{outcomeIn}
 use Rattle.constructive.specs.Right.{outcomeRight}
@@ -16,4 +16,4 @@ pub record Limitable (s stops ends vehicles marks trial : List ℕ) (rounds tota
   pub one : depotsOf s ≡ 1
   pub all : total ≡ rowsOf s - depotsOf s
   pub marked : rowsOf s ≤ length marks
-  pub tried : 101 ≤ length trial
+  pub tried : mostRows ≤ length trial

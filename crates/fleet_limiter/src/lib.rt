@@ -6,13 +6,14 @@ ghost use mathlib.Core.Path.{_≡_};
 ghost use mathlib.Core.List.{List};
 ghost use Prim.Native.Nat.{ℕ, _-_, _<_};
 ghost use lib.ListN.{length};
+ghost use Rattle.sheet.specs.Fields.{mostRows};
 ghost use Rattle.evaluation.specs.Routed.{Routed};
 ghost use Rattle.constructive.specs.Outcome.{startIn, outcomeIn};
 ghost use Rattle.constructive.specs.Tables.{Tables};
 ghost use Rattle.fleet.specs.Cheapest.{pickOf};
 ghost use Rattle.fleet.specs.Limit.{dropped, limitOn, limitRoutes, softIn};
 ghost use Rattle.fleet_limiter.specs.Limitable.{Limitable};
-ghost use Rattle.fleet_limiter.specs.Asked.{windowsIn, Stands, Triable, left, refitted};
+ghost use Rattle.fleet_limiter.specs.Contracts.{windowsIn, TablesHold, Triable, pendingFirst, refitOutcome};
 
 // What rows have of windows: the depot's, and these.
 fn windows_in(sheet: &[u8], stops: &[u16]) -> Windows
@@ -36,7 +37,7 @@ fn choose(
 ) -> Pick
     requires { ⌜ Tables (now sheet) (now stops) (now ends) (now vehicles) n (length (now stops)) ⌝ }
     requires { ⌜ Triable (now sheet) windows (now trial) ⌝ }
-    requires { ⌜ length (now stops) < 101 ⌝ }
+    requires { ⌜ length (now stops) < mostRows ⌝ }
     ensures { λ r. ⌜ r ≡ pickOf (now (sheet .entry)) (windows .soft) (outcomeIn (now (stops .entry)) (now (ends .entry)) (now (vehicles .entry)) n (length (now (stops .entry))) .rounds) (outcomeIn (now (stops .entry)) (now (ends .entry)) (now (vehicles .entry)) n (length (now (stops .entry))) .aside) ⌝ }
 {
     let routed = constructive::tables::end_of(ends, n);
@@ -64,8 +65,8 @@ fn refit(
 )
     requires { ⌜ Tables (now sheet) (now stops) (now ends) (now vehicles) n (length (now stops)) ⌝ }
     requires { ⌜ Triable (now sheet) windows (now trial) ⌝ }
-    requires { ⌜ length (now stops) < 101 ⌝ }
-    ensures { λ _. ⌜ Stands (now (sheet .entry)) (now (stops .exit)) (now (ends .exit)) (now (vehicles .entry)) n (length (now (stops .entry))) (refitted (now (sheet .entry)) (windows .soft) (left (outcomeIn (now (stops .entry)) (now (ends .entry)) (now (vehicles .entry)) n (length (now (stops .entry)))))) ⌝ }
+    requires { ⌜ length (now stops) < mostRows ⌝ }
+    ensures { λ _. ⌜ TablesHold (now (sheet .entry)) (now (stops .exit)) (now (ends .exit)) (now (vehicles .entry)) n (length (now (stops .entry))) (refitOutcome (now (sheet .entry)) (windows .soft) (pendingFirst (outcomeIn (now (stops .entry)) (now (ends .entry)) (now (vehicles .entry)) n (length (now (stops .entry)))))) ⌝ }
 {
     loop {
         let Pick::Put(j, round, place, _) = choose(sheet, windows, stops, ends, vehicles, n, trial)
@@ -88,8 +89,8 @@ fn drop_round(
 )
     requires { ⌜ Tables (now sheet) (now stops) (now ends) (now vehicles) n (length (now stops)) ⌝ }
     requires { ⌜ Triable (now sheet) windows (now trial) ⌝ }
-    requires { ⌜ (0 < n) × (length (now stops) < 101) × (startIn (now ends) n ≡ length (now stops)) ⌝ }
-    ensures { λ _. ⌜ Stands (now (sheet .entry)) (now (stops .exit)) (now (ends .exit)) (now (vehicles .exit)) (n - 1) (length (now (stops .entry))) (refitted (now (sheet .entry)) (windows .soft) (dropped (now (sheet .entry)) (outcomeIn (now (stops .entry)) (now (ends .entry)) (now (vehicles .entry)) n (length (now (stops .entry))) .rounds))) ⌝ }
+    requires { ⌜ (0 < n) × (length (now stops) < mostRows) × (startIn (now ends) n ≡ length (now stops)) ⌝ }
+    ensures { λ _. ⌜ TablesHold (now (sheet .entry)) (now (stops .exit)) (now (ends .exit)) (now (vehicles .exit)) (n - 1) (length (now (stops .entry))) (refitOutcome (now (sheet .entry)) (windows .soft) (dropped (now (sheet .entry)) (outcomeIn (now (stops .entry)) (now (ends .entry)) (now (vehicles .entry)) n (length (now (stops .entry))) .rounds))) ⌝ }
 {
     let round = fleet_tables::victim(sheet, stops, ends, n);
     fleet_tables::take_out(stops, ends, vehicles, n, round);
@@ -98,7 +99,7 @@ fn drop_round(
 
 // Drops rounds until there are no more than `greatest`; answers how many are left. What no round takes stands before the stops
 // set aside already.
-fn lessen(
+fn drop_rounds(
     sheet: &[u8],
     windows: Windows,
     greatest: usize,
@@ -111,8 +112,8 @@ fn lessen(
 ) -> usize
     requires { ⌜ Tables (now sheet) (now stops) (now ends) (now vehicles) rounds total ⌝ }
     requires { ⌜ Triable (now sheet) windows (now trial) ⌝ }
-    requires { ⌜ total < 101 ⌝ }
-    ensures { λ r. ⌜ Stands (now (sheet .entry)) (now (stops .exit)) (now (ends .exit)) (now (vehicles .exit)) r total (limitOn (now (sheet .entry)) (windows .soft) greatest rounds (outcomeIn (now (stops .entry)) (now (ends .entry)) (now (vehicles .entry)) rounds total)) ⌝ }
+    requires { ⌜ total < mostRows ⌝ }
+    ensures { λ r. ⌜ TablesHold (now (sheet .entry)) (now (stops .exit)) (now (ends .exit)) (now (vehicles .exit)) r total (limitOn (now (sheet .entry)) (windows .soft) greatest rounds (outcomeIn (now (stops .entry)) (now (ends .entry)) (now (vehicles .entry)) rounds total)) ⌝ }
 {
     let mut n = rounds;
     while greatest < n {
@@ -143,13 +144,13 @@ fn limit(
     total: usize,
 ) -> usize
     requires { ⌜ ((marks : List ℕ) × Limitable (now sheet) (now stops) (now ends) (now vehicles) marks (now trial) rounds total) ⌝ }
-    ensures { λ r. ⌜ Stands (now (sheet .entry)) (now (stops .exit)) (now (ends .exit)) (now (vehicles .exit)) r total (limitOn (now (sheet .entry)) (softIn (now (sheet .entry)) (outcomeIn (now (stops .entry)) (now (ends .entry)) (now (vehicles .entry)) rounds total)) greatest rounds (outcomeIn (now (stops .entry)) (now (ends .entry)) (now (vehicles .entry)) rounds total)) ⌝ }
+    ensures { λ r. ⌜ TablesHold (now (sheet .entry)) (now (stops .exit)) (now (ends .exit)) (now (vehicles .exit)) r total (limitOn (now (sheet .entry)) (softIn (now (sheet .entry)) (outcomeIn (now (stops .entry)) (now (ends .entry)) (now (vehicles .entry)) rounds total)) greatest rounds (outcomeIn (now (stops .entry)) (now (ends .entry)) (now (vehicles .entry)) rounds total)) ⌝ }
 {
     if rounds <= greatest {
         return rounds;
     }
     let windows = windows_in(sheet, &stops[..total]);
-    lessen(
+    drop_rounds(
         sheet,
         windows,
         greatest,

@@ -1,3 +1,2 @@
-pub mod Asked
-pub mod Places
-pub mod Standing
+pub mod Contracts
+pub mod Laws

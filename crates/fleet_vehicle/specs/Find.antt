@@ -15,9 +15,9 @@ withId id fallback [] = fallback
 withId id fallback (v ∷ vs) = cond (eqb (v .id) id) v (withId id fallback vs)
 
 -- what the first of no vehicles is said to be: the code is asked only of some
-abbrev pub nobody : Vehicle
-nobody = record { id = 0; depot = 0; capacity = 0; «cost_per_distance» = nought; «fixed_cost» = nought; «max_distance» = Unlimited; «max_duration» = Unlimited; rest = NoRest }
+abbrev pub noVehicle : Vehicle
+noVehicle = record { id = 0; depot = 0; capacity = 0; «cost_per_distance» = nought; «fixed_cost» = nought; «max_distance» = Unlimited; «max_duration» = Unlimited; rest = NoRest }
 
 -- "fallback the first"
 unfoldable pub fleetVehicle : ℕ → List Vehicle → Vehicle
-fleetVehicle id vehicles = withId id (getD vehicles 0 nobody) vehicles
+fleetVehicle id vehicles = withId id (getD vehicles 0 noVehicle) vehicles

@@ -1,3 +1,2 @@
 pub mod Find
-pub mod Indexed
-pub mod Cases
+pub mod Laws

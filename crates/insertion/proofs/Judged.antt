@@ -8,7 +8,8 @@ use lib.Dec.{T, eqb}
 use lib.ListN.{length, getD}
 use lib.Ieee.{Float, le}
 use borrow.Author.Tests.{eqb-false}
-use Rattle.lists.specs.Moved.{inserted, inserted-every}
+use Rattle.lists.specs.Moved.{inserted}
+use Rattle.lists.specs.Laws.Moved.{inserted-every}
 use Rattle.sheet.specs.Fields.{rowsOf}
 use Rattle.evaluation.specs.Routed.{Routed}
 use Rattle.evaluation.specs.Sums.{_⊖_}
@@ -17,26 +18,27 @@ use Rattle.evaluation.specs.Laws.Verdict.{allowed-feasible}
 use Rattle.evaluation.specs.declared.clock.Schedule.{Schedule}
 use Rattle.evaluation.specs.declared.RouteEval.{RouteEval}
 use Rattle.evaluation.specs.declared.RouteEval.the-variants.{Allowed, NotAllowed}
-use Rattle.constructive.specs.Unchecked.{Windowless, free-feasible}
+use Rattle.constructive.specs.Unchecked.{Windowless}
+use Rattle.constructive.specs.Laws.Unchecked.{free-feasible}
 use Rattle.constructive.specs.declared.terms.Terms.{Terms}
 use Rattle.insertion.specs.declared.choice.Choice.{Choice}
 use Rattle.insertion.specs.declared.choice.Choice.the-variants.{Best}
 use Rattle.insertion.specs.declared.place.Prices.{Prices}
-use Rattle.insertion.specs.Place.{feasibleIn, prevAt, nextAt, detour, costs, judged, judge, wins, better}
-use Rattle.insertion.specs.Judging.{hard-judge, dear-skipped, cheap-walked}
+use Rattle.insertion.specs.Place.{feasibleIn, rowBefore, rowAfter, detour, costs, judged, judge, wins, betterPlace}
+use Rattle.insertion.specs.Laws.Judging.{hard-judge, dear-skipped, cheap-walked}
 use Rattle.insertion.specs.Trial.{Joinable, pricesOf, judgeTrial}
 
 -- ---- the rows before and after a place
-pub before-told : (depot : ℕ) (route : List ℕ) (k : ℕ) → (k ≡ 0 → ⊥) → getD route (k - 1) 0 ≡ prevAt depot route k
+pub before-told : (depot : ℕ) (route : List ℕ) (k : ℕ) → (k ≡ 0 → ⊥) → getD route (k - 1) 0 ≡ rowBefore depot route k
 before-told depot route zero h = absurd (h refl)
 before-told depot route (suc k) h = ap (λ (n : ℕ). getD route n 0) (let e : suc k - 1 ≡ k = omega arith in e)
 
 module _ (s : List ℕ) (depot : ℕ) (route : List ℕ) (ok : Routed s depot route) where
-  pub before-row : (k : ℕ) → k ≤ length route → prevAt depot route k < rowsOf s
+  pub before-row : (k : ℕ) → k ≤ length route → rowBefore depot route k < rowsOf s
   before-row zero h = ok .home
   before-row (suc k) h = ok .row k h
 
-  pub behind-row : (k : ℕ) → k ≤ length route → nextAt depot route k < rowsOf s
+  pub behind-row : (k : ℕ) → k ≤ length route → rowAfter depot route k < rowsOf s
   behind-row k h = go (eqb k (length route)) refl
     where
       go : (b : Bool) → eqb k (length route) ≡ b → cond b depot (getD route k 0) < rowsOf s
@@ -48,16 +50,16 @@ module _ (s : List ℕ) (t : Terms) (route : List ℕ) (row k : ℕ) (hard : t .
   told : judge s t route row k ≡ judged (feasibleIn s t (inserted k row route)) cost
   told = hard-judge s t route row k hard ∙ ap (judged (feasibleIn s t (inserted k row route))) (sym e)
 
-  pub hard-lost : wins cost c ≡ false → c ≡ better c j k (judge s t route row k)
-  hard-lost w = sym (ap (better c j k) told ∙ dear-skipped c j k (feasibleIn s t (inserted k row route)) cost w)
+  pub hard-lost : wins cost c ≡ false → c ≡ betterPlace c j k (judge s t route row k)
+  hard-lost w = sym (ap (betterPlace c j k) told ∙ dear-skipped c j k (feasibleIn s t (inserted k row route)) cost w)
 
   -- walked
   module _ (b : Bool) (f : b ≡ feasibleIn s t (inserted k row route)) where
-    pub hard-out : b ≡ false → c ≡ better c j k (judge s t route row k)
-    hard-out g = sym (ap (better c j k) (told ∙ ap (λ (x : Bool). judged x cost) (sym f ∙ g)))
+    pub hard-out : b ≡ false → c ≡ betterPlace c j k (judge s t route row k)
+    hard-out g = sym (ap (betterPlace c j k) (told ∙ ap (λ (x : Bool). judged x cost) (sym f ∙ g)))
 
-    pub hard-won : wins cost c ≡ true → b ≡ true → Best j k cost ≡ better c j k (judge s t route row k)
-    hard-won w g = sym (ap (better c j k) (told ∙ ap (λ (x : Bool). judged x cost) (sym f ∙ g)) ∙ cheap-walked c j k true cost w)
+    pub hard-won : wins cost c ≡ true → b ≡ true → Best j k cost ≡ betterPlace c j k (judge s t route row k)
+    hard-won w g = sym (ap (betterPlace c j k) (told ∙ ap (λ (x : Bool). judged x cost) (sym f ∙ g)) ∙ cheap-walked c j k true cost w)
 
 -- where no check is asked, the walk would pass
 pub free-passes : (s : List ℕ) (t : Terms) (route : List ℕ) (row k : ℕ) → Joinable s t route (row ∷ []) → t .constrained ≡ false → true ≡ feasibleIn s t (inserted k row route)
@@ -75,7 +77,7 @@ unfolding judge judgeTrial
 soft-told s t route row k p trial e f g = rw (f, g, e)
 
 module _ (s : List ℕ) (t : Terms) (p : Prices) (trial : List ℕ) (best : Choice) (j k : ℕ) (x : RouteEval) (e : x ≡ routeEval s (t .depot) (t .limits) trial) where
-  pub not-allowed : x ≡ NotAllowed → best ≡ better best j k (judgeTrial s t p trial)
+  pub not-allowed : x ≡ NotAllowed → best ≡ betterPlace best j k (judgeTrial s t p trial)
   unfolding judgeTrial
   not-allowed f = let out : feasibleIn s t trial ≡ false = sym (allowed-feasible s (t .depot) (t .limits) trial) ∙ ap isAllowed (sym e ∙ f) in rw out
 
@@ -86,8 +88,8 @@ module _ (s : List ℕ) (t : Terms) (p : Prices) (trial : List ℕ) (best : Choi
         let passes : feasibleIn s t trial ≡ true = sym (allowed-feasible s (t .depot) (t .limits) trial) ∙ ap isAllowed (sym e ∙ f) in
         rw (passes, ← e, f, ← g)
 
-    pub too-dear : le (p .alone) cost ≡ true → best ≡ better best j k (judgeTrial s t p trial)
+    pub too-dear : le (p .alone) cost ≡ true → best ≡ betterPlace best j k (judgeTrial s t p trial)
     too-dear h = rw (weighed, h)
 
-    pub cheap-enough : le (p .alone) cost ≡ false → better best j k (costs cost) ≡ better best j k (judgeTrial s t p trial)
+    pub cheap-enough : le (p .alone) cost ≡ false → betterPlace best j k (costs cost) ≡ betterPlace best j k (judgeTrial s t p trial)
     cheap-enough h = rw (weighed, h)

@@ -7,7 +7,7 @@ use lib.ListN.{length}
 use Rattle.constructive.specs.declared.terms.Terms.{Terms}
 use Rattle.insertion.specs.declared.choice.Choice.{Choice}
 use Rattle.insertion.specs.declared.place.Tried.{Tried}
-use Rattle.insertion.specs.Place.{judge, better, tryPlaces}
+use Rattle.insertion.specs.Place.{judge, betterPlace, tryPlaces}
 use Rattle.insertion.specs.Trial.{Trial}
 
 pub record Placing (s : List ℕ) (t : Terms) (route : List ℕ) (j row : ℕ) (tried₀ tried : Tried) (trial : List ℕ) (k end : ℕ) : Type 0 where
@@ -25,7 +25,7 @@ placing s t route j row tried trial g = record {
 }
 
 module _ (s : List ℕ) (t : Terms) (route : List ℕ) (j row : ℕ) (tried₀ tried : Tried) (trial : List ℕ) (k end : ℕ) (g : Placing s t route j row tried₀ tried trial k end) where
-  pub places : (tried′ : Tried) (trial′ : List ℕ) → k < end → tried′ .choice ≡ better (tried .choice) j k (judge s t route row k) → Trial route row (tried′ .at) trial′
+  pub places : (tried′ : Tried) (trial′ : List ℕ) → k < end → tried′ .choice ≡ betterPlace (tried .choice) j k (judge s t route row k) → Trial route row (tried′ .at) trial′
       → Placing s t route j row tried₀ tried′ trial′ (k + 1) end
   unfolding tryPlaces
   places tried′ trial′ h e f = record {

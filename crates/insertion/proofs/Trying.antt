@@ -5,8 +5,10 @@ use native.Mathlib.Omega.{arith}
 use mathlib.Core.List.{List, [], _∷_, _++_}
 use lib.ListN.{length, getD, set, take, drop, length-drop, take-append-drop}
 use lib.Seq.{length-take-le, drop-length, take-at, getD-at, set-at, drop-append-add}
-use Rattle.lists.specs.Every.{Every, every-of, every-at}
-use Rattle.lists.specs.Moved.{without, inserted, inserted-length, inserted-every}
+use Rattle.lists.specs.Every.{Every}
+use Rattle.lists.specs.Laws.Every.{every-of, every-at}
+use Rattle.lists.specs.Moved.{without, inserted}
+use Rattle.lists.specs.Laws.Moved.{inserted-length, inserted-every}
 use Rattle.sheet.specs.Fields.{rowsOf}
 use Rattle.evaluation.specs.Routed.{Routed}
 use Rattle.constructive.specs.declared.terms.Terms.{Terms}

@@ -13,12 +13,12 @@ use Rattle.constructive.specs.Load.{loadOf}
 use Rattle.constructive.specs.Rounds.{passes}
 
 -- "the load stays within capacity": of a round of the vehicle at index v
-abbrev pub loads : List ℕ → ℕ → List ℕ → ℕ → Bool
-loads s v stops row = leb (loadOf s stops + demandOf s row) (vehicleOf s v .capacity)
+abbrev pub loadFits : List ℕ → ℕ → List ℕ → ℕ → Bool
+loadFits s v stops row = leb (loadOf s stops + demandOf s row) (vehicleOf s v .capacity)
 
 -- the place before the k-th stop, from 0
 abbrev pub lawfulPlace : List ℕ → ℕ → ℕ → List ℕ → ℕ → ℕ → Bool
-lawfulPlace s depot v stops row k = loads s v stops row && passes s depot v (inserted k row stops)
+lawfulPlace s depot v stops row k = loadFits s v stops row && passes s depot v (inserted k row stops)
 
 -- closed to a stop: it has no lawful place, "from before its first stop to after its last"
 abbrev pub ClosedTo : List ℕ → ℕ → Round → ℕ → Type 0

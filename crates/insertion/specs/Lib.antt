@@ -1,5 +1,4 @@
 pub mod Lawful
 pub mod Place
-pub mod LawfulLaws
-pub mod Judging
 pub mod Trial
+pub mod Laws

@@ -23,27 +23,27 @@ costIn s t route = effectiveCost s (t .depot) (t .limits) route
 
 -- ---- one place
 -- the row before place k and the one after it: the depot at the ends
-abbrev pub prevAt : ℕ → List ℕ → ℕ → ℕ
-prevAt depot route zero = depot
-prevAt depot route (suc k) = getD route k 0
+abbrev pub rowBefore : ℕ → List ℕ → ℕ → ℕ
+rowBefore depot route zero = depot
+rowBefore depot route (suc k) = getD route k 0
 
-abbrev pub nextAt : ℕ → List ℕ → ℕ → ℕ
-nextAt depot route k = cond (eqb k (length route)) depot (getD route k 0)
+abbrev pub rowAfter : ℕ → List ℕ → ℕ → ℕ
+rowAfter depot route k = cond (eqb k (length route)) depot (getD route k 0)
 
 -- the way past the stop, less the leg that it breaks
 abbrev pub detour : List ℕ → ℕ → List ℕ → ℕ → ℕ → Float
 detour s depot route row k =
-    let prev = prevAt depot route k in
-    let next = nextAt depot route k in
+    let prev = rowBefore depot route k in
+    let next = rowAfter depot route k in
     distanceOf s prev row ⊕ distanceOf s row next ⊖ distanceOf s prev next
 
 -- what the stop adds to the round: with soft windows its lateness counts too
 abbrev pub addedCost : List ℕ → Terms → List ℕ → ℕ → ℕ → Float
 addedCost s t route row k = cond (t .soft) (costIn s t (inserted k row route) ⊖ costIn s t route) (detour s (t .depot) route row k)
 
--- "soft windows also need the added cost to be below going alone plus the fixed cost"
-abbrev pub tooDear : List ℕ → Terms → ℕ → Float → Bool
-tooDear s t row cost = t .soft && le (costIn s t (row ∷ []) ⊕ t .fixed) cost
+-- "soft windows (..) also need the added cost to be below going alone plus the fixed cost"
+abbrev pub placeTooDear : List ℕ → Terms → ℕ → Float → Bool
+placeTooDear s t row cost = t .soft && le (costIn s t (row ∷ []) ⊕ t .fixed) cost
 
 -- a place's cost, or that the stop may not stand there
 pub data Judged : Type 0 where
@@ -55,11 +55,11 @@ judged true cost = costs cost
 judged false cost = unfit
 
 -- one place, judged: "`route_feasible` passes the round with the stop in it", and it is not too dear
-abbrev pub fits : List ℕ → Terms → List ℕ → ℕ → ℕ → Bool
-fits s t route row k = feasibleIn s t (inserted k row route) && not (tooDear s t row (addedCost s t route row k))
+abbrev pub placeFits : List ℕ → Terms → List ℕ → ℕ → ℕ → Bool
+placeFits s t route row k = feasibleIn s t (inserted k row route) && not (placeTooDear s t row (addedCost s t route row k))
 
 unfoldable pub judge : List ℕ → Terms → List ℕ → ℕ → ℕ → Judged
-judge s t route row k = judged (fits s t route row k) (addedCost s t route row k)
+judge s t route row k = judged (placeFits s t route row k) (addedCost s t route row k)
 
 -- ---- one choice
 -- "the first least insertion wins": a later one wins only if it costs less
@@ -67,14 +67,14 @@ abbrev pub wins : Float → Choice → Bool
 wins cost Nowhere = true
 wins cost (Best j k least) = lt cost least
 
-abbrev pub better : Choice → ℕ → ℕ → Judged → Choice
-better c j k unfit = c
-better c j k (costs cost) = cond (wins cost c) (Best j k cost) c
+abbrev pub betterPlace : Choice → ℕ → ℕ → Judged → Choice
+betterPlace c j k unfit = c
+betterPlace c j k (costs cost) = cond (wins cost c) (Best j k cost) c
 
 -- the stop at place j of those unrouted, at n places of the round from k on
 unfoldable pub tryPlaces : List ℕ → Terms → List ℕ → ℕ → ℕ → Choice → ℕ → ℕ → Choice
 tryPlaces s t route j row c zero k = c
-tryPlaces s t route j row c (suc n) k = tryPlaces s t route j row (better c j k (judge s t route row k)) n (k + 1)
+tryPlaces s t route j row c (suc n) k = tryPlaces s t route j row (betterPlace c j k (judge s t route row k)) n (k + 1)
 
 -- "A place for a stop is lawful if the load stays within capacity"
 abbrev pub carries : List ℕ → Terms → List ℕ → ℕ → Bool

@@ -6,6 +6,7 @@ use mathlib.Core.List.{List, [], _∷_}
 use lib.Dec.{T}
 use lib.ListN.{length}
 use lib.Ieee.{Float, le}
+use Rattle.sheet.specs.Fields.{mostRows}
 use Rattle.lists.specs.Every.{Every}
 use Rattle.lists.specs.Moved.{inserted}
 use Rattle.sheet.specs.Values.{nought}
@@ -33,7 +34,7 @@ pub record Unwalked (s : List ℕ) (t : Terms) (route left : List ℕ) : Type 0 
 pub record Joinable (s : List ℕ) (t : Terms) (route left : List ℕ) : Type 0 where
   pub round : Routed s (t .depot) route
   pub unrouted : Routed s (t .depot) left
-  pub room : length route < 101
+  pub room : length route < mostRows
   pub unwalked : Unwalked s t route left
 
 -- ---- the soft rules

@@ -1,6 +1,6 @@
 // The best insertion so far.
 ghost use mathlib.Core.Path.{_≡_};
-ghost use Rattle.insertion.specs.Place.{costs, wins, better};
+ghost use Rattle.insertion.specs.Place.{costs, wins, betterPlace};
 
 // The stop by its place among those unrouted, its place in the round, and what it costs.
 pub enum Choice {
@@ -20,7 +20,7 @@ pub fn wins(cost: f64, best: Choice) -> bool
 
 // The better of it and a place that the stop may have at such a cost.
 pub fn better(best: Choice, j: usize, k: usize, cost: f64) -> Choice
-    ensures { λ r. ⌜ r ≡ better best j k (costs cost) ⌝ }
+    ensures { λ r. ⌜ r ≡ betterPlace best j k (costs cost) ⌝ }
 {
     if wins(cost, best) {
         return Choice::Best(j, k, cost);

@@ -7,7 +7,7 @@ ghost use Prim.Native.Nat.{_≤_, _<_};
 ghost use lib.ListN.{length};
 ghost use Rattle.sheet.specs.Fields.{rowsOf};
 ghost use Rattle.evaluation.specs.Routed.{Routed};
-ghost use Rattle.insertion.specs.Place.{prevAt, nextAt, detour};
+ghost use Rattle.insertion.specs.Place.{rowBefore, rowAfter, detour};
 ghost use Rattle.insertion.specs.Trial.{softCost};
 
 // The best so far, and where the stop stands in the round on trial.
@@ -25,7 +25,7 @@ pub struct Prices {
 // The row before place k: the depot before the first stop.
 fn before_at(depot: usize, route: &[u16], k: usize) -> usize
     requires { ⌜ k ≤ length (now route) ⌝ }
-    ensures { λ r. ⌜ r ≡ prevAt depot (now (route .entry)) k ⌝ }
+    ensures { λ r. ⌜ r ≡ rowBefore depot (now (route .entry)) k ⌝ }
 {
     if k == 0 {
         return depot;
@@ -36,7 +36,7 @@ fn before_at(depot: usize, route: &[u16], k: usize) -> usize
 // The row after it: the depot after the last.
 fn behind_at(depot: usize, route: &[u16], k: usize) -> usize
     requires { ⌜ k ≤ length (now route) ⌝ }
-    ensures { λ r. ⌜ r ≡ nextAt depot (now (route .entry)) k ⌝ }
+    ensures { λ r. ⌜ r ≡ rowAfter depot (now (route .entry)) k ⌝ }
 {
     if k == route.len() {
         return depot;

@@ -28,12 +28,12 @@ pushN s v prev i c = record {
 }
 
 -- "No rest is needed if the unrested return is ≤ earliest": the duration, of the walks brought home
-abbrev pub homeward : List ℕ → ℕ → Walk → Walk → Walk
-homeward s v before after = cond (unneeded s v before) before after
+abbrev pub homewardN : List ℕ → ℕ → Walk → Walk → Walk
+homewardN s v before after = cond (unneeded s v before) before after
 
 -- the duration of the stops left, from the clock at row `prev` on
 unfoldable pub onwardN : List ℕ → ℕ → ClockN → ℕ → List ℕ → Walk
-onwardN s v c prev [] = homeward s v (homeN s v prev (c .before)) (homeN s v prev (c .after))
+onwardN s v c prev [] = homewardN s v (homeN s v prev (c .before)) (homeN s v prev (c .after))
 onwardN s v c prev (i ∷ is) = onwardN s v (pushN s v prev i c) i is
 
 -- whether the walk, by the clock where the vehicle has a rest, keeps the maxima

@@ -1,12 +1,4 @@
 pub mod Whole
 pub mod Lawful
 pub mod ClockN
-pub mod Order
-pub mod Places
-pub mod Decides
-pub mod WholeLaws
-pub mod Amounts
-pub mod Windows
-pub mod Stops
-pub mod Rounds
-pub mod Meaning
+pub mod Laws

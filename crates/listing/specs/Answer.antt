@@ -1,5 +1,4 @@
 -- Document 01, "Sheet A and its relatives": what the listing program prints.
-use mathlib.Core.Path.{_≡_, refl}
 use Prim.Native.Nat.{ℕ, zero, suc}
 use mathlib.Core.List.{List}
 use Rattle.sheet.specs.Fields.{planLength}
@@ -11,15 +10,6 @@ use Rattle.listing_text.specs.Listing.{listingOf, refusedText, listingRefusal}
 unfoldable pub answerText : ℕ → List ℕ → List ℕ → List ℕ
 answerText zero s plan = listingOf s plan
 answerText (suc n) s plan = refusedText (suc n)
-
-pub answer-listed : (s plan : List ℕ) → answerText 0 s plan ≡ listingOf s plan
-unfolding answerText
-answer-listed s plan = refl
-
-pub answer-refused : (n : ℕ) (s plan : List ℕ) → (n ≡ 0 → ⊥) → answerText n s plan ≡ refusedText n
-unfolding answerText
-answer-refused zero s plan h = absurd (h refl)
-answer-refused (suc n) s plan h = refl
 
 -- the text of a sheet: its early refusal, the planner's, or the listing of its plan
 unfoldable pub listedText : List ℕ → List ℕ

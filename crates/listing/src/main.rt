@@ -4,6 +4,7 @@ use libc::STDIN_FILENO;
 use libc::STDOUT_FILENO;
 ghost use Prim.Native.Nat.{_≤_};
 ghost use lib.ListN.{length};
+ghost use Rattle.listing_text.specs.Listing.{listingRows};
 ghost use Rattle.sheet.specs.Fields.{rowsOf};
 ghost use Rattle.sheet.specs.Refusal.{refusalOf};
 ghost use Rattle.listing_text.specs.Put.{Put};
@@ -20,7 +21,7 @@ const PLAN_ROOM: usize = 3_856;
 
 // The listing of a sheet of at most 48 rows, which is planned into `plan`, or its refusal.
 fn write_planned(out: &mut [u8], sheet: &[u8], plan: &mut [u8]) -> usize
-    requires { ⌜ (8192 ≤ length (now out)) × (rowsOf (now sheet) ≤ 48) ⌝ }
+    requires { ⌜ (8192 ≤ length (now out)) × (rowsOf (now sheet) ≤ listingRows) ⌝ }
     ensures { λ r. ⌜ Put (now (out .entry)) (now (out .exit)) 0 (answerText (refusalOf (now (sheet .entry)) (length (now (plan .entry)))) (now (sheet .entry)) (planFor (now (sheet .entry)))) r ⌝ }
 {
     let refused = planner::plan_rounds(sheet, plan);

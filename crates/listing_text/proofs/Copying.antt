@@ -7,8 +7,8 @@ use mathlib.Core.List.{List, [], _∷_}
 use lib.ListN.{length, take, getD, set, length-set}
 use lib.Seq.{length-take-le, take-suc, take-all}
 use Rattle.wire.specs.Bytes.{write}
-use Rattle.wire.specs.Laws.{write-write, write-byte}
-use Rattle.listing_text.specs.Put.{Room}
+use Rattle.wire.specs.Laws.Bytes.{write-write, write-byte}
+use Rattle.listing_text.specs.Put.{TextRoom}
 use Rattle.listing_text.proofs.Putting.{write-nothing}
 
 pub record Copying (before : List ℕ) (at : ℕ) (words after : List ℕ) (i : ℕ) : Type 0 where
@@ -20,7 +20,7 @@ module _ (s : List ℕ) (at : ℕ) (words : List ℕ) where
   begins = record { same = sym (write-nothing s at); long = refl }
 
   module _ (t : List ℕ) (i : ℕ) where
-    pub goes-on : Room s at words → Copying s at words t i → i < length words → Copying s at words (set t (at + i) (getD words i 0)) (i + 1)
+    pub goes-on : TextRoom s at words → Copying s at words t i → i < length words → Copying s at words (set t (at + i) (getD words i 0)) (i + 1)
     goes-on r g h =
         let l = g .long in
         let n = length-take-le i words (omega arith) in

@@ -5,8 +5,8 @@ use native.Mathlib.Omega.{arith}
 use mathlib.Core.List.{List, [], _∷_}
 use Rattle.lists.specs.Once.{Stops}
 use Rattle.plan.specs.Read.{nextAt, chainFrom}
-use Rattle.listing_text.specs.Text.{joined}
-use Rattle.listing_text.specs.Put.{Room, Put}
+use Rattle.listing_text.specs.Text.{concatenated}
+use Rattle.listing_text.specs.Put.{TextRoom, Put}
 use Rattle.listing_text.specs.Listing.{stopLine, stopLines}
 use Rattle.listing_text.proofs.Putting.{Left, begins, fits, next, ends}
 
@@ -40,7 +40,7 @@ pub record Following (plan : List ℕ) (n : ℕ) (before after : List ℕ) (at e
   pub left : Left before after at end whole (stopLines plan n (chainFrom plan n links row))
   pub stops : Stops n (chainFrom plan n links row)
 
-pub starts : (plan : List ℕ) (n : ℕ) (s : List ℕ) (at links row : ℕ) → Stops n (chainFrom plan n links row) → Room s at (joined (stopLines plan n (chainFrom plan n links row))) → Following plan n s s at at (joined (stopLines plan n (chainFrom plan n links row))) links row
+pub starts : (plan : List ℕ) (n : ℕ) (s : List ℕ) (at links row : ℕ) → Stops n (chainFrom plan n links row) → TextRoom s at (concatenated (stopLines plan n (chainFrom plan n links row))) → Following plan n s s at at (concatenated (stopLines plan n (chainFrom plan n links row))) links row
 starts plan n s at links row o r = record { left = begins s at (stopLines plan n (chainFrom plan n links row)) r; stops = o }
 
 module _ {plan before after whole : List ℕ} {n at end links row : ℕ} (f : Following plan n before after at end whole links row) where
@@ -59,7 +59,7 @@ module _ {plan before after whole : List ℕ} {n at end links row : ℕ} (f : Fo
     pub row-in : row < n
     row-in = stops-here .0 .1
 
-    pub line-fits : Room after end (stopLine plan n row)
+    pub line-fits : TextRoom after end (stopLine plan n row)
     line-fits = fits here
 
     module _ {u : List ℕ} {end′ : ℕ} (p : Put after u end (stopLine plan n row) end′) where

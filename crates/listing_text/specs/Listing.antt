@@ -6,25 +6,25 @@ use Rattle.wire.specs.Bytes.{u16At, u32At, u64At}
 use Rattle.sheet.specs.Fields.{rowsOf}
 use Rattle.sheet.specs.Refusal.{headerRight, unless}
 use Rattle.constructive.specs.Outcome.{Round}
-use Rattle.plan.specs.Plan.{roundAt, visitAt}
-use Rattle.plan.specs.Read.{roundsAt, asideAt, idAt, firstAt, nextAt, readPlan}
-use Rattle.listing_text.specs.Text.{text, joined, decimal, hex16}
+use Rattle.plan.specs.Plan.{roundRecordAt, rowRecordAt}
+use Rattle.plan.specs.Read.{roundsAt, asideAt, idAt, firstStopAt, nextAt, readPlan}
+use Rattle.listing_text.specs.Text.{text, concatenated, decimal, hex16}
 
 -- ---- parts of a line
 -- a name, and a number that is "decimal"
 unfoldable pub field : List ℕ → ℕ → List ℕ
-field name n = joined (name ∷ decimal n ∷ [])
+field name n = concatenated (name ∷ decimal n ∷ [])
 
 -- "f64 bits in hexadecimal", after a space
 unfoldable pub word : ℕ → List ℕ
-word bits = joined ((32 ∷ []) ∷ hex16 bits ∷ [])
+word bits = concatenated ((32 ∷ []) ∷ hex16 bits ∷ [])
 
 -- a line ends in two words
 abbrev pub figureParts : List ℕ → ℕ → List (List ℕ)
 figureParts plan at = word (u64At plan at) ∷ word (u64At plan (at + 8)) ∷ (10 ∷ []) ∷ []
 
-unfoldable pub figures : List ℕ → ℕ → List ℕ
-figures plan at = joined (figureParts plan at)
+unfoldable pub figuresText : List ℕ → ℕ → List ℕ
+figuresText plan at = concatenated (figureParts plan at)
 
 -- ---- lines
 -- "`aside` is the first set-aside stop."
@@ -32,32 +32,32 @@ abbrev pub headerParts : List ℕ → List (List ℕ)
 headerParts plan = field (text "rounds ") (roundsAt plan) ∷ field (text " aside ") (asideAt plan) ∷ (10 ∷ []) ∷ []
 
 unfoldable pub headerLine : List ℕ → List ℕ
-headerLine plan = joined (headerParts plan)
+headerLine plan = concatenated (headerParts plan)
 
 -- "A round line starts with its vehicle's id, `rest` is the rest place (..). It ends in distance and duration": the k-th round, from 0
 abbrev pub roundParts : List ℕ → ℕ → List (List ℕ)
 roundParts plan k =
     field (text "round ") (idAt plan k)
-    ∷ field (text " first ") (firstAt plan k)
-    ∷ field (text " load ") (u32At plan (roundAt k + 4))
-    ∷ field (text " rest ") (u16At plan (roundAt k + 10))
-    ∷ figures plan (roundAt k + 16)
+    ∷ field (text " first ") (firstStopAt plan k)
+    ∷ field (text " load ") (u32At plan (roundRecordAt k + 4))
+    ∷ field (text " rest ") (u16At plan (roundRecordAt k + 10))
+    ∷ figuresText plan (roundRecordAt k + 16)
     ∷ []
 
 unfoldable pub roundLine : List ℕ → ℕ → List ℕ
-roundLine plan k = joined (roundParts plan k)
+roundLine plan k = concatenated (roundParts plan k)
 
 -- "a stop line in arrival and departure": a row, of n
 abbrev pub stopParts : List ℕ → ℕ → ℕ → List (List ℕ)
 stopParts plan n row =
     field (text "stop ") row
     ∷ field (text " next ") (nextAt plan n row)
-    ∷ field (text " load ") (u32At plan (visitAt n row + 4))
-    ∷ figures plan (visitAt n row + 8)
+    ∷ field (text " load ") (u32At plan (rowRecordAt n row + 4))
+    ∷ figuresText plan (rowRecordAt n row + 8)
     ∷ []
 
 unfoldable pub stopLine : List ℕ → ℕ → ℕ → List ℕ
-stopLine plan n row = joined (stopParts plan n row)
+stopLine plan n row = concatenated (stopParts plan n row)
 
 -- ---- the listing
 unfoldable pub stopLines : List ℕ → ℕ → List ℕ → List (List ℕ)
@@ -66,7 +66,7 @@ stopLines plan n (row ∷ rows) = stopLine plan n row ∷ stopLines plan n rows
 
 -- "Stops follow their rounds"
 unfoldable pub roundText : List ℕ → ℕ → ℕ → List ℕ → List ℕ
-roundText plan n k stops = joined (roundLine plan k ∷ joined (stopLines plan n stops) ∷ [])
+roundText plan n k stops = concatenated (roundLine plan k ∷ concatenated (stopLines plan n stops) ∷ [])
 
 -- the rounds from the k-th on
 unfoldable pub roundTexts : List ℕ → ℕ → ℕ → List Round → List (List ℕ)
@@ -77,18 +77,21 @@ roundTexts plan n k (r ∷ rs) = roundText plan n k (r .stops) ∷ roundTexts pl
 abbrev pub listingParts : List ℕ → List ℕ → List (List ℕ)
 listingParts s plan =
     headerLine plan
-    ∷ joined (roundTexts plan (rowsOf s) 0 (readPlan s plan .rounds))
-    ∷ joined (stopLines plan (rowsOf s) (readPlan s plan .aside))
+    ∷ concatenated (roundTexts plan (rowsOf s) 0 (readPlan s plan .rounds))
+    ∷ concatenated (stopLines plan (rowsOf s) (readPlan s plan .aside))
     ∷ []
 
 unfoldable pub listingOf : List ℕ → List ℕ → List ℕ
-listingOf s plan = joined (listingParts s plan)
+listingOf s plan = concatenated (listingParts s plan)
 
 -- "prints `refused N`"
 unfoldable pub refusedText : ℕ → List ℕ
-refusedText number = joined (field (text "refused ") number ∷ (10 ∷ []) ∷ [])
+refusedText number = concatenated (field (text "refused ") number ∷ (10 ∷ []) ∷ [])
 
 -- ---- what the listing program answers
+abbrev pub listingRows : ℕ
+listingRows = 48
+
 -- "up to 48 rows (above: refusal 2)": tested where 2 is, after 1 and before whatever the planner tells
 unfoldable pub listingRefusal : List ℕ → ℕ → ℕ
-listingRefusal s told = unless (headerRight s) 1 (unless (leb (rowsOf s) 48) 2 told)
+listingRefusal s told = unless (headerRight s) 1 (unless (leb (rowsOf s) listingRows) 2 told)

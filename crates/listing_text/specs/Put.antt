@@ -6,8 +6,8 @@ use lib.ListN.{length}
 use Rattle.wire.specs.Bytes.{write}
 
 -- the buffer has room for the text from `at` on
-abbrev pub Room : List ℕ → ℕ → List ℕ → Type 0
-Room out at xs = at + length xs ≤ length out
+abbrev pub TextRoom : List ℕ → ℕ → List ℕ → Type 0
+TextRoom out at xs = at + length xs ≤ length out
 
 -- the buffer before, after, where the text was put, the text, and where it ends
 pub record Put (before after : List ℕ) (at : ℕ) (xs : List ℕ) (end : ℕ) : Type 0 where

@@ -12,9 +12,9 @@ text nothing = []
 text (c before cs) = code c ∷ text cs
 
 -- parts one after another
-abbrev pub joined : List (List ℕ) → List ℕ
-joined [] = []
-joined (part ∷ parts) = part ++ joined parts
+abbrev pub concatenated : List (List ℕ) → List ℕ
+concatenated [] = []
+concatenated (part ∷ parts) = part ++ concatenated parts
 
 -- a digit below 16, in upper case
 abbrev pub digitOf : ℕ → ℕ

@@ -4,9 +4,9 @@ ghost use Prim.Native.Nat.{_≤_, _<_};
 ghost use lib.ListN.{length};
 ghost use Rattle.lists.specs.Once.{Stops};
 ghost use Rattle.sheet.specs.Fields.{rowsOf};
-ghost use Rattle.plan.specs.Read.{firstAt, chainOf, readPlan};
-ghost use Rattle.listing_text.specs.Text.{joined};
-ghost use Rattle.listing_text.specs.Put.{Room, Put};
+ghost use Rattle.plan.specs.Read.{firstStopAt, chainOf, readPlan};
+ghost use Rattle.listing_text.specs.Text.{concatenated};
+ghost use Rattle.listing_text.specs.Put.{TextRoom, Put};
 ghost use Rattle.listing_text.specs.Listing.{stopLines, roundText, roundTexts, listingOf, refusedText, listingRefusal};
 ghost use Rattle.listing_text.specs.Listable.{Listable};
 
@@ -16,12 +16,15 @@ mod text;
 // No listing is longer.
 pub const LISTING_BYTES: usize = 8192;
 
+// The most rows that it lists.
+const LISTING_ROWS: usize = 48;
+
 // The stops of a chain, by the link to its first.
 fn put_chain(out: &mut [u8], at: usize, sheet: &[u8], plan: &[u8], first: u16) -> usize
     requires { ⌜ Listable (now sheet) (now plan) ⌝ }
     requires { ⌜ Stops (rowsOf (now sheet)) (chainOf (now sheet) (now plan) first) ⌝ }
-    requires { ⌜ Room (now out) at (joined (stopLines (now plan) (rowsOf (now sheet)) (chainOf (now sheet) (now plan) first))) ⌝ }
-    ensures { λ r. ⌜ Put (now (out .entry)) (now (out .exit)) at (joined (stopLines (now (plan .entry)) (rowsOf (now (sheet .entry))) (chainOf (now (sheet .entry)) (now (plan .entry)) first))) r ⌝ }
+    requires { ⌜ TextRoom (now out) at (concatenated (stopLines (now plan) (rowsOf (now sheet)) (chainOf (now sheet) (now plan) first))) ⌝ }
+    ensures { λ r. ⌜ Put (now (out .entry)) (now (out .exit)) at (concatenated (stopLines (now (plan .entry)) (rowsOf (now (sheet .entry))) (chainOf (now (sheet .entry)) (now (plan .entry)) first))) r ⌝ }
 {
     let mut end = at;
     let mut row = first;
@@ -41,9 +44,9 @@ fn put_chain(out: &mut [u8], at: usize, sheet: &[u8], plan: &[u8], first: u16) -
 fn put_round(out: &mut [u8], at: usize, sheet: &[u8], plan: &[u8], k: usize) -> usize
     requires { ⌜ Listable (now sheet) (now plan) ⌝ }
     requires { ⌜ k < rowsOf (now sheet) ⌝ }
-    requires { ⌜ Stops (rowsOf (now sheet)) (chainOf (now sheet) (now plan) (firstAt (now plan) k)) ⌝ }
-    requires { ⌜ Room (now out) at (roundText (now plan) (rowsOf (now sheet)) k (chainOf (now sheet) (now plan) (firstAt (now plan) k))) ⌝ }
-    ensures { λ r. ⌜ Put (now (out .entry)) (now (out .exit)) at (roundText (now (plan .entry)) (rowsOf (now (sheet .entry))) k (chainOf (now (sheet .entry)) (now (plan .entry)) (firstAt (now (plan .entry)) k))) r ⌝ }
+    requires { ⌜ Stops (rowsOf (now sheet)) (chainOf (now sheet) (now plan) (firstStopAt (now plan) k)) ⌝ }
+    requires { ⌜ TextRoom (now out) at (roundText (now plan) (rowsOf (now sheet)) k (chainOf (now sheet) (now plan) (firstStopAt (now plan) k))) ⌝ }
+    ensures { λ r. ⌜ Put (now (out .entry)) (now (out .exit)) at (roundText (now (plan .entry)) (rowsOf (now (sheet .entry))) k (chainOf (now (sheet .entry)) (now (plan .entry)) (firstStopAt (now (plan .entry)) k))) r ⌝ }
 {
     let end = lines::put_round_line(out, at, plan, k);
     let first = wire::u16_at(plan, 16 + 56 * k + 8);
@@ -52,8 +55,8 @@ fn put_round(out: &mut [u8], at: usize, sheet: &[u8], plan: &[u8], k: usize) -> 
 
 fn put_rounds(out: &mut [u8], at: usize, sheet: &[u8], plan: &[u8]) -> usize
     requires { ⌜ Listable (now sheet) (now plan) ⌝ }
-    requires { ⌜ Room (now out) at (joined (roundTexts (now plan) (rowsOf (now sheet)) 0 (readPlan (now sheet) (now plan) .rounds))) ⌝ }
-    ensures { λ r. ⌜ Put (now (out .entry)) (now (out .exit)) at (joined (roundTexts (now (plan .entry)) (rowsOf (now (sheet .entry))) 0 (readPlan (now (sheet .entry)) (now (plan .entry)) .rounds))) r ⌝ }
+    requires { ⌜ TextRoom (now out) at (concatenated (roundTexts (now plan) (rowsOf (now sheet)) 0 (readPlan (now sheet) (now plan) .rounds))) ⌝ }
+    ensures { λ r. ⌜ Put (now (out .entry)) (now (out .exit)) at (concatenated (roundTexts (now (plan .entry)) (rowsOf (now (sheet .entry))) 0 (readPlan (now (sheet .entry)) (now (plan .entry)) .rounds))) r ⌝ }
 {
     let rounds = wire::u16_at(plan, 0) as usize;
     let mut end = at;
@@ -88,7 +91,7 @@ pub fn early_refusal(sheet: &[u8]) -> u32
     if !sheet_refusal::header_right(sheet) {
         return 1;
     }
-    if 48 < sheet::rows(sheet) {
+    if LISTING_ROWS < sheet::rows(sheet) {
         return 2;
     }
     0

@@ -3,10 +3,10 @@ ghost use mathlib.Core.Path.{_≡_};
 ghost use Prim.Native.Nat.{_<_};
 ghost use mathlib.Core.List.{[], _∷_};
 ghost use Rattle.listing_text.specs.Text.{digitOf, decimal, hexIn};
-ghost use Rattle.listing_text.specs.Put.{Room, Put};
+ghost use Rattle.listing_text.specs.Put.{TextRoom, Put};
 
 pub fn put_byte(out: &mut [u8], at: usize, byte: u8) -> usize
-    requires { ⌜ Room (now out) at (byte ∷ []) ⌝ }
+    requires { ⌜ TextRoom (now out) at (byte ∷ []) ⌝ }
     ensures { λ r. ⌜ Put (now (out .entry)) (now (out .exit)) at (byte ∷ []) r ⌝ }
 {
     out[at] = byte;
@@ -14,7 +14,7 @@ pub fn put_byte(out: &mut [u8], at: usize, byte: u8) -> usize
 }
 
 pub fn put_words(out: &mut [u8], at: usize, words: &[u8]) -> usize
-    requires { ⌜ Room (now out) at (now words) ⌝ }
+    requires { ⌜ TextRoom (now out) at (now words) ⌝ }
     ensures { λ r. ⌜ Put (now (out .entry)) (now (out .exit)) at (now (words .entry)) r ⌝ }
 {
     for i in 0..words.len() {
@@ -31,7 +31,7 @@ fn digit(d: u8) -> u8
 }
 
 pub fn put_decimal(out: &mut [u8], at: usize, n: u32) -> usize
-    requires { ⌜ Room (now out) at (decimal n) ⌝ }
+    requires { ⌜ TextRoom (now out) at (decimal n) ⌝ }
     ensures { λ r. ⌜ Put (now (out .entry)) (now (out .exit)) at (decimal n) r ⌝ }
 {
     if n < 10 {
@@ -43,7 +43,7 @@ pub fn put_decimal(out: &mut [u8], at: usize, n: u32) -> usize
 
 // The last `digits` digits of n.
 pub fn put_hex(out: &mut [u8], at: usize, digits: usize, n: u64) -> usize
-    requires { ⌜ Room (now out) at (hexIn digits n) ⌝ }
+    requires { ⌜ TextRoom (now out) at (hexIn digits n) ⌝ }
     ensures { λ r. ⌜ Put (now (out .entry)) (now (out .exit)) at (hexIn digits n) r ⌝ }
 {
     if digits == 0 {

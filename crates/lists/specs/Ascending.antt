@@ -1,30 +1,9 @@
--- Lists that ascend, and that the numbers of a run which a test keeps do. Assumes nothing.
-use Prim.Native.Nat.{ℕ, _+_, _<_, zero, suc}
-use mathlib.Core.Bool.{Bool, true, false}
+-- Lists that ascend.
+use Prim.Native.Nat.{ℕ, _<_}
 use mathlib.Core.List.{List, [], _∷_}
-use native.Mathlib.Omega.{arith}
 use Rattle.lists.specs.Every.{Every}
-use Rattle.lists.specs.Those.{keep, those}
 
 -- each number below all that come after it
 abbrev pub Ascending : List ℕ → Type 0
 Ascending [] = Unit
 Ascending (row ∷ rows) = Every (λ (x : ℕ). row < x) rows × Ascending rows
-
-keep-every : (P : ℕ → Type 0) (b : Bool) (i : ℕ) (xs : List ℕ) → P i → Every P xs → Every P (keep b i xs)
-keep-every P true i xs p e = (p, e)
-keep-every P false i xs p e = e
-
-keep-ascending : (b : Bool) (i : ℕ) (xs : List ℕ) → Every (λ (x : ℕ). i < x) xs → Ascending xs → Ascending (keep b i xs)
-keep-ascending true i xs e a = (e, a)
-keep-ascending false i xs e a = a
-
-those-above : (p : ℕ → Bool) (n i y : ℕ) → y < i → Every (λ (x : ℕ). y < x) (those p n i)
-unfolding those
-those-above p zero i y h = tt
-those-above p (suc n) i y h = keep-every (λ (x : ℕ). y < x) (p i) i (those p n (i + 1)) h (those-above p n (i + 1) y (omega arith))
-
-pub those-ascending : (p : ℕ → Bool) (n i : ℕ) → Ascending (those p n i)
-unfolding those
-those-ascending p zero i = tt
-those-ascending p (suc n) i = keep-ascending (p i) i (those p n (i + 1)) (those-above p n (i + 1) i (omega arith)) (those-ascending p n (i + 1))

@@ -1,9 +1,8 @@
--- How often a row stands in a list. Assumes nothing.
-use Prim.Native.Nat.{ℕ, _+_, _<_}
+-- How often a row stands in a list.
+use Prim.Native.Nat.{ℕ, _+_}
 use mathlib.Core.Bool.{Bool, true, false}
 use mathlib.Core.List.{List, [], _∷_}
-use lib.Dec.{ltb, eqb, T}
-use native.Mathlib.Omega.{arith}
+use lib.Dec.{ltb, eqb}
 
 -- a truth, counted
 abbrev pub one : Bool → ℕ
@@ -18,8 +17,3 @@ count x (y ∷ ys) = one (eqb x y) + count x ys
 -- whether it stands there
 abbrev pub isIn : ℕ → List ℕ → Bool
 isIn x xs = ltb 0 (count x xs)
-
--- what is counted holds
-pub stop-counted : (b : Bool) → 0 < one b → T b
-stop-counted true h = tt
-stop-counted false h = absurd (omega arith)

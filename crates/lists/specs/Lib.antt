@@ -3,6 +3,6 @@ pub mod Every
 pub mod Fold
 pub mod Once
 pub mod Moved
-pub mod Same
-pub mod Those
+pub mod Filter
 pub mod Ascending
+pub mod Laws

@@ -1,2 +1,2 @@
-pub mod Remarking
+pub mod UpdatingMarks
 pub mod Settling

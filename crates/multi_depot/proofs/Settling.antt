@@ -8,27 +8,30 @@ use lib.Dec.{eqb}
 use lib.ListN.{length, getD, take}
 use lib.Seq.{length-take-le, take-all}
 use borrow.Author.Tests.{eq-eqb, ne-eqb}
-use Rattle.lists.specs.Same.{same-length}
-use Rattle.lists.specs.Those.{those-all, those-alike}
+use Rattle.lists.specs.Laws.Permutation.{same-length}
+use Rattle.lists.specs.Laws.Filter.{those-all, those-alike}
 use Rattle.wire.specs.Bytes.{write}
-use Rattle.wire.specs.Laws.{length-write}
+use Rattle.wire.specs.Laws.Bytes.{length-write}
 use Rattle.sheet.specs.Fields.{rowsOf}
 use Rattle.sheet.specs.Depots.{depotsOf}
 use Rattle.sheet.specs.Accepted.{Accepted}
-use Rattle.sheet.specs.Stops.{stopsWith, allStops, all-once}
+use Rattle.sheet.specs.Stops.{stopsWith, allStops}
+use Rattle.sheet.specs.Laws.Stops.{all-once}
 use Rattle.constructive.specs.declared.tables.Filled.{Filled}
 use Rattle.constructive.specs.Outcome.{Outcome, stopsOf}
 use Rattle.constructive.specs.Members.{part}
-use Rattle.constructive.specs.LaidLaws.{length-chains}
-use Rattle.constructive.specs.Holds.{Held, holds-behind, held-outcome, held-tables}
-use Rattle.constructive.specs.Marks.{Marks, turned}
-use Rattle.multi_depot_offers.specs.ByDepot.{isNobody, plannedOf, planned, leftOut, offered, moved, settledIn, firstAt, settledAt, gathered, byDepot, outcomeOf}
-use Rattle.multi_depot_offers.specs.Settled.{attemptsLeft, length-offered, unmoved, offer-falls, settles, moves-on, length-first, enough}
-use Rattle.multi_depot_offers.specs.Each.{gathered-once}
-use Rattle.multi_depot_offers.specs.Rounds.{outcome-right, rounds-few}
-use Rattle.multi_depot_offers.specs.Asked.{setAside, Lent, Planned}
+use Rattle.constructive.specs.Laws.Stored.{length-chains}
+use Rattle.constructive.specs.TableContents.{HoldsOutcome}
+use Rattle.constructive.specs.Laws.TableContents.{holds-behind, held-outcome, held-tables}
+use Rattle.constructive.specs.Marks.{Marks}
+use Rattle.constructive.specs.Laws.Marks.{marked-aside}
+use Rattle.multi_depot_offers.specs.ByDepot.{isNoDepot, plannedOf, plannedAt, leftOut, afterOffers, moved, settledIn, firstDepots, settledAt, gathered, byDepot, outcomeOf}
+use Rattle.multi_depot_offers.specs.Laws.Settled.{attemptsLeft, length-offered, unmoved, offer-falls, settles, moves-on, length-first, enough}
+use Rattle.multi_depot_offers.specs.Laws.Once.{gathered-once}
+use Rattle.multi_depot_offers.specs.Laws.Rounds.{outcome-right, rounds-few}
+use Rattle.multi_depot_offers.specs.Contracts.{asideByMarks, PlanningTables, Planned}
 use Rattle.multi_depot_planning.proofs.Sharing.{part-there}
-use Rattle.multi_depot.specs.Asked.{Desk, Untouched, Told}
+use Rattle.multi_depot.specs.Contracts.{OutcomeTables, Untouched, OutcomeStored}
 
 -- so many rounds of offers are enough, and settle the stops as they are to be
 pub record Settling (s at : List ℕ) : Type 0 where
@@ -37,7 +40,7 @@ pub record Settling (s at : List ℕ) : Type 0 where
   pub most : attemptsLeft s at ≤ rounds
   pub same : settledAt s ≡ settledIn rounds s at
 
-pub begins : (s at : List ℕ) → at ≡ firstAt s → Settling s at
+pub begins : (s at : List ℕ) → at ≡ firstDepots s → Settling s at
 unfolding settledAt
 begins s at e = rw e (record { long = length-first s; rounds = rowsOf s * depotsOf s; most = enough s; same = refl })
 
@@ -46,76 +49,76 @@ pub copied : (before at : List ℕ) {before′ : List ℕ} → length before ≡
 copied before at h e = e ∙ take-all (length before) at (omega arith)
 
 module _ (s at : List ℕ) (a : Accepted s) (g : Settling s at) where
-  pub falls : moved at (offered s at) ≡ true → attemptsLeft s (offered s at) < attemptsLeft s at
+  pub falls : moved at (afterOffers s at) ≡ true → attemptsLeft s (afterOffers s at) < attemptsLeft s at
   falls e = offer-falls s a at (g .long) e
 
-  pub goes-on : moved at (offered s at) ≡ true → Settling s (offered s at)
+  pub goes-on : moved at (afterOffers s at) ≡ true → Settling s (afterOffers s at)
   goes-on e = go (g .rounds) (g .most) (g .same)
     where
-      go : (n : ℕ) → attemptsLeft s at ≤ n → settledAt s ≡ settledIn n s at → Settling s (offered s at)
+      go : (n : ℕ) → attemptsLeft s at ≤ n → settledAt s ≡ settledIn n s at → Settling s (afterOffers s at)
       go zero h q = absurd (let f = falls e in omega arith)
       go (suc n) h q = record { long = length-offered s at ∙ g .long; rounds = n; most = let f = falls e in omega arith; same = q ∙ moves-on s at n e }
 
-  module _ (e : moved at (offered s at) ≡ false) where
-    pub stays : offered s at ≡ at
-    stays = unmoved at (offered s at) (length-offered s at) e
+  module _ (e : moved at (afterOffers s at) ≡ false) where
+    pub stays : afterOffers s at ≡ at
+    stays = unmoved at (afterOffers s at) (length-offered s at) e
 
     pub ends : settledAt s ≡ at
     ends = g .same ∙ settles s at (g .rounds) e
 
 -- ---- the stops set aside
-aside-is : (s at marks aside : List ℕ) → Marks s marks aside → setAside s at marks ≡ stopsWith s (leftOut s at aside)
-unfolding setAside
+aside-is : (s at marks aside : List ℕ) → Marks s marks aside → asideByMarks s at marks ≡ stopsWith s (leftOut s at aside)
+unfolding asideByMarks
 aside-is s at marks aside m =
-    those-alike (λ c. isNobody s (getD at c 0) || eqb (getD marks c 0) 1) (leftOut s at aside) (rowsOf s - depotsOf s) (depotsOf s)
-    (λ c l u. ap (λ (b : Bool). isNobody s (getD at c 0) || b) (turned s marks aside m c (omega arith)))
+    those-alike (λ c. isNoDepot s (getD at c 0) || eqb (getD marks c 0) 1) (leftOut s at aside) (rowsOf s - depotsOf s) (depotsOf s)
+    (λ c l u. ap (λ (b : Bool). isNoDepot s (getD at c 0) || b) (marked-aside s marks aside m c (omega arith)))
 
 gathered-long : (s at : List ℕ) → length (stopsOf (gathered s at)) ≡ rowsOf s - depotsOf s
 gathered-long s at =
     same-length (stopsOf (gathered s at)) (allStops s) (λ x. gathered-once s at x ∙ sym (all-once s x)) ∙ those-all (rowsOf s - depotsOf s) (depotsOf s)
 
-pub planned-still : {s at marks stops ends vehicles at′ marks′ stops′ ends′ vehicles′ : List ℕ} {f : Filled} → Untouched at marks stops ends vehicles at′ marks′ stops′ ends′ vehicles′ → Planned s marks stops ends vehicles f (planned s at) → Planned s marks′ stops′ ends′ vehicles′ f (planned s at′)
+pub planned-still : {s at marks stops ends vehicles at′ marks′ stops′ ends′ vehicles′ : List ℕ} {f : Filled} → Untouched at marks stops ends vehicles at′ marks′ stops′ ends′ vehicles′ → Planned s marks stops ends vehicles f (plannedAt s at) → Planned s marks′ stops′ ends′ vehicles′ f (plannedAt s at′)
 planned-still u p = rw (u .stayed, u .marked, u .stopped, u .ended, u .driven) p
 
-module _ {s : List ℕ} (at : List ℕ) {marks stops ends vehicles : List ℕ} {f : Filled} (p : Planned s marks stops ends vehicles f (planned s at)) (long : rowsOf s ≤ length stops) where
+module _ {s : List ℕ} (at : List ℕ) {marks stops ends vehicles : List ℕ} {f : Filled} (p : Planned s marks stops ends vehicles f (plannedAt s at)) (long : rowsOf s ≤ length stops) where
   abbrev o : Outcome
   o = gathered s at
 
-  aside-so : setAside s at marks ≡ o .aside
+  aside-so : asideByMarks s at marks ≡ o .aside
   unfolding gathered
-  aside-so = aside-is s at marks (planned s at .aside) (p .turned)
+  aside-so = aside-is s at marks (plannedAt s at .aside) (p .turned)
 
-  counted : f .routed + length (setAside s at marks) ≡ rowsOf s - depotsOf s
+  counted : f .routed + length (asideByMarks s at marks) ≡ rowsOf s - depotsOf s
   unfolding gathered
   counted = rw aside-so (omega (arith, p .holds .routed, gathered-long s at, length-chains (o .rounds) (o .aside)))
 
-  pub room-aside : f .routed + length (setAside s at marks) ≤ length stops
+  pub room-aside : f .routed + length (asideByMarks s at marks) ≤ length stops
   room-aside = omega (arith, counted)
 
-  pub gathered-held : {stops′ : List ℕ} → stops′ ≡ write stops (f .routed) (setAside s at marks) → Held stops′ ends vehicles f (rowsOf s - depotsOf s) o
+  pub gathered-held : {stops′ : List ℕ} → stops′ ≡ write stops (f .routed) (asideByMarks s at marks) → HoldsOutcome stops′ ends vehicles f (rowsOf s - depotsOf s) o
   unfolding gathered
   gathered-held e = rw e (record {
-    holds = holds-behind stops ends vehicles f (o .rounds) (p .holds) (setAside s at marks) room-aside;
+    holds = holds-behind stops ends vehicles f (o .rounds) (p .holds) (asideByMarks s at marks) room-aside;
     from = omega (arith, counted);
-    within = omega (arith, counted, room-aside, length-write stops (f .routed) (setAside s at marks) room-aside);
-    aside = ap (part (write stops (f .routed) (setAside s at marks)) (f .routed)) (sym counted) ∙ part-there stops (f .routed) (setAside s at marks) room-aside ∙ aside-so;
+    within = omega (arith, counted, room-aside, length-write stops (f .routed) (asideByMarks s at marks) room-aside);
+    aside = ap (part (write stops (f .routed) (asideByMarks s at marks)) (f .routed)) (sym counted) ∙ part-there stops (f .routed) (asideByMarks s at marks) room-aside ∙ aside-so;
   })
 
 -- ---- either
 -- the part of the offers' table that is used
-pub desk-lent : {s at marks fleet stops ends vehicles : List ℕ} (n : ℕ) → Desk s at marks fleet stops ends vehicles → n ≡ rowsOf s → Lent s (take (n - 0) at) fleet stops ends vehicles
+pub desk-lent : {s at marks fleet stops ends vehicles : List ℕ} (n : ℕ) → OutcomeTables s at marks fleet stops ends vehicles → n ≡ rowsOf s → PlanningTables s (take (n - 0) at) fleet stops ends vehicles
 desk-lent {at = at} n d e = record {
   sheet = d .sheet;
   rows = length-take-le (n - 0) at (omega (arith, d .offered)) ∙ omega arith;
-  manned = d .manned;
+  fleet-long = d .fleet-long;
   stopped = d .stopped;
   ended = d .ended;
   driven = d .driven;
 }
 
-pub told : (s stops ends vehicles : List ℕ) (f : Filled) (o : Outcome) → Accepted s → outcomeOf s ≡ o → Held stops ends vehicles f (rowsOf s - depotsOf s) o → Told s stops ends vehicles f (outcomeOf s)
+pub told : (s stops ends vehicles : List ℕ) (f : Filled) (o : Outcome) → Accepted s → outcomeOf s ≡ o → HoldsOutcome stops ends vehicles f (rowsOf s - depotsOf s) o → OutcomeStored s stops ends vehicles f (outcomeOf s)
 told s stops ends vehicles f o a e h =
-    let k : Held stops ends vehicles f (rowsOf s - depotsOf s) (outcomeOf s) = rw e h in
+    let k : HoldsOutcome stops ends vehicles f (rowsOf s - depotsOf s) (outcomeOf s) = rw e h in
     record {
       tables = held-tables stops ends vehicles f (rowsOf s - depotsOf s) (outcomeOf s) k s a (outcome-right s) (rounds-few s);
       outcome = held-outcome stops ends vehicles f (rowsOf s - depotsOf s) (outcomeOf s) k;

@@ -1,2 +1,2 @@
-pub mod Asked
-pub mod Cases
+pub mod Contracts
+pub mod Laws

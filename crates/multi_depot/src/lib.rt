@@ -9,14 +9,14 @@ ghost use lib.ListN.{length};
 ghost use Rattle.sheet.specs.Depots.{depotsOf};
 ghost use Rattle.sheet.specs.Fields.{rowsOf};
 ghost use Rattle.sheet.specs.Stops.{allStops};
-ghost use Rattle.constructive.specs.Holds.{Held};
+ghost use Rattle.constructive.specs.TableContents.{HoldsOutcome};
 ghost use Rattle.constructive.specs.Marks.{Marks};
-ghost use Rattle.multi_depot_offers.specs.ByDepot.{plannedOf, planned, offered, firstAt, settledAt, byDepot, outcomeOf};
-ghost use Rattle.multi_depot_offers.specs.Asked.{Lent};
-ghost use Rattle.multi_depot.specs.Asked.{Desk, Remarked, Untouched, Told};
+ghost use Rattle.multi_depot_offers.specs.ByDepot.{plannedOf, plannedAt, afterOffers, firstDepots, settledAt, byDepot, outcomeOf};
+ghost use Rattle.multi_depot_offers.specs.Contracts.{PlanningTables};
+ghost use Rattle.multi_depot.specs.Contracts.{OutcomeTables, MarksUpdated, Untouched, OutcomeStored};
 
 // A depot planned anew, from the start of the tables on: only its marks are needed.
-fn remark(
+fn update_marks(
     sheet: &[u8],
     at: &[u16],
     marks: &mut [u16],
@@ -26,9 +26,9 @@ fn remark(
     vehicles: &mut [u16],
     depot: usize,
 )
-    requires { ⌜ Lent (now sheet) (now at) (now fleet) (now stops) (now ends) (now vehicles) ⌝ }
+    requires { ⌜ PlanningTables (now sheet) (now at) (now fleet) (now stops) (now ends) (now vehicles) ⌝ }
     requires { ⌜ (depot < depotsOf (now sheet)) × (rowsOf (now sheet) ≤ length (now marks)) ⌝ }
-    ensures { λ _. ⌜ Remarked (now (sheet .entry)) (now (at .entry)) (now (marks .entry)) depot (now (marks .exit)) ⌝ }
+    ensures { λ _. ⌜ MarksUpdated (now (sheet .entry)) (now (at .entry)) (now (marks .entry)) depot (now (marks .exit)) ⌝ }
 {
     multi_depot_offers::clear(at, marks, depot);
     let filled = Filled {
@@ -49,7 +49,7 @@ fn remark(
 }
 
 // The marks after an offer. A depot whose members are the same turns the same ones down, so that it is not planned.
-fn remark_changed(
+fn update_changed(
     sheet: &[u8],
     depots: usize,
     before: &[u16],
@@ -60,16 +60,16 @@ fn remark_changed(
     ends: &mut [u16],
     vehicles: &mut [u16],
 )
-    requires { ⌜ Lent (now sheet) (now at) (now fleet) (now stops) (now ends) (now vehicles) ⌝ }
-    requires { ⌜ (depots ≡ depotsOf (now sheet)) × (now at ≡ offered (now sheet) (now before)) ⌝ }
-    requires { ⌜ Marks (now sheet) (now marks) (planned (now sheet) (now before) .aside) ⌝ }
-    ensures { λ _. ⌜ Marks (now (sheet .entry)) (now (marks .exit)) (planned (now (sheet .entry)) (now (at .entry)) .aside) ⌝ }
+    requires { ⌜ PlanningTables (now sheet) (now at) (now fleet) (now stops) (now ends) (now vehicles) ⌝ }
+    requires { ⌜ (depots ≡ depotsOf (now sheet)) × (now at ≡ afterOffers (now sheet) (now before)) ⌝ }
+    requires { ⌜ Marks (now sheet) (now marks) (plannedAt (now sheet) (now before) .aside) ⌝ }
+    ensures { λ _. ⌜ Marks (now (sheet .entry)) (now (marks .exit)) (plannedAt (now (sheet .entry)) (now (at .entry)) .aside) ⌝ }
 {
     for depot in 0..depots {
         if !multi_depot_offers::is_changed(before, at, depot) {
             continue;
         }
-        remark(sheet, at, marks, fleet, stops, ends, vehicles, depot);
+        update_marks(sheet, at, marks, fleet, stops, ends, vehicles, depot);
     }
 }
 
@@ -86,9 +86,9 @@ fn settle(
     ends: &mut [u16],
     vehicles: &mut [u16],
 ) -> bool
-    requires { ⌜ Lent (now sheet) (now at) (now fleet) (now stops) (now ends) (now vehicles) ⌝ }
+    requires { ⌜ PlanningTables (now sheet) (now at) (now fleet) (now stops) (now ends) (now vehicles) ⌝ }
     requires { ⌜ (depots ≡ depotsOf (now sheet)) × (length (now before) ≡ rowsOf (now sheet)) ⌝ }
-    requires { ⌜ (now at ≡ firstAt (now sheet)) × Marks (now sheet) (now marks) (planned (now sheet) (now at) .aside) ⌝ }
+    requires { ⌜ (now at ≡ firstDepots (now sheet)) × Marks (now sheet) (now marks) (plannedAt (now sheet) (now at) .aside) ⌝ }
     ensures { λ _. ⌜ now (at .exit) ≡ settledAt (now (sheet .entry)) ⌝ }
     ensures { λ r. ⌜ (r ≡ false → Untouched (now (at .entry)) (now (marks .entry)) (now (stops .entry)) (now (ends .entry)) (now (vehicles .entry)) (now (at .exit)) (now (marks .exit)) (now (stops .exit)) (now (ends .exit)) (now (vehicles .exit))) ⌝ }
 {
@@ -98,7 +98,7 @@ fn settle(
         if !multi_depot_offers::offer(sheet, depots, at, marks) {
             break 'offers;
         }
-        remark_changed(
+        update_changed(
             sheet,
             depots,
             before,
@@ -125,13 +125,13 @@ fn by_depot(
     ends: &mut [u16],
     vehicles: &mut [u16],
 ) -> Filled
-    requires { ⌜ Lent (now sheet) (now at) (now fleet) (now stops) (now ends) (now vehicles) ⌝ }
+    requires { ⌜ PlanningTables (now sheet) (now at) (now fleet) (now stops) (now ends) (now vehicles) ⌝ }
     requires { ⌜ rowsOf (now sheet) ≤ length (now marks) ⌝ }
-    ensures { λ r. ⌜ Held (now (stops .exit)) (now (ends .exit)) (now (vehicles .exit)) r (rowsOf (now (sheet .entry)) - depotsOf (now (sheet .entry))) (byDepot (now (sheet .entry))) ⌝ }
+    ensures { λ r. ⌜ HoldsOutcome (now (stops .exit)) (now (ends .exit)) (now (vehicles .exit)) r (rowsOf (now (sheet .entry)) - depotsOf (now (sheet .entry))) (byDepot (now (sheet .entry))) ⌝ }
 {
     let depots = customer::depots(sheet);
     let rows = at.len();
-    let mut before = [0u16; 101];
+    let mut before = [0u16; sheet::MOST_ROWS];
     multi_depot_offers::first_at(sheet, depots, at);
     let filled = multi_depot_planning::plan_depots(
         sheet,
@@ -182,8 +182,8 @@ pub fn outcome(
     ends: &mut [u16],
     vehicles: &mut [u16],
 ) -> Filled
-    requires { ⌜ Desk (now sheet) (now at) (now marks) (now fleet) (now stops) (now ends) (now vehicles) ⌝ }
-    ensures { λ r. ⌜ Told (now (sheet .entry)) (now (stops .exit)) (now (ends .exit)) (now (vehicles .exit)) r (outcomeOf (now (sheet .entry))) ⌝ }
+    requires { ⌜ OutcomeTables (now sheet) (now at) (now marks) (now fleet) (now stops) (now ends) (now vehicles) ⌝ }
+    ensures { λ r. ⌜ OutcomeStored (now (sheet .entry)) (now (stops .exit)) (now (ends .exit)) (now (vehicles .exit)) r (outcomeOf (now (sheet .entry))) ⌝ }
 {
     let rows = sheet::rows(sheet);
     if customer::depots(sheet) == 1 {

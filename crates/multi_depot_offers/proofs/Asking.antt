@@ -7,37 +7,38 @@ use mathlib.Core.Bool.{Bool, true, false, not, _&&_, _||_, cond}
 use mathlib.Core.List.{List}
 use borrow.Author.Tests.{le-leb, lt-leb}
 use Rattle.sheet.specs.Fields.{rowsOf}
-use Rattle.sheet.specs.Depots.{depotsOf, depots-few}
-use Rattle.multi_depot_offers.specs.ByDepot.{manned, isNobody, sooner, askedAfter, nearer, nearestFrom, nextDepot, movesTo}
-use Rattle.multi_depot_offers.specs.Settled.{and-false}
-use Rattle.multi_depot_offers.specs.Asked.{Asked}
+use Rattle.sheet.specs.Depots.{depotsOf}
+use Rattle.sheet.specs.Laws.Depots.{depots-few}
+use Rattle.multi_depot_offers.specs.ByDepot.{hasVehicle, isNoDepot, sooner, askedAfter, nearer, nearestFrom, nextDepot, movesTo}
+use Rattle.multi_depot_offers.specs.Laws.Settled.{and-false}
+use Rattle.multi_depot_offers.specs.Contracts.{RowAsked}
 
 and-true : (b : Bool) → (b && true) ≡ b
 and-true true = refl
 and-true false = refl
 
-module _ (s : List ℕ) (depots stop : ℕ) (a : Asked s depots stop) where
+module _ (s : List ℕ) (depots stop : ℕ) (a : RowAsked s depots stop) where
   pub depot-row : (d : ℕ) → d < depots → d < rowsOf s
   depot-row d h = let r = a .row in let k = depots-few s (omega arith) in omega (arith, a .count)
 
-  pub nobody : (d : ℕ) → depots ≤ d → isNobody s d ≡ true
-  nobody d h = le-leb (depotsOf s) d (omega (arith, a .count))
+  pub unassigned : (d : ℕ) → depots ≤ d → isNoDepot s d ≡ true
+  unassigned d h = le-leb (depotsOf s) d (omega (arith, a .count))
 
-  pub somebody : (d : ℕ) → d < depots → isNobody s d ≡ false
-  somebody d h = lt-leb (depotsOf s) d (omega (arith, a .count))
+  pub assigned : (d : ℕ) → d < depots → isNoDepot s d ≡ false
+  assigned d h = lt-leb (depotsOf s) d (omega (arith, a .count))
 
   module _ (after d : ℕ) where
-    pub asked-first : depots ≤ after → manned s d ≡ askedAfter s stop after d
+    pub asked-first : depots ≤ after → hasVehicle s d ≡ askedAfter s stop after d
     unfolding askedAfter
-    asked-first h = rw (nobody after h) (sym (and-true (manned s d)))
+    asked-first h = rw (unassigned after h) (sym (and-true (hasVehicle s d)))
 
     pub not-asked : after < depots → sooner s stop after d ≡ false → false ≡ askedAfter s stop after d
     unfolding askedAfter
-    not-asked h e = rw (somebody after h, e) (sym (and-false (manned s d)))
+    not-asked h e = rw (assigned after h, e) (sym (and-false (hasVehicle s d)))
 
-    pub asked-next : after < depots → sooner s stop after d ≡ true → manned s d ≡ askedAfter s stop after d
+    pub asked-next : after < depots → sooner s stop after d ≡ true → hasVehicle s d ≡ askedAfter s stop after d
     unfolding askedAfter
-    asked-next h e = rw (somebody after h, e) (sym (and-true (manned s d)))
+    asked-next h e = rw (assigned after h, e) (sym (and-true (hasVehicle s d)))
 
 -- the nearest so far, with the depots from d on, is the next
 abbrev pub Seeking : List ℕ → ℕ → ℕ → ℕ → ℕ → ℕ → Type 0
@@ -56,9 +57,9 @@ module _ (s : List ℕ) (stop after n best d : ℕ) (i : Seeking s stop after n 
   unfolding nearestFrom
   ends h = let e : n - d ≡ 0 = omega arith in sym (i ∙ rw e)
 
--- a depot, or nobody's number
+-- a depot, or no depot's number
 nearer-upto : (s : List ℕ) (stop after best d : ℕ) → best ≤ depotsOf s → d < depotsOf s → nearer s stop after best d ≤ depotsOf s
-nearer-upto s stop after best d h k = go (askedAfter s stop after d && (isNobody s best || sooner s stop d best))
+nearer-upto s stop after best d h k = go (askedAfter s stop after d && (isNoDepot s best || sooner s stop d best))
   where
     go : (b : Bool) → cond b d best ≤ depotsOf s
     go true = omega arith
@@ -77,7 +78,7 @@ next-upto s stop after = nearest-upto s stop after (depotsOf s) 0 (depotsOf s) (
 pub moves-upto : (s : List ℕ) (turned : Bool) (stop d : ℕ) → (movesTo s turned stop d ≡ d → ⊥) → movesTo s turned stop d ≤ depotsOf s
 unfolding movesTo
 moves-upto s false stop d h = absurd (h refl)
-moves-upto s true stop d h = go (isNobody s (nextDepot s stop d)) h
+moves-upto s true stop d h = go (isNoDepot s (nextDepot s stop d)) h
   where
     go : (b : Bool) → (cond (not b) (nextDepot s stop d) d ≡ d → ⊥) → cond (not b) (nextDepot s stop d) d ≤ depotsOf s
     go true k = absurd (k refl)

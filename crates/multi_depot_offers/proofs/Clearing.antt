@@ -8,7 +8,7 @@ use lib.ListN.{length, getD, set}
 use lib.Seq.{getD-set-same, getD-set-other}
 use borrow.Author.Tests.{ne-eqb}
 use borrow.Author.Count.{below-more}
-use Rattle.multi_depot_offers.specs.Asked.{Cleared}
+use Rattle.multi_depot_offers.specs.Contracts.{Cleared}
 
 -- ---- the marks of the rows so far
 pub record Clearing (at marks₀ : List ℕ) (depot : ℕ) (marks : List ℕ) (row : ℕ) : Type 0 where

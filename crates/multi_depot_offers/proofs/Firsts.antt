@@ -9,15 +9,15 @@ use lib.ListN.{length, take, set, length-set}
 use lib.Seq.{take-suc-set, take-all}
 use Rattle.sheet.specs.Fields.{rowsOf}
 use Rattle.sheet.specs.Depots.{depotsOf}
-use Rattle.multi_depot_offers.specs.ByDepot.{nextDepot, firstFrom, firstAt}
+use Rattle.multi_depot_offers.specs.ByDepot.{nextDepot, firstFrom, firstDepots}
 
 -- the depots of the rows so far, with those of the rows left
 pub record Firsts (s at : List ℕ) (row : ℕ) : Type 0 where
   pub long : length at ≡ rowsOf s
-  pub same : firstAt s ≡ take row at ++ firstFrom s (rowsOf s - row) row
+  pub same : firstDepots s ≡ take row at ++ firstFrom s (rowsOf s - row) row
 
 pub begins : (s at : List ℕ) → length at ≡ rowsOf s → Firsts s at 0
-unfolding firstAt
+unfolding firstDepots
 begins s at h = record { long = h; same = rw sub-zero }
 
 module _ (s at : List ℕ) (row : ℕ) (f : Firsts s at row) where
@@ -32,7 +32,7 @@ module _ (s at : List ℕ) (row : ℕ) (f : Firsts s at row) where
         same = f .same ∙ ap (λ (k : ℕ). take row at ++ firstFrom s k row) n ∙ sym (ap (λ (l : List ℕ). l ++ firstFrom s (rowsOf s - (row + 1)) (row + 1)) e ∙ append-assoc (take row at) (x ∷ []) (firstFrom s (rowsOf s - (row + 1)) (row + 1)));
       }
 
-  pub ends : rowsOf s ≤ row → at ≡ firstAt s
+  pub ends : rowsOf s ≤ row → at ≡ firstDepots s
   unfolding firstFrom
   ends h =
       let n : rowsOf s - row ≡ 0 = omega arith in

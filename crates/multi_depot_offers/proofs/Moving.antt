@@ -10,16 +10,16 @@ use lib.ListN.{length, getD, take, drop, set, length-set, drop-of-length-le}
 use lib.Seq.{take-suc, take-suc-set, take-all, drop-cons, drop-set-lt}
 use borrow.Author.Tests.{eq-eqb, ne-eqb}
 use Rattle.lists.specs.Count.{isIn}
-use Rattle.multi_depot_offers.specs.ByDepot.{planned, movesTo, offeredFrom, offered, moved}
+use Rattle.multi_depot_offers.specs.ByDepot.{plannedAt, movesTo, offeredFrom, afterOffers, moved}
 
 -- the rows so far, with those left; `any` says whether one has moved
 pub record Moving (s at₀ at : List ℕ) (any : Bool) (row : ℕ) : Type 0 where
   pub long : length at ≡ length at₀
-  pub same : take row at ++ offeredFrom s (planned s at₀ .aside) row (drop row at) ≡ offered s at₀
-  pub told : (any || moved (drop row at) (offeredFrom s (planned s at₀ .aside) row (drop row at))) ≡ moved at₀ (offered s at₀)
+  pub same : take row at ++ offeredFrom s (plannedAt s at₀ .aside) row (drop row at) ≡ afterOffers s at₀
+  pub told : (any || moved (drop row at) (offeredFrom s (plannedAt s at₀ .aside) row (drop row at))) ≡ moved at₀ (afterOffers s at₀)
 
 pub begins : (s at : List ℕ) → Moving s at at false 0
-unfolding offered
+unfolding afterOffers
 begins s at = record { long = refl; same = refl; told = refl }
 
 or-true : (a : Bool) → (a || true) ≡ true
@@ -33,22 +33,22 @@ or-false false = refl
 module _ (s at₀ at : List ℕ) (any : Bool) (row : ℕ) (m : Moving s at₀ at any row) where
   module _ (h : row < length at) where
     abbrev next : ℕ
-    next = movesTo s (isIn row (planned s at₀ .aside)) row (getD at row 0)
+    next = movesTo s (isIn row (plannedAt s at₀ .aside)) row (getD at row 0)
 
     -- the row with its offer, and those after it
-    rest : offeredFrom s (planned s at₀ .aside) row (drop row at) ≡ next ∷ offeredFrom s (planned s at₀ .aside) (row + 1) (drop (row + 1) at)
+    rest : offeredFrom s (plannedAt s at₀ .aside) row (drop row at) ≡ next ∷ offeredFrom s (plannedAt s at₀ .aside) (row + 1) (drop (row + 1) at)
     unfolding offeredFrom
     rest = rw (drop-cons at row 0 h, add-one)
 
-    flag : moved (drop row at) (offeredFrom s (planned s at₀ .aside) row (drop row at)) ≡ (not (eqb (getD at row 0) next) || moved (drop (row + 1) at) (offeredFrom s (planned s at₀ .aside) (row + 1) (drop (row + 1) at)))
+    flag : moved (drop row at) (offeredFrom s (plannedAt s at₀ .aside) row (drop row at)) ≡ (not (eqb (getD at row 0) next) || moved (drop (row + 1) at) (offeredFrom s (plannedAt s at₀ .aside) (row + 1) (drop (row + 1) at)))
     unfolding moved
     flag = rw (rest, drop-cons at row 0 h, add-one)
 
     -- the rows up to this one, with those after it
-    so-far : (front : List ℕ) → front ≡ take row at ++ (next ∷ []) → front ++ offeredFrom s (planned s at₀ .aside) (row + 1) (drop (row + 1) at) ≡ offered s at₀
+    so-far : (front : List ℕ) → front ≡ take row at ++ (next ∷ []) → front ++ offeredFrom s (plannedAt s at₀ .aside) (row + 1) (drop (row + 1) at) ≡ afterOffers s at₀
     so-far front e =
-        ap (λ (l : List ℕ). l ++ offeredFrom s (planned s at₀ .aside) (row + 1) (drop (row + 1) at)) e
-        ∙ append-assoc (take row at) (next ∷ []) (offeredFrom s (planned s at₀ .aside) (row + 1) (drop (row + 1) at))
+        ap (λ (l : List ℕ). l ++ offeredFrom s (plannedAt s at₀ .aside) (row + 1) (drop (row + 1) at)) e
+        ∙ append-assoc (take row at) (next ∷ []) (offeredFrom s (plannedAt s at₀ .aside) (row + 1) (drop (row + 1) at))
         ∙ ap (_++_ (take row at)) (sym rest)
         ∙ m .same
 
@@ -72,10 +72,10 @@ module _ (s at₀ at : List ℕ) (any : Bool) (row : ℕ) (m : Moving s at₀ at
     none : drop row at ≡ []
     none = drop-of-length-le at {i = row} h
 
-    pub moved-to : at ≡ offered s at₀
+    pub moved-to : at ≡ afterOffers s at₀
     unfolding offeredFrom
-    moved-to = sym (sym (m .same) ∙ ap (λ (l : List ℕ). take row at ++ offeredFrom s (planned s at₀ .aside) row l) none ∙ append-nil (take row at) ∙ take-all row at h)
+    moved-to = sym (sym (m .same) ∙ ap (λ (l : List ℕ). take row at ++ offeredFrom s (plannedAt s at₀ .aside) row l) none ∙ append-nil (take row at) ∙ take-all row at h)
 
-    pub any-moved : any ≡ moved at₀ (offered s at₀)
+    pub any-moved : any ≡ moved at₀ (afterOffers s at₀)
     unfolding offeredFrom moved
-    any-moved = sym (or-false any) ∙ sym (ap (λ (l : List ℕ). any || moved l (offeredFrom s (planned s at₀ .aside) row l)) none) ∙ m .told
+    any-moved = sym (or-false any) ∙ sym (ap (λ (l : List ℕ). any || moved l (offeredFrom s (plannedAt s at₀ .aside) row l)) none) ∙ m .told

@@ -11,7 +11,7 @@ use Rattle.sheet.specs.Depots.{depotsOf}
 use Rattle.sheet.specs.Values.{distanceOf}
 use Rattle.sheet.specs.Fleet.{fleetOf}
 use Rattle.sheet.specs.Stops.{stopsWith, allStops}
-use Rattle.constructive.specs.Outcome.{Outcome}
+use Rattle.constructive.specs.Outcome.{Outcome, emptyOutcome}
 use Rattle.constructive.specs.Members.{membersOf}
 use Rattle.nearest_neighbor.specs.Nearest.{nearestNeighbor, nearestNeighborTw}
 use Rattle.clarke_wright_savings.specs.Savings.{clarkeWright}
@@ -24,35 +24,35 @@ hasAny [] = false
 hasAny (x ∷ xs) = true
 
 -- "depot that has a vehicle"
-unfoldable pub manned : List ℕ → ℕ → Bool
-manned s depot = hasAny (fleetOf s depot)
+unfoldable pub hasVehicle : List ℕ → ℕ → Bool
+hasVehicle s depot = hasAny (fleetOf s depot)
 
 -- no depot is written as a number from the number of depots on
-abbrev pub isNobody : List ℕ → ℕ → Bool
-isNobody s d = leb (depotsOf s) d
+abbrev pub isNoDepot : List ℕ → ℕ → Bool
+isNoDepot s d = leb (depotsOf s) d
 
 -- "nearest", by the leg from the depot to the stop; a tie goes to the lower depot
 unfoldable pub sooner : List ℕ → ℕ → ℕ → ℕ → Bool
 sooner s c d e = lt (distanceOf s d c) (distanceOf s e c) || (eq (distanceOf s d c) (distanceOf s e c) && ltb d e)
 
--- a depot that is asked after another; after nobody every one is
+-- a depot that is asked after another; after none every one is
 unfoldable pub askedAfter : List ℕ → ℕ → ℕ → ℕ → Bool
-askedAfter s c after d = manned s d && (isNobody s after || sooner s c after d)
+askedAfter s c after d = hasVehicle s d && (isNoDepot s after || sooner s c after d)
 
 -- the nearest so far, and one depot more
 abbrev pub nearer : List ℕ → ℕ → ℕ → ℕ → ℕ → ℕ
-nearer s c after best d = cond (askedAfter s c after d && (isNobody s best || sooner s c d best)) d best
+nearer s c after best d = cond (askedAfter s c after d && (isNoDepot s best || sooner s c d best)) d best
 
 -- of the n depots from d on
 unfoldable pub nearestFrom : List ℕ → ℕ → ℕ → ℕ → ℕ → ℕ → ℕ
 nearestFrom s c after zero d best = best
 nearestFrom s c after (suc n) d best = nearestFrom s c after n (d + 1) (nearer s c after best d)
 
--- "its next nearest depot that has a vehicle", or nobody
+-- "its next nearest depot that has a vehicle", or none
 unfoldable pub nextDepot : List ℕ → ℕ → ℕ → ℕ
 nextDepot s c after = nearestFrom s c after (depotsOf s) 0 (depotsOf s)
 
--- ---- one planning of every depot. `at` has, for each row, the depot whose member it is, or nobody; a depot's row is nobody's member.
+-- ---- one planning of every depot. `at` has, for each row, the depot whose member it is, or none; a depot's row is no depot's member.
 -- savings, insertion or sweep, with one vehicle for all rounds: v is its index
 unfoldable pub withVehicle : List ℕ → ℕ → List ℕ → ℕ → Outcome
 withVehicle s d members v =
@@ -70,29 +70,26 @@ constructOf s d members fleet =
     cond (eqb (methodOf s) 2) (nearestNeighbor s d members fleet)
     (cond (eqb (methodOf s) 3) (nearestNeighborTw s d members fleet) (withFirst s d members fleet))
 
-abbrev pub nothing : Outcome
-nothing = record { rounds = []; aside = [] }
-
-abbrev pub joined : Outcome → Outcome → Outcome
-joined o p = record { rounds = o .rounds ++ p .rounds; aside = o .aside ++ p .aside }
+abbrev pub outcomesJoined : Outcome → Outcome → Outcome
+outcomesJoined o p = record { rounds = o .rounds ++ p .rounds; aside = o .aside ++ p .aside }
 
 -- a depot with its members; without any it is not planned
 unfoldable pub plannedOf : List ℕ → ℕ → List ℕ → Outcome
-plannedOf s d [] = nothing
+plannedOf s d [] = emptyOutcome
 plannedOf s d (c ∷ cs) = constructOf s d (c ∷ cs) (fleetOf s d)
 
 -- the first n depots, one after another
 unfoldable pub plannedUpto : List ℕ → List ℕ → ℕ → Outcome
-plannedUpto s at zero = nothing
-plannedUpto s at (suc d) = joined (plannedUpto s at d) (plannedOf s d (membersOf s at d))
+plannedUpto s at zero = emptyOutcome
+plannedUpto s at (suc d) = outcomesJoined (plannedUpto s at d) (plannedOf s d (membersOf s at d))
 
-abbrev pub planned : List ℕ → List ℕ → Outcome
-planned s at = plannedUpto s at (depotsOf s)
+abbrev pub plannedAt : List ℕ → List ℕ → Outcome
+plannedAt s at = plannedUpto s at (depotsOf s)
 
 -- ---- the offers
 -- the depot of a row at d after an offer: "a stop turned down goes to its next nearest depot"; where there is none it stays
 unfoldable pub movesTo : List ℕ → Bool → ℕ → ℕ → ℕ
-movesTo s turnedDown c d = let next = nextDepot s c d in cond (turnedDown && not (isNobody s next)) next d
+movesTo s turnedDown c d = let next = nextDepot s c d in cond (turnedDown && not (isNoDepot s next)) next d
 
 -- from row c on
 unfoldable pub offeredFrom : List ℕ → List ℕ → ℕ → List ℕ → List ℕ
@@ -100,8 +97,8 @@ offeredFrom s aside c [] = []
 offeredFrom s aside c (d ∷ at) = movesTo s (isIn c aside) c d ∷ offeredFrom s aside (c + 1) at
 
 -- a round of offers
-unfoldable pub offered : List ℕ → List ℕ → List ℕ
-offered s at = offeredFrom s (planned s at .aside) 0 at
+unfoldable pub afterOffers : List ℕ → List ℕ → List ℕ
+afterOffers s at = offeredFrom s (plannedAt s at .aside) 0 at
 
 -- whether a row has moved
 unfoldable pub moved : List ℕ → List ℕ → Bool
@@ -113,7 +110,7 @@ moved (d ∷ at) (e ∷ after) = not (eqb d e) || moved at after
 unfoldable pub settledIn : ℕ → List ℕ → List ℕ → List ℕ
 settledIn zero s at = at
 settledIn (suc n) s at =
-    let next = offered s at in
+    let next = afterOffers s at in
     let rest = settledIn n s next in
     cond (moved at next) rest at
 
@@ -122,21 +119,21 @@ unfoldable pub firstFrom : List ℕ → ℕ → ℕ → List ℕ
 firstFrom s zero c = []
 firstFrom s (suc n) c = nextDepot s c (depotsOf s) ∷ firstFrom s n (c + 1)
 
-unfoldable pub firstAt : List ℕ → List ℕ
-firstAt s = firstFrom s (rowsOf s) 0
+unfoldable pub firstDepots : List ℕ → List ℕ
+firstDepots s = firstFrom s (rowsOf s) 0
 
 -- a row is asked for by each depot once at most, so this many rounds of offers are enough: `settled`
 unfoldable pub settledAt : List ℕ → List ℕ
-settledAt s = settledIn (rowsOf s * depotsOf s) s (firstAt s)
+settledAt s = settledIn (rowsOf s * depotsOf s) s (firstDepots s)
 
 -- ---- the outcome
--- "Set-aside stops come out ascending": those turned down, and nobody's
+-- "Set-aside stops come out ascending": those turned down, and no depot's
 abbrev pub leftOut : List ℕ → List ℕ → List ℕ → ℕ → Bool
-leftOut s at aside c = isNobody s (getD at c 0) || isIn c aside
+leftOut s at aside c = isNoDepot s (getD at c 0) || isIn c aside
 
 unfoldable pub gathered : List ℕ → List ℕ → Outcome
 gathered s at =
-    let o = planned s at in
+    let o = plannedAt s at in
     record { rounds = o .rounds; aside = stopsWith s (leftOut s at (o .aside)) }
 
 unfoldable pub byDepot : List ℕ → Outcome

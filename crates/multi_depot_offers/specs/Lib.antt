@@ -1,6 +1,3 @@
 pub mod ByDepot
-pub mod Sooner
-pub mod Settled
-pub mod Each
-pub mod Rounds
-pub mod Asked
+pub mod Contracts
+pub mod Laws

@@ -6,13 +6,13 @@ ghost use mathlib.Core.Bool.{_||_};
 ghost use Prim.Native.Nat.{_<_};
 ghost use Rattle.sheet.specs.Accepted.{Accepted};
 ghost use Rattle.sheet.specs.Fields.{rowsOf};
-ghost use Rattle.multi_depot_offers.specs.ByDepot.{manned, isNobody, sooner, askedAfter, nearer, nextDepot};
-ghost use Rattle.multi_depot_offers.specs.Asked.{Asked};
+ghost use Rattle.multi_depot_offers.specs.ByDepot.{hasVehicle, isNoDepot, sooner, askedAfter, nearer, nextDepot};
+ghost use Rattle.multi_depot_offers.specs.Contracts.{RowAsked};
 
 // Whether a depot has a vehicle.
-fn is_manned(sheet: &[u8], depot: usize) -> bool
+fn has_vehicle(sheet: &[u8], depot: usize) -> bool
     requires { ⌜ Accepted (now sheet) ⌝ }
-    ensures { λ r. ⌜ r ≡ manned (now (sheet .entry)) depot ⌝ }
+    ensures { λ r. ⌜ r ≡ hasVehicle (now (sheet .entry)) depot ⌝ }
 {
     for v in 0..sheet::vehicles(sheet) {
         let vehicle = vehicle::vehicle_at(sheet, v);
@@ -42,24 +42,24 @@ fn is_sooner(sheet: &[u8], stop: usize, d: usize, e: usize) -> bool
 
 // Whether depot d is asked after depot `after`, or at all where that is none of the `depots`.
 fn is_asked(sheet: &[u8], depots: usize, stop: usize, after: usize, d: usize) -> bool
-    requires { ⌜ Asked (now sheet) depots stop ⌝ }
+    requires { ⌜ RowAsked (now sheet) depots stop ⌝ }
     requires { ⌜ d < depots ⌝ }
     ensures { λ r. ⌜ r ≡ askedAfter (now (sheet .entry)) stop after d ⌝ }
 {
     if depots <= after {
-        return is_manned(sheet, d);
+        return has_vehicle(sheet, d);
     }
     if !is_sooner(sheet, stop, after, d) {
         return false;
     }
-    is_manned(sheet, d)
+    has_vehicle(sheet, d)
 }
 
 // Whether depot d is nearer than the nearest so far.
 fn wins(sheet: &[u8], depots: usize, stop: usize, d: usize, best: usize) -> bool
-    requires { ⌜ Asked (now sheet) depots stop ⌝ }
+    requires { ⌜ RowAsked (now sheet) depots stop ⌝ }
     requires { ⌜ d < depots ⌝ }
-    ensures { λ r. ⌜ r ≡ (isNobody (now (sheet .entry)) best || sooner (now (sheet .entry)) stop d best) ⌝ }
+    ensures { λ r. ⌜ r ≡ (isNoDepot (now (sheet .entry)) best || sooner (now (sheet .entry)) stop d best) ⌝ }
 {
     if depots <= best {
         return true;
@@ -68,7 +68,7 @@ fn wins(sheet: &[u8], depots: usize, stop: usize, d: usize, best: usize) -> bool
 }
 
 fn nearer(sheet: &[u8], depots: usize, stop: usize, after: usize, best: usize, d: usize) -> usize
-    requires { ⌜ Asked (now sheet) depots stop ⌝ }
+    requires { ⌜ RowAsked (now sheet) depots stop ⌝ }
     requires { ⌜ d < depots ⌝ }
     ensures { λ r. ⌜ r ≡ nearer (now (sheet .entry)) stop after best d ⌝ }
 {
@@ -83,7 +83,7 @@ fn nearer(sheet: &[u8], depots: usize, stop: usize, after: usize, best: usize, d
 
 // The nearest depot with a vehicle after `after`, or `depots` where there is none.
 pub fn next_depot(sheet: &[u8], depots: usize, stop: usize, after: usize) -> usize
-    requires { ⌜ Asked (now sheet) depots stop ⌝ }
+    requires { ⌜ RowAsked (now sheet) depots stop ⌝ }
     ensures { λ r. ⌜ r ≡ nextDepot (now (sheet .entry)) stop after ⌝ }
 {
     let mut best = depots;

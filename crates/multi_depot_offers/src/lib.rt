@@ -5,8 +5,8 @@ ghost use Prim.Native.Nat.{ℕ, _≤_, _<_};
 ghost use lib.ListN.{length, getD, replicate};
 ghost use Rattle.constructive.specs.Members.{part};
 ghost use Rattle.constructive.specs.Marks.{Marks, markedBy};
-ghost use Rattle.multi_depot_offers.specs.ByDepot.{planned, movesTo, offered, moved, firstAt};
-ghost use Rattle.multi_depot_offers.specs.Asked.{Asked, Offering, Cleared, Alike};
+ghost use Rattle.multi_depot_offers.specs.ByDepot.{plannedAt, movesTo, afterOffers, moved, firstDepots};
+ghost use Rattle.multi_depot_offers.specs.Contracts.{RowAsked, Offering, Cleared, Alike};
 
 mod depots;
 pub mod members;
@@ -14,7 +14,7 @@ pub mod members;
 // Every row at its nearest depot with a vehicle.
 pub fn first_at(sheet: &[u8], depots: usize, at: &mut [u16])
     requires { ⌜ Offering (now sheet) depots (now at) ⌝ }
-    ensures { λ _. ⌜ now (at .exit) ≡ firstAt (now (sheet .entry)) ⌝ }
+    ensures { λ _. ⌜ now (at .exit) ≡ firstDepots (now (sheet .entry)) ⌝ }
 {
     for row in 0..at.len() {
         at[row] = depots::next_depot(sheet, depots, row, depots) as u16;
@@ -57,7 +57,7 @@ pub fn is_changed(before: &[u16], at: &[u16], depot: usize) -> bool
 
 // The depot of a row after an offer: a stop turned down goes to its next depot, where there is one.
 fn moves_to(sheet: &[u8], depots: usize, turned: bool, row: usize, depot: usize) -> usize
-    requires { ⌜ Asked (now sheet) depots row ⌝ }
+    requires { ⌜ RowAsked (now sheet) depots row ⌝ }
     ensures { λ r. ⌜ r ≡ movesTo (now (sheet .entry)) turned row depot ⌝ }
 {
     if !turned {
@@ -73,9 +73,9 @@ fn moves_to(sheet: &[u8], depots: usize, turned: bool, row: usize, depot: usize)
 // Offers every stop turned down to its next depot; answers whether one has moved.
 pub fn offer(sheet: &[u8], depots: usize, at: &mut [u16], marks: &[u16]) -> bool
     requires { ⌜ Offering (now sheet) depots (now at) ⌝ }
-    requires { ⌜ Marks (now sheet) (now marks) (planned (now sheet) (now at) .aside) ⌝ }
-    ensures { λ r. ⌜ r ≡ moved (now (at .entry)) (offered (now (sheet .entry)) (now (at .entry))) ⌝ }
-    ensures { λ _. ⌜ now (at .exit) ≡ offered (now (sheet .entry)) (now (at .entry)) ⌝ }
+    requires { ⌜ Marks (now sheet) (now marks) (plannedAt (now sheet) (now at) .aside) ⌝ }
+    ensures { λ r. ⌜ r ≡ moved (now (at .entry)) (afterOffers (now (sheet .entry)) (now (at .entry))) ⌝ }
+    ensures { λ _. ⌜ now (at .exit) ≡ afterOffers (now (sheet .entry)) (now (at .entry)) ⌝ }
 {
     let mut any = false;
     for row in 0..at.len() {

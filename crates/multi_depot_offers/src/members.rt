@@ -11,7 +11,7 @@ ghost use Rattle.sheet.specs.Accepted.{Accepted};
 ghost use Rattle.sheet.specs.Fields.{rowsOf};
 ghost use Rattle.sheet.specs.Fleet.{fleetOf};
 ghost use Rattle.constructive.specs.Members.{membersOf, Gathers};
-ghost use Rattle.multi_depot_offers.specs.Asked.{setAside};
+ghost use Rattle.multi_depot_offers.specs.Contracts.{asideByMarks};
 
 // The vehicles of a depot, by their index; answers how many.
 pub fn fleet_of(sheet: &[u8], depot: usize, fleet: &mut [u16]) -> usize
@@ -32,7 +32,7 @@ pub fn fleet_of(sheet: &[u8], depot: usize, fleet: &mut [u16]) -> usize
     end
 }
 
-// Whether a stop is set aside: nobody's, or turned down.
+// Whether a stop is set aside: no depot's, or turned down.
 fn is_aside(depots: usize, depot: u16, mark: u16) -> bool
     ensures { λ r. ⌜ r ≡ (leb depots depot || eqb mark 1) ⌝ }
 {
@@ -46,8 +46,8 @@ fn is_aside(depots: usize, depot: u16, mark: u16) -> bool
 pub fn lay_aside(sheet: &[u8], at: &[u16], marks: &[u16], stops: &mut [u16], from: usize)
     requires { ⌜ Gathers (now sheet) (now at) ⌝ }
     requires { ⌜ rowsOf (now sheet) ≤ length (now marks) ⌝ }
-    requires { ⌜ from + length (setAside (now sheet) (now at) (now marks)) ≤ length (now stops) ⌝ }
-    ensures { λ _. ⌜ now (stops .exit) ≡ write (now (stops .entry)) from (setAside (now (sheet .entry)) (now (at .entry)) (now (marks .entry))) ⌝ }
+    requires { ⌜ from + length (asideByMarks (now sheet) (now at) (now marks)) ≤ length (now stops) ⌝ }
+    ensures { λ _. ⌜ now (stops .exit) ≡ write (now (stops .entry)) from (asideByMarks (now (sheet .entry)) (now (at .entry)) (now (marks .entry))) ⌝ }
 {
     let depots = customer::depots(sheet);
     let mut end = from;

@@ -8,23 +8,23 @@ use lib.Dec.{eqb}
 use lib.ListN.{length, getD, take}
 use lib.Seq.{getD-take}
 use borrow.Author.Tests.{eq-eqb, ne-eqb}
-use Rattle.lists.specs.Those.{those-at, those-few}
+use Rattle.lists.specs.Laws.Filter.{those-at, those-few}
 use Rattle.wire.specs.Bytes.{write}
-use Rattle.wire.specs.Laws.{length-write, take-write}
-use Rattle.wire.specs.Overwrite.{write-same}
+use Rattle.wire.specs.Laws.Bytes.{length-write, take-write}
+use Rattle.wire.specs.Laws.Overwrite.{write-same}
 use Rattle.sheet.specs.Fields.{vehiclesOf, methodOf}
 use Rattle.sheet.specs.Values.{vehicleOf}
 use Rattle.sheet.specs.Fleet.{fleetOf}
 use Rattle.constructive.specs.declared.tables.Filled.{Filled}
 use Rattle.constructive.specs.Outcome.{chains}
 use Rattle.constructive.specs.Members.{part, Fleet}
-use Rattle.constructive.specs.Laid.{endsFrom, vehiclesFrom, routedIn, filledBy, Laid}
+use Rattle.constructive.specs.Stored.{endsFrom, vehiclesFrom, routedIn, filledBy, Stored}
 use Rattle.nearest_neighbor.specs.Nearest.{nearestNeighbor, nearestNeighborTw}
 use Rattle.clarke_wright_savings.specs.Savings.{clarkeWright}
 use Rattle.solomon_i1.specs.Insertion.{solomonI1}
 use Rattle.sweep.specs.Sweep.{sweep}
 use Rattle.multi_depot_offers.specs.ByDepot.{withVehicle, withFirst, constructOf}
-use Rattle.multi_depot_offers.specs.Asked.{Ready, constructAt}
+use Rattle.multi_depot_offers.specs.Contracts.{Ready, constructAt}
 
 -- ---- the vehicles
 fleet-at : (s : List ℕ) (depot : ℕ) → Fleet s (fleetOf s depot)
@@ -61,7 +61,7 @@ module _ (s : List ℕ) (d : ℕ) (members : List ℕ) (v : ℕ) where
 module _ {s : List ℕ} {depot : ℕ} {fleet stops ends vehicles : List ℕ} {f : Filled} {total : ℕ} (ready : Ready s depot fleet stops ends vehicles f total)
     {fleet′ : List ℕ} {n : ℕ} (counted : n ≡ length (fleetOf s depot)) (written : fleet′ ≡ write fleet 0 (fleetOf s depot)) where
   fits : 0 + length (fleetOf s depot) ≤ length fleet
-  fits = omega (arith, fleet-few s depot, ready .manned, ready .members .routed .sheet .sized .vehicles)
+  fits = omega (arith, fleet-few s depot, ready .fleet-long, ready .members .routed .sheet .sized .vehicles)
 
   pub few : n ≤ length fleet′
   few = omega (arith, fits, ap length written, length-write fleet 0 (fleetOf s depot) fits)
@@ -107,7 +107,7 @@ module _ {s : List ℕ} {depot : ℕ} {fleet stops ends vehicles : List ℕ} {f 
         unfolding routedIn
         none-filled = rw (alone, add-zero (f .rounds), add-zero (f .routed))
 
-        none-laid : Laid stops ends vehicles f (constructAt s depot members) stops ends vehicles
+        none-laid : Stored stops ends vehicles f (constructAt s depot members) stops ends vehicles
         unfolding chains endsFrom vehiclesFrom
         none-laid =
             let m = ready .members in
@@ -118,7 +118,7 @@ module _ {s : List ℕ} {depot : ℕ} {fleet stops ends vehicles : List ℕ} {f 
               driven = sym (write-same vehicles (f .rounds) 0 (omega (arith, r .rounds, r .driven, m .from)));
             })
 
-        pub none-so : (f ≡ filledBy f (constructAt s depot members .rounds)) × Laid stops ends vehicles f (constructAt s depot members) stops ends vehicles
+        pub none-so : (f ≡ filledBy f (constructAt s depot members .rounds)) × Stored stops ends vehicles f (constructAt s depot members) stops ends vehicles
         none-so = (none-filled, none-laid)
 
       pub with-some : (n ≡ 0 → ⊥) → constructAt s depot members ≡ withVehicle s depot members (getD fleet′ 0 0)

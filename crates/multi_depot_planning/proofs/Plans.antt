@@ -9,24 +9,27 @@ use lib.Dec.{leb, ltb, eqb, ltb→lt}
 use lib.Ieee.Fits.{and-l, and-r}
 use lib.ListN.{length, getD, drop, replicate, length-drop}
 use lib.Seq.{length-take-le, getD-take, getD-drop}
-use Rattle.lists.specs.Count.{count, stop-counted}
-use Rattle.lists.specs.Once.{count-append}
-use Rattle.lists.specs.Same.{same-length, count-at}
-use Rattle.lists.specs.Those.{those-few, those-parts}
+use Rattle.lists.specs.Count.{count}
+use Rattle.lists.specs.Laws.Count.{stop-counted}
+use Rattle.lists.specs.Laws.Once.{count-append}
+use Rattle.lists.specs.Laws.Permutation.{same-length, count-at}
+use Rattle.lists.specs.Laws.Filter.{those-few, those-parts}
 use Rattle.sheet.specs.Fields.{rowsOf}
 use Rattle.sheet.specs.Depots.{depotsOf}
-use Rattle.sheet.specs.Stops.{isStop, stopsWith, stops-count}
+use Rattle.sheet.specs.Stops.{isStop, stopsWith}
+use Rattle.sheet.specs.Laws.Stops.{stops-count}
 use Rattle.constructive.specs.declared.tables.Filled.{Filled}
 use Rattle.constructive.specs.Outcome.{chains, stopsOf}
-use Rattle.constructive.specs.Laid.{routedIn}
-use Rattle.constructive.specs.LaidLaws.{chains-aside, length-chains}
+use Rattle.constructive.specs.Stored.{routedIn}
+use Rattle.constructive.specs.Laws.Stored.{chains-aside, length-chains}
 use Rattle.constructive.specs.Members.{part, membersOf}
-use Rattle.constructive.specs.Holds.{empty, holds-none}
-use Rattle.constructive.specs.Marks.{markedBy, marks-more, marks-none}
+use Rattle.constructive.specs.Laws.TableContents.{empty, holds-none}
+use Rattle.constructive.specs.Marks.{markedBy}
+use Rattle.constructive.specs.Laws.Marks.{marks-more, marks-none}
 use Rattle.multi_depot_offers.specs.ByDepot.{plannedOf, plannedUpto}
-use Rattle.multi_depot_offers.specs.Each.{planned-keeps, one-more, upto-count}
-use Rattle.multi_depot_offers.specs.Rounds.{upto-routed}
-use Rattle.multi_depot_offers.specs.Asked.{Lent, Next, Added, Planned}
+use Rattle.multi_depot_offers.specs.Laws.Once.{planned-keeps, one-more, upto-count}
+use Rattle.multi_depot_offers.specs.Laws.Rounds.{upto-routed}
+use Rattle.multi_depot_offers.specs.Contracts.{PlanningTables, Next, Added, Planned}
 use Rattle.multi_depot_planning.proofs.Sharing.{Shared}
 
 -- ---- room for the next members
@@ -104,16 +107,16 @@ planned-none s at marks stops ends vehicles h = record { holds = holds-none stop
 -- ---- the tables stay as long
 pub record Kept (marks₀ fleet₀ stops₀ ends₀ vehicles₀ marks fleet stops ends vehicles : List ℕ) : Type 0 where
   pub marked : length marks ≡ length marks₀
-  pub manned : length fleet ≡ length fleet₀
+  pub fleet-long : length fleet ≡ length fleet₀
   pub stopped : length stops ≡ length stops₀
   pub ended : length ends ≡ length ends₀
   pub driven : length vehicles ≡ length vehicles₀
 
-pub lent-still : {s at₀ marks₀ fleet₀ stops₀ ends₀ vehicles₀ at marks fleet stops ends vehicles : List ℕ} → Lent s at₀ fleet₀ stops₀ ends₀ vehicles₀ → Kept marks₀ fleet₀ stops₀ ends₀ vehicles₀ marks fleet stops ends vehicles → length at ≡ rowsOf s → Lent s at fleet stops ends vehicles
+pub lent-still : {s at₀ marks₀ fleet₀ stops₀ ends₀ vehicles₀ at marks fleet stops ends vehicles : List ℕ} → PlanningTables s at₀ fleet₀ stops₀ ends₀ vehicles₀ → Kept marks₀ fleet₀ stops₀ ends₀ vehicles₀ marks fleet stops ends vehicles → length at ≡ rowsOf s → PlanningTables s at fleet stops ends vehicles
 lent-still l k e = record {
   sheet = l .sheet;
   rows = e;
-  manned = omega (arith, l .manned, k .manned);
+  fleet-long = omega (arith, l .fleet-long, k .fleet-long);
   stopped = omega (arith, l .stopped, k .stopped);
   ended = omega (arith, l .ended, k .ended);
   driven = omega (arith, l .driven, k .driven);

@@ -8,29 +8,32 @@ use lib.Dec.{eqb}
 use lib.ListN.{length, getD, take, drop}
 use lib.Seq.{length-take-le, drop-at, take-append-seam}
 use Rattle.lists.specs.Count.{one, count}
-use Rattle.lists.specs.Same.{same-length}
-use Rattle.lists.specs.Those.{those-at}
+use Rattle.lists.specs.Laws.Permutation.{same-length}
+use Rattle.lists.specs.Laws.Filter.{those-at}
 use Rattle.wire.specs.Bytes.{write}
-use Rattle.wire.specs.Laws.{length-write}
-use Rattle.wire.specs.Overwrite.{part-write}
+use Rattle.wire.specs.Laws.Bytes.{length-write}
+use Rattle.wire.specs.Laws.Overwrite.{part-write}
 use Rattle.sheet.specs.Fields.{rowsOf}
-use Rattle.sheet.specs.Depots.{depotsOf, depots-few}
-use Rattle.sheet.specs.Stops.{isStop, stops-count}
+use Rattle.sheet.specs.Depots.{depotsOf}
+use Rattle.sheet.specs.Laws.Depots.{depots-few}
+use Rattle.sheet.specs.Stops.{isStop}
+use Rattle.sheet.specs.Laws.Stops.{stops-count}
 use Rattle.sheet.specs.Fleet.{fleetOf}
 use Rattle.constructive.specs.declared.tables.Filled.{Filled}
 use Rattle.constructive.specs.Outcome.{Round, Outcome, chains, stopsOf}
 use Rattle.constructive.specs.Members.{part, membersOf, Gathers}
-use Rattle.constructive.specs.Laid.{routedIn, filledBy, Laid}
-use Rattle.constructive.specs.LaidLaws.{chains-aside, length-chains, length-routed}
-use Rattle.constructive.specs.Holds.{Holds, holds-behind, holds-more}
+use Rattle.constructive.specs.Stored.{routedIn, filledBy, Stored}
+use Rattle.constructive.specs.Laws.Stored.{chains-aside, length-chains, length-routed}
+use Rattle.constructive.specs.TableContents.{HoldsRounds}
+use Rattle.constructive.specs.Laws.TableContents.{holds-behind, holds-more}
 use Rattle.multi_depot_offers.specs.ByDepot.{constructOf, plannedOf}
-use Rattle.multi_depot_offers.specs.Each.{planned-keeps}
-use Rattle.multi_depot_offers.specs.Rounds.{planned-routed}
-use Rattle.multi_depot_offers.specs.Asked.{Lent, Ready, Next, constructAt}
+use Rattle.multi_depot_offers.specs.Laws.Once.{planned-keeps}
+use Rattle.multi_depot_offers.specs.Laws.Rounds.{planned-routed}
+use Rattle.multi_depot_offers.specs.Contracts.{PlanningTables, Ready, Next, constructAt}
 
 -- a depot's outcome behind the rounds that the tables held: how far they are filled with it, and where its stops set aside end
 pub record Shared (stops ends vehicles : List ℕ) (f : Filled) (o : Outcome) (stops′ ends′ vehicles′ : List ℕ) (done : Filled) (total : ℕ) : Type 0 where
-  pub holds : (rounds : List Round) → Holds stops ends vehicles f rounds → Holds stops′ ends′ vehicles′ done (rounds ++ o .rounds)
+  pub holds : (rounds : List Round) → HoldsRounds stops ends vehicles f rounds → HoldsRounds stops′ ends′ vehicles′ done (rounds ++ o .rounds)
   pub count : total ≡ f .routed + length (stopsOf o)
   pub from : done .routed ≤ total
   pub within : total ≤ length stops′
@@ -60,7 +63,7 @@ one-most : (b : Bool) → one b ≤ 1
 one-most true = omega arith
 one-most false = omega arith
 
-module _ {s at fleet stops ends vehicles : List ℕ} {depot : ℕ} {f : Filled} (lent : Lent s at fleet stops ends vehicles) (next : Next s at depot f) where
+module _ {s at fleet stops ends vehicles : List ℕ} {depot : ℕ} {f : Filled} (lent : PlanningTables s at fleet stops ends vehicles) (next : Next s at depot f) where
   within : f .routed + length (membersOf s at depot) ≤ length stops
   within = omega (arith, next .room, lent .stopped)
 
@@ -74,13 +77,13 @@ module _ {s at fleet stops ends vehicles : List ℕ} {depot : ℕ} {f : Filled} 
     there : part stops₁ (f .routed) total ≡ membersOf s at depot
     there = rw (written, counted) (part-there stops (f .routed) (membersOf s at depot) within)
 
-    still : (rounds : List Round) → Holds stops ends vehicles f rounds → Holds stops₁ ends vehicles f rounds
+    still : (rounds : List Round) → HoldsRounds stops ends vehicles f rounds → HoldsRounds stops₁ ends vehicles f rounds
     still rounds h = rw written (holds-behind stops ends vehicles f rounds h (membersOf s at depot) within)
 
     -- without members
-    nobodys : total ≡ f .routed → plannedOf s depot (membersOf s at depot) ≡ record { rounds = []; aside = [] }
+    unassigned : total ≡ f .routed → plannedOf s depot (membersOf s at depot) ≡ record { rounds = []; aside = [] }
     unfolding plannedOf
-    nobodys e = go (membersOf s at depot) (omega arith)
+    unassigned e = go (membersOf s at depot) (omega arith)
       where
         go : (ms : List ℕ) → length ms ≡ 0 → plannedOf s depot ms ≡ record { rounds = []; aside = [] }
         go [] h = refl
@@ -88,7 +91,7 @@ module _ {s at fleet stops ends vehicles : List ℕ} {depot : ℕ} {f : Filled} 
 
     pub none-shared : total ≡ f .routed → Shared stops ends vehicles f (plannedOf s depot (membersOf s at depot)) stops₁ ends vehicles f total
     unfolding chains
-    none-shared e = rw (nobodys e) (record {
+    none-shared e = rw (unassigned e) (record {
       holds = λ rounds h. rw (append-nil rounds) (still rounds h);
       count = omega arith;
       from = omega arith;
@@ -116,7 +119,7 @@ module _ {s at fleet stops ends vehicles : List ℕ} {depot : ℕ} {f : Filled} 
         };
         once = λ x. rw there (omega (arith, stops-count s (λ c. eqb (getD at c 0) depot) x, one-most (isStop s x && eqb (getD at x 0) depot)));
         room = record { rounds = next .rounds; ended = omega (arith, next .room, lent .ended); driven = omega (arith, next .room, lent .driven) };
-        manned = lent .manned;
+        fleet-long = lent .fleet-long;
       }
 
       outcome : constructAt s depot (part stops₁ (f .routed) total) ≡ plannedOf s depot (membersOf s at depot)
@@ -124,11 +127,11 @@ module _ {s at fleet stops ends vehicles : List ℕ} {depot : ℕ} {f : Filled} 
 
       module _ {done : Filled} {stops₂ ends₂ vehicles₂ : List ℕ}
           (filled : done ≡ filledBy f (constructAt s depot (part stops₁ (f .routed) total) .rounds))
-          (laid : Laid stops₁ ends vehicles f (constructAt s depot (part stops₁ (f .routed) total)) stops₂ ends₂ vehicles₂) where
+          (laid : Stored stops₁ ends vehicles f (constructAt s depot (part stops₁ (f .routed) total)) stops₂ ends₂ vehicles₂) where
         abbrev o : Outcome
         o = plannedOf s depot (membersOf s at depot)
 
-        laid-so : Laid stops₁ ends vehicles f o stops₂ ends₂ vehicles₂
+        laid-so : Stored stops₁ ends vehicles f o stops₂ ends₂ vehicles₂
         laid-so = rw outcome at laid
 
         filled-so : done ≡ filledBy f (o .rounds)

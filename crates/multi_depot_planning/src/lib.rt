@@ -9,11 +9,11 @@ ghost use Rattle.lists.specs.Count.{count};
 ghost use Rattle.sheet.specs.Depots.{depotsOf};
 ghost use Rattle.sheet.specs.Fields.{rowsOf, vehiclesOf, methodOf};
 ghost use Rattle.sheet.specs.Stops.{allStops};
-ghost use Rattle.constructive.specs.Holds.{Held};
-ghost use Rattle.constructive.specs.Laid.{Laid, Room, filledBy};
+ghost use Rattle.constructive.specs.TableContents.{HoldsOutcome};
+ghost use Rattle.constructive.specs.Stored.{Stored, Room, filledBy};
 ghost use Rattle.constructive.specs.Members.{part, Members, membersOf};
-ghost use Rattle.multi_depot_offers.specs.ByDepot.{withVehicle, plannedOf, planned};
-ghost use Rattle.multi_depot_offers.specs.Asked.{Lent, Ready, Next, Added, Planned, constructAt};
+ghost use Rattle.multi_depot_offers.specs.ByDepot.{withVehicle, plannedOf, plannedAt};
+ghost use Rattle.multi_depot_offers.specs.Contracts.{PlanningTables, Ready, Next, Added, Planned, constructAt};
 
 // Savings with the depot's first vehicle, by way of the large tables; without one every stop is set aside, as it stands. Chosen
 // by `plan_depot` and by `one_depot` each: a function with two callers is not inlined, so no other planning has
@@ -31,7 +31,7 @@ pub fn by_savings(
     requires { ⌜ Ready (now sheet) depot (now fleet) (now stops) (now ends) (now vehicles) filled total ⌝ }
     requires { ⌜ methodOf (now sheet) ≡ 0 ⌝ }
     ensures { λ r. ⌜ r ≡ filledBy filled (constructAt (now (sheet .entry)) depot (part (now (stops .entry)) (filled .routed) total) .rounds) ⌝ }
-    ensures { λ _. ⌜ Laid (now (stops .entry)) (now (ends .entry)) (now (vehicles .entry)) filled (constructAt (now (sheet .entry)) depot (part (now (stops .entry)) (filled .routed) total)) (now (stops .exit)) (now (ends .exit)) (now (vehicles .exit)) ⌝ }
+    ensures { λ _. ⌜ Stored (now (stops .entry)) (now (ends .entry)) (now (vehicles .entry)) filled (constructAt (now (sheet .entry)) depot (part (now (stops .entry)) (filled .routed) total)) (now (stops .exit)) (now (ends .exit)) (now (vehicles .exit)) ⌝ }
 {
     if members::fleet_of(sheet, depot, fleet) == 0 {
         return filled;
@@ -65,7 +65,7 @@ fn with_vehicle(
     requires { ⌜ ((x : ℕ) → count x (part (now stops) (filled .routed) total) ≤ 1) ⌝ }
     requires { ⌜ (methodOf (now sheet) ≡ 0 → total - filled .routed ≤ 24) ⌝ }
     ensures { λ r. ⌜ r ≡ filledBy filled (withVehicle (now (sheet .entry)) depot (part (now (stops .entry)) (filled .routed) total) vehicle .rounds) ⌝ }
-    ensures { λ _. ⌜ Laid (now (stops .entry)) (now (ends .entry)) (now (vehicles .entry)) filled (withVehicle (now (sheet .entry)) depot (part (now (stops .entry)) (filled .routed) total) vehicle) (now (stops .exit)) (now (ends .exit)) (now (vehicles .exit)) ⌝ }
+    ensures { λ _. ⌜ Stored (now (stops .entry)) (now (ends .entry)) (now (vehicles .entry)) filled (withVehicle (now (sheet .entry)) depot (part (now (stops .entry)) (filled .routed) total) vehicle) (now (stops .exit)) (now (ends .exit)) (now (vehicles .exit)) ⌝ }
 {
     let method = sheet::method(sheet);
     if method == 0 {
@@ -100,7 +100,7 @@ pub fn construct(
     requires { ⌜ Ready (now sheet) depot (now fleet) (now stops) (now ends) (now vehicles) filled total ⌝ }
     requires { ⌜ (methodOf (now sheet) ≡ 0 → total - filled .routed ≤ 24) ⌝ }
     ensures { λ r. ⌜ r ≡ filledBy filled (constructAt (now (sheet .entry)) depot (part (now (stops .entry)) (filled .routed) total) .rounds) ⌝ }
-    ensures { λ _. ⌜ Laid (now (stops .entry)) (now (ends .entry)) (now (vehicles .entry)) filled (constructAt (now (sheet .entry)) depot (part (now (stops .entry)) (filled .routed) total)) (now (stops .exit)) (now (ends .exit)) (now (vehicles .exit)) ⌝ }
+    ensures { λ _. ⌜ Stored (now (stops .entry)) (now (ends .entry)) (now (vehicles .entry)) filled (constructAt (now (sheet .entry)) depot (part (now (stops .entry)) (filled .routed) total)) (now (stops .exit)) (now (ends .exit)) (now (vehicles .exit)) ⌝ }
 {
     let n = members::fleet_of(sheet, depot, fleet);
     let method = sheet::method(sheet);
@@ -158,7 +158,7 @@ pub fn plan_depot(
     depot: usize,
     filled: Filled,
 ) -> Filled
-    requires { ⌜ Lent (now sheet) (now at) (now fleet) (now stops) (now ends) (now vehicles) ⌝ }
+    requires { ⌜ PlanningTables (now sheet) (now at) (now fleet) (now stops) (now ends) (now vehicles) ⌝ }
     requires { ⌜ Next (now sheet) (now at) depot filled × (rowsOf (now sheet) ≤ length (now marks)) ⌝ }
     ensures { λ r. ⌜ Added (now (marks .entry)) (now (stops .entry)) (now (ends .entry)) (now (vehicles .entry)) filled (plannedOf (now (sheet .entry)) depot (membersOf (now (sheet .entry)) (now (at .entry)) depot)) (now (marks .exit)) (now (stops .exit)) (now (ends .exit)) (now (vehicles .exit)) r ⌝ }
 {
@@ -188,9 +188,9 @@ pub fn plan_depots(
     ends: &mut [u16],
     vehicles: &mut [u16],
 ) -> Filled
-    requires { ⌜ Lent (now sheet) (now at) (now fleet) (now stops) (now ends) (now vehicles) ⌝ }
+    requires { ⌜ PlanningTables (now sheet) (now at) (now fleet) (now stops) (now ends) (now vehicles) ⌝ }
     requires { ⌜ (depots ≡ depotsOf (now sheet)) × (rowsOf (now sheet) ≤ length (now marks)) ⌝ }
-    ensures { λ r. ⌜ Planned (now (sheet .entry)) (now (marks .exit)) (now (stops .exit)) (now (ends .exit)) (now (vehicles .exit)) r (planned (now (sheet .entry)) (now (at .entry))) ⌝ }
+    ensures { λ r. ⌜ Planned (now (sheet .entry)) (now (marks .exit)) (now (stops .exit)) (now (ends .exit)) (now (vehicles .exit)) r (plannedAt (now (sheet .entry)) (now (at .entry))) ⌝ }
 {
     constructive::marks::fill(marks, 0);
     let mut filled = Filled {
@@ -222,8 +222,8 @@ pub fn one_depot(
     ends: &mut [u16],
     vehicles: &mut [u16],
 ) -> Filled
-    requires { ⌜ Lent (now sheet) (now at) (now fleet) (now stops) (now ends) (now vehicles) ⌝ }
-    ensures { λ r. ⌜ Held (now (stops .exit)) (now (ends .exit)) (now (vehicles .exit)) r (rowsOf (now (sheet .entry)) - depotsOf (now (sheet .entry))) (plannedOf (now (sheet .entry)) 0 (allStops (now (sheet .entry)))) ⌝ }
+    requires { ⌜ PlanningTables (now sheet) (now at) (now fleet) (now stops) (now ends) (now vehicles) ⌝ }
+    ensures { λ r. ⌜ HoldsOutcome (now (stops .exit)) (now (ends .exit)) (now (vehicles .exit)) r (rowsOf (now (sheet .entry)) - depotsOf (now (sheet .entry))) (plannedOf (now (sheet .entry)) 0 (allStops (now (sheet .entry)))) ⌝ }
 {
     constructive::marks::fill(at, 0);
     let filled = Filled {

@@ -6,11 +6,13 @@ use mathlib.Core.List.{List, [], _∷_, _++_, append-assoc}
 use lib.ListN.{length, getD, take, drop, length-append, length-drop}
 use lib.Seq.{length-take-le, getD-take, getD-drop, take-take}
 use lib.Ieee.{Float}
-use Rattle.lists.specs.Every.{Every, every-of, every-at, every-append, every-take, every-drop}
-use Rattle.lists.specs.Moved.{without, without-length}
+use Rattle.lists.specs.Every.{Every}
+use Rattle.lists.specs.Laws.Every.{every-of, every-at, every-append, every-take, every-drop}
+use Rattle.lists.specs.Moved.{without}
+use Rattle.lists.specs.Laws.Moved.{without-length}
 use Rattle.wire.specs.Bytes.{write}
-use Rattle.wire.specs.Laws.{length-write}
-use Rattle.wire.specs.Overwrite.{write-same, part-write, write-within}
+use Rattle.wire.specs.Laws.Bytes.{length-write}
+use Rattle.wire.specs.Laws.Overwrite.{write-same, part-write, write-within}
 use Rattle.sheet.specs.Fields.{rowsOf}
 use Rattle.sheet.specs.Values.{vehicleOf}
 use Rattle.sheet.specs.declared.vehicle.Vehicle.{Vehicle}
@@ -18,46 +20,46 @@ use Rattle.evaluation.specs.Limits.{limitsAt}
 use Rattle.evaluation.specs.declared.limits.RouteLimits.{RouteLimits}
 use Rattle.evaluation.specs.Routed.{Routed}
 use Rattle.constructive.specs.Members.{part, Members}
-use Rattle.nearest_neighbor.specs.declared.choice.Choice.{Choice}
-use Rattle.nearest_neighbor.specs.declared.choice.Choice.the-variants.{Nobody, Best}
-use Rattle.nearest_neighbor.specs.declared.ride.Ride.{Ride}
+use Rattle.nearest_neighbor.specs.declared.choice.StopChoice.{StopChoice}
+use Rattle.nearest_neighbor.specs.declared.choice.StopChoice.the-variants.{NoStop, Best}
+use Rattle.nearest_neighbor.specs.declared.partial.Partial.{Partial}
 use Rattle.nearest_neighbor.specs.declared.greedy.Heuristic.{Heuristic}
-use Rattle.nearest_neighbor.specs.Greedy.{choose, Trip, started, Rule, growing, grown, grownBy, grow, growOn, ended, roundOf}
-use Rattle.nearest_neighbor.specs.Chosen.{Chosen, choose-chosen}
-use Rattle.nearest_neighbor.specs.Ride.{setOut, ruleOf, offerBy, onwardBy, Riding}
+use Rattle.nearest_neighbor.specs.Greedy.{choose, Trip, emptyTrip, Rule, extending, extended, extendedBy, extend, extendOn, endOfTrip, vehicleRound}
+use Rattle.nearest_neighbor.specs.Laws.Chosen.{Chosen, choose-chosen}
+use Rattle.nearest_neighbor.specs.Partial.{emptyPartial, ruleOf, offerBy, onwardBy, PartialRoute}
 use Rattle.nearest_neighbor.proofs.Leaving.{joins}
 use Rattle.nearest_neighbor.proofs.Keeping.{rideOf, Driven, offers, drives-on, stays-driven, riding, sets-out, off, choose-alike}
 
 -- a round that is grown stays so
-pub stays-grown : (rule : Rule) (n : ℕ) (trip : Trip) (left : List ℕ) → growOn rule n (grown trip left) ≡ grown trip left
-unfolding growOn grow
+pub stays-grown : (rule : Rule) (n : ℕ) (trip : Trip) (left : List ℕ) → extendOn rule n (extended trip left) ≡ extended trip left
+unfolding extendOn extend
 stays-grown rule zero trip left = refl
 stays-grown rule (suc n) trip left = stays-grown rule n trip left
 
 -- one choice
-grows : (rule : Rule) (n : ℕ) (trip : Trip) (left : List ℕ) (c : Choice) → choose (rule .offer trip) Nobody 0 left ≡ c → growOn rule (suc n) (growing trip left) ≡ growOn rule n (grownBy rule trip left c)
-unfolding growOn grow
-grows rule n trip left c e = ap (λ (x : Choice). growOn rule n (grownBy rule trip left x)) e
+grows : (rule : Rule) (n : ℕ) (trip : Trip) (left : List ℕ) (c : StopChoice) → choose (rule .offer trip) NoStop 0 left ≡ c → extendOn rule (suc n) (extending trip left) ≡ extendOn rule n (extendedBy rule trip left c)
+unfolding extendOn extend
+grows rule n trip left c e = ap (λ (x : StopChoice). extendOn rule n (extendedBy rule trip left x)) e
 
 -- what holds at the head of the loop
-pub record Growing (s : List ℕ) (depot : ℕ) (h : Heuristic) (index : ℕ) (stops₀ : List ℕ) (start total : ℕ) (stops : List ℕ) (ride : Ride) (end : ℕ) : Type 0 where
+pub record Growing (s : List ℕ) (depot : ℕ) (h : Heuristic) (index : ℕ) (stops₀ : List ℕ) (start total : ℕ) (stops : List ℕ) (partial : Partial) (end : ℕ) : Type 0 where
   pub members : Members s depot stops₀ start total
   pub trip : Trip
   pub left : List ℕ
   pub laid : stops ≡ write stops₀ start (trip .stops ++ left)
   pub at : end ≡ start + length (trip .stops)
   pub all : end + length left ≡ total
-  pub kept : ride ≡ rideOf s depot (limitsAt s index .rest) trip
+  pub kept : partial ≡ rideOf s depot (limitsAt s index .rest) trip
   pub driven : Driven s depot trip
   pub rows : Every (λ (i : ℕ). i < rowsOf s) left
-  pub same : roundOf (ruleOf s depot h index) depot (part stops₀ start total) ≡ ended (growOn (ruleOf s depot h index) (length left) (growing trip left))
+  pub same : vehicleRound (ruleOf s depot h index) depot (part stops₀ start total) ≡ endOfTrip (extendOn (ruleOf s depot h index) (length left) (extending trip left))
 
-pub begins : (s : List ℕ) (depot : ℕ) (h : Heuristic) (index : ℕ) (stops : List ℕ) (start total : ℕ) (ride : Ride) → Members s depot stops start total → ride ≡ setOut (limitsAt s index .rest) depot → Growing s depot h index stops start total stops ride start
-begins s depot h index stops start total ride ok e =
+pub begins : (s : List ℕ) (depot : ℕ) (h : Heuristic) (index : ℕ) (stops : List ℕ) (start total : ℕ) (partial : Partial) → Members s depot stops start total → partial ≡ emptyPartial (limitsAt s index .rest) depot → Growing s depot h index stops start total stops partial start
+begins s depot h index stops start total partial ok e =
     let long : length (part stops start total) ≡ total - start = length-take-le (total - start) (drop start stops) (omega (arith, length-drop start stops, ok .within, ok .from)) in
     record {
       members = ok;
-      trip = started depot;
+      trip = emptyTrip depot;
       left = part stops start total;
       laid = sym (write-same stops start (total - start) (omega (arith, ok .within, ok .from)));
       at = omega arith;
@@ -68,7 +70,7 @@ begins s depot h index stops start total ride ok e =
       same = refl;
     }
 
-module _ (s : List ℕ) (depot : ℕ) (h : Heuristic) (index : ℕ) (stops₀ : List ℕ) (start total : ℕ) (stops : List ℕ) (ride : Ride) (end : ℕ) (g : Growing s depot h index stops₀ start total stops ride end) where
+module _ (s : List ℕ) (depot : ℕ) (h : Heuristic) (index : ℕ) (stops₀ : List ℕ) (start total : ℕ) (stops : List ℕ) (partial : Partial) (end : ℕ) (g : Growing s depot h index stops₀ start total stops partial end) where
   abbrev rule : Rule
   rule = ruleOf s depot h index
 
@@ -95,29 +97,29 @@ module _ (s : List ℕ) (depot : ℕ) (h : Heuristic) (index : ℕ) (stops₀ : 
     row = λ k l. every-at (λ (i : ℕ). i < rowsOf s) 0 (g .left) k l (g .rows);
   })
 
-  pub rides : end < total → Riding s ride
+  pub rides : end < total → PartialRoute s partial
   rides k = rw (g .kept) (riding s depot (limitsAt s index .rest) (g .trip) (g .members .routed .sheet) (g .driven) (omega (arith, g .at, g .members .most)))
 
   -- the choice is the rule's
-  module _ (c : Choice) (v : Vehicle) (limits : RouteLimits) (told : v ≡ vehicleOf s index) (held : limits ≡ limitsAt s index) (e : c ≡ choose (offerBy s depot h v limits ride) Nobody 0 (part stops end total)) where
-    chosen : choose (rule .offer (g .trip)) Nobody 0 (g .left) ≡ c
+  module _ (c : StopChoice) (v : Vehicle) (limits : RouteLimits) (told : v ≡ vehicleOf s index) (held : limits ≡ limitsAt s index) (e : c ≡ choose (offerBy s depot h v limits partial) NoStop 0 (part stops end total)) where
+    chosen : choose (rule .offer (g .trip)) NoStop 0 (g .left) ≡ c
     chosen =
         sym (e
-        ∙ ap (choose (offerBy s depot h v limits ride) Nobody 0) left-part
-        ∙ ap (λ (x : Vehicle). choose (offerBy s depot h x limits ride) Nobody 0 (g .left)) told
-        ∙ ap (λ (x : RouteLimits). choose (offerBy s depot h (vehicleOf s index) x ride) Nobody 0 (g .left)) held
-        ∙ ap (λ (x : Ride). choose (offerBy s depot h (vehicleOf s index) (limitsAt s index) x) Nobody 0 (g .left)) (g .kept)
+        ∙ ap (choose (offerBy s depot h v limits partial) NoStop 0) left-part
+        ∙ ap (λ (x : Vehicle). choose (offerBy s depot h x limits partial) NoStop 0 (g .left)) told
+        ∙ ap (λ (x : RouteLimits). choose (offerBy s depot h (vehicleOf s index) x partial) NoStop 0 (g .left)) held
+        ∙ ap (λ (x : Partial). choose (offerBy s depot h (vehicleOf s index) (limitsAt s index) x) NoStop 0 (g .left)) (g .kept)
         ∙ choose-alike (offerBy s depot h (vehicleOf s index) (limitsAt s index) (rideOf s depot (limitsAt s index .rest) (g .trip))) (rule .offer (g .trip))
-        (λ i. offers s depot (vehicleOf s index) (limitsAt s index) (g .trip) (g .driven) i h index refl refl) Nobody 0 (g .left))
+        (λ i. offers s depot (vehicleOf s index) (limitsAt s index) (g .trip) (g .driven) i h index refl refl) NoStop 0 (g .left))
 
-    -- nobody can join: the round is grown
-    nobody : (n : ℕ) → c ≡ Nobody → ended (growOn rule n (growing (g .trip) (g .left))) ≡ record { stops = taken; left = g .left }
-    unfolding growOn grow
-    nobody zero f = refl
-    nobody (suc n) f = rw (chosen, f, stays-grown rule n (g .trip) (g .left))
+    -- no stop can join: the round is grown
+    none-joins : (n : ℕ) → c ≡ NoStop → endOfTrip (extendOn rule n (extending (g .trip) (g .left))) ≡ record { stops = taken; left = g .left }
+    unfolding extendOn extend
+    none-joins zero f = refl
+    none-joins (suc n) f = rw (chosen, f, stays-grown rule n (g .trip) (g .left))
 
-    pub grown-full : c ≡ Nobody → roundOf rule depot (part stops₀ start total) ≡ record { stops = taken; left = g .left }
-    grown-full f = g .same ∙ nobody (length (g .left)) f
+    pub grown-full : c ≡ NoStop → vehicleRound rule depot (part stops₀ start total) ≡ record { stops = taken; left = g .left }
+    grown-full f = g .same ∙ none-joins (length (g .left)) f
 
     -- a stop joins
     module _ (j : ℕ) (k : Float) (f : c ≡ Best j k) where
@@ -151,14 +153,14 @@ module _ (s : List ℕ) (depot : ℕ) (h : Heuristic) (index : ℕ) (stops₀ : 
           ∙ ap (λ (n : ℕ). write stops₀ start (taken ++ ((stop ∷ take j (g .left)) ++ drop n (g .left)))) long
           ∙ ap (write stops₀ start) (simp append-assoc)
 
-      grown-on : ended (growOn rule (length (g .left)) (growing (g .trip) (g .left))) ≡ ended (growOn rule (length (without j (g .left))) (growing (rule .onward (g .trip) stop) (without j (g .left))))
+      grown-on : endOfTrip (extendOn rule (length (g .left)) (extending (g .trip) (g .left))) ≡ endOfTrip (extendOn rule (length (without j (g .left))) (extending (rule .onward (g .trip) stop) (without j (g .left))))
       grown-on =
           let n : length (g .left) ≡ suc (length (without j (g .left))) = omega (arith, without-length (g .left) j inside) in
-          ap (λ (m : ℕ). ended (growOn rule m (growing (g .trip) (g .left)))) n ∙ ap ended (grows rule (length (without j (g .left))) (g .trip) (g .left) (Best j k) (chosen ∙ f))
+          ap (λ (m : ℕ). endOfTrip (extendOn rule m (extending (g .trip) (g .left)))) n ∙ ap endOfTrip (grows rule (length (without j (g .left))) (g .trip) (g .left) (Best j k) (chosen ∙ f))
 
-      pub goes-on : (stops′ : List ℕ) (ride′ : Ride) → stops′ ≡ write stops end (getD stops (end + j) 0 ∷ take (end + j - end) (drop end stops)) → ride′ ≡ onwardBy s h ride (getD stops (end + j) 0)
-          → Growing s depot h index stops₀ start total stops′ ride′ (end + 1)
-      goes-on stops′ ride′ p q =
+      pub goes-on : (stops′ : List ℕ) (partial′ : Partial) → stops′ ≡ write stops end (getD stops (end + j) 0 ∷ take (end + j - end) (drop end stops)) → partial′ ≡ onwardBy s h partial (getD stops (end + j) 0)
+          → Growing s depot h index stops₀ start total stops′ partial′ (end + 1)
+      goes-on stops′ partial′ p q =
           let more = joins s depot h index (g .trip) stop in
           let long : length (rule .onward (g .trip) stop .stops) ≡ length taken + 1 = ap length more ∙ length-append taken (stop ∷ []) in
           record {
@@ -175,14 +177,14 @@ module _ (s : List ℕ) (depot : ℕ) (h : Heuristic) (index : ℕ) (stops₀ : 
           }
 
   -- no stop is left
-  pub grown-out : total ≤ end → roundOf rule depot (part stops₀ start total) ≡ record { stops = taken; left = g .left }
-  unfolding growOn
+  pub grown-out : total ≤ end → vehicleRound rule depot (part stops₀ start total) ≡ record { stops = taken; left = g .left }
+  unfolding extendOn
   grown-out k = let n : length (g .left) ≡ 0 = omega (arith, g .all) in g .same ∙ rw n
 
   -- where the round is grown
-  module _ (told : roundOf rule depot (part stops₀ start total) ≡ record { stops = taken; left = g .left }) where
-    pub ends-at : end ≡ start + length (roundOf rule depot (part stops₀ start total) .stops)
+  module _ (told : vehicleRound rule depot (part stops₀ start total) ≡ record { stops = taken; left = g .left }) where
+    pub ends-at : end ≡ start + length (vehicleRound rule depot (part stops₀ start total) .stops)
     ends-at = rw told (g .at)
 
-    pub ends-laid : stops ≡ write stops₀ start (roundOf rule depot (part stops₀ start total) .stops ++ roundOf rule depot (part stops₀ start total) .left)
+    pub ends-laid : stops ≡ write stops₀ start (vehicleRound rule depot (part stops₀ start total) .stops ++ vehicleRound rule depot (part stops₀ start total) .left)
     ends-laid = rw told (g .laid)

@@ -10,47 +10,47 @@ use lib.Seq.{drop-cons, drop-length}
 use lib.Ieee.{Float}
 use Rattle.sheet.specs.Fields.{rowsOf}
 use Rattle.sheet.specs.Values.{demandOf}
-use Rattle.sheet.specs.Finite.{demand-bounded}
+use Rattle.sheet.specs.Laws.Finite.{demand-bounded}
 use Rattle.evaluation.specs.Routed.{Routed}
-use Rattle.nearest_neighbor.specs.declared.choice.Choice.{Choice}
-use Rattle.nearest_neighbor.specs.declared.choice.Choice.the-variants.{Nobody, Best}
-use Rattle.nearest_neighbor.specs.declared.ride.Ride.{Ride}
-use Rattle.nearest_neighbor.specs.Greedy.{Offer, winsOf, better, choose}
-use Rattle.nearest_neighbor.specs.Nearest.{offered}
-use Rattle.nearest_neighbor.specs.Ride.{Riding}
+use Rattle.nearest_neighbor.specs.declared.choice.StopChoice.{StopChoice}
+use Rattle.nearest_neighbor.specs.declared.choice.StopChoice.the-variants.{NoStop, Best}
+use Rattle.nearest_neighbor.specs.declared.partial.Partial.{Partial}
+use Rattle.nearest_neighbor.specs.Greedy.{Offer, winsOf, betterStop, choose}
+use Rattle.nearest_neighbor.specs.Nearest.{offerIf}
+use Rattle.nearest_neighbor.specs.Partial.{PartialRoute}
 
-module _ (c : Choice) (j : ℕ) (t : Bool) (k : Float) where
-  pub loses : (key : Float) → key ≡ k → winsOf key c ≡ false → c ≡ better c j (offered t k)
+module _ (c : StopChoice) (j : ℕ) (t : Bool) (k : Float) where
+  pub loses : (key : Float) → key ≡ k → winsOf key c ≡ false → c ≡ betterStop c j (offerIf t k)
   loses key e f = go t
     where
-      go : (t : Bool) → c ≡ better c j (offered t k)
+      go : (t : Bool) → c ≡ betterStop c j (offerIf t k)
       go true = rw (← e, f)
       go false = refl
 
-  pub stays-out : t ≡ false → c ≡ better c j (offered t k)
+  pub stays-out : t ≡ false → c ≡ betterStop c j (offerIf t k)
   stays-out f = rw f
 
-  pub is-taken : (key : Float) → key ≡ k → winsOf key c ≡ true → t ≡ true → Best j key ≡ better c j (offered t k)
+  pub is-taken : (key : Float) → key ≡ k → winsOf key c ≡ true → t ≡ true → Best j key ≡ betterStop c j (offerIf t k)
   is-taken key e f g = rw (g, ← e, f)
 
 -- ---- the loop over the stops left
-pub record Choosing (offer : ℕ → Offer) (left : List ℕ) (c : Choice) (j end : ℕ) : Type 0 where
+pub record Choosing (offer : ℕ → Offer) (left : List ℕ) (c : StopChoice) (j end : ℕ) : Type 0 where
   pub last : end ≡ length left
   pub within : j ≤ end
-  pub same : choose offer Nobody 0 left ≡ choose offer c j (drop j left)
+  pub same : choose offer NoStop 0 left ≡ choose offer c j (drop j left)
 
-module _ (offer : ℕ → Offer) (left : List ℕ) (c : Choice) (j end : ℕ) (g : Choosing offer left c j end) where
-  pub goes-on : (d : Choice) → j < end → d ≡ better c j (offer (getD left j 0)) → Choosing offer left d (j + 1) end
+module _ (offer : ℕ → Offer) (left : List ℕ) (c : StopChoice) (j end : ℕ) (g : Choosing offer left c j end) where
+  pub goes-on : (d : StopChoice) → j < end → d ≡ betterStop c j (offer (getD left j 0)) → Choosing offer left d (j + 1) end
   unfolding choose
   goes-on d h e =
       let k : j < length left = omega (arith, g .last) in
       record {
         last = g .last;
         within = omega arith;
-        same = g .same ∙ ap (choose offer c j) (drop-cons left j 0 k) ∙ ap (λ (n : ℕ). choose offer (better c j (offer (getD left j 0))) (j + 1) (drop n left)) (sym (add-one j)) ∙ ap (λ (x : Choice). choose offer x (j + 1) (drop (j + 1) left)) (sym e);
+        same = g .same ∙ ap (choose offer c j) (drop-cons left j 0 k) ∙ ap (λ (n : ℕ). choose offer (betterStop c j (offer (getD left j 0))) (j + 1) (drop n left)) (sym (add-one j)) ∙ ap (λ (x : StopChoice). choose offer x (j + 1) (drop (j + 1) left)) (sym e);
       }
 
-  pub ends : end ≤ j → c ≡ choose offer Nobody 0 left
+  pub ends : end ≤ j → c ≡ choose offer NoStop 0 left
   unfolding choose
   ends h = let e : j ≡ length left = omega (arith, g .last, g .within) in sym (g .same ∙ rw (e, drop-length left))
 
@@ -62,8 +62,8 @@ single (x ∷ []) h = refl
 single (x ∷ y ∷ l) h = absurd (omega arith)
 
 -- a load with a stop more
-pub loaded : (s : List ℕ) (ride : Ride) (row demand : ℕ) → Riding s ride → row < rowsOf s → demand ≡ demandOf s row → ride .load + demand ≤ 1000000 * (ride .served + 1)
-loaded s ride row demand ok h e = omega (arith, ok .load, demand-bounded s (ok .sheet) row h, e)
+pub loaded : (s : List ℕ) (partial : Partial) (row demand : ℕ) → PartialRoute s partial → row < rowsOf s → demand ≡ demandOf s row → partial .load + demand ≤ 1000000 * (partial .served + 1)
+loaded s partial row demand ok h e = omega (arith, ok .load, demand-bounded s (ok .sheet) row h, e)
 
 -- ---- the stop at place j alone
 module _ (left : List ℕ) (j : ℕ) (h : j < length left) where

@@ -11,7 +11,7 @@ use lib.Ieee.{Float}
 use Rattle.sheet.specs.Fields.{rowsOf}
 use Rattle.sheet.specs.Accepted.{Accepted}
 use Rattle.sheet.specs.Values.{demandOf, stopOf, vehicleOf, distanceOf, timeOf}
-use Rattle.sheet.specs.Finite.{demand-bounded}
+use Rattle.sheet.specs.Laws.Finite.{demand-bounded}
 use Rattle.sheet.specs.declared.vehicle.VehicleBreak.{VehicleBreak}
 use Rattle.sheet.specs.declared.vehicle.Rest.{Rest}
 use Rattle.sheet.specs.declared.vehicle.Rest.the-variants.{NoRest, Required}
@@ -25,23 +25,23 @@ use Rattle.evaluation.specs.Feasible.{routeFeasible}
 use Rattle.evaluation.specs.Laws.Walk.{clock-kept, walked-rest, walked-place, more-clock, more-prev, more-distance}
 use Rattle.evaluation.specs.Laws.Verdict.{longer-feasible}
 use Rattle.evaluation.specs.declared.limits.RouteLimits.{RouteLimits}
-use Rattle.nearest_neighbor.specs.declared.choice.Choice.{Choice}
-use Rattle.nearest_neighbor.specs.declared.ride.Ride.{Ride}
-use Rattle.nearest_neighbor.specs.declared.ride.RideClock.{RideClock}
-use Rattle.nearest_neighbor.specs.declared.ride.RideClock.the-variants.{NoClock, Kept}
+use Rattle.nearest_neighbor.specs.declared.choice.StopChoice.{StopChoice}
+use Rattle.nearest_neighbor.specs.declared.partial.Partial.{Partial}
+use Rattle.nearest_neighbor.specs.declared.partial.PartialClock.{PartialClock}
+use Rattle.nearest_neighbor.specs.declared.partial.PartialClock.the-variants.{NoClock, Kept}
 use Rattle.nearest_neighbor.specs.declared.greedy.Heuristic.{Heuristic}
 use Rattle.nearest_neighbor.specs.declared.greedy.Heuristic.the-variants.{Nearest, NearestTw}
-use Rattle.nearest_neighbor.specs.Greedy.{Offer, better, choose, Trip, started as setOff}
-use Rattle.nearest_neighbor.specs.Nearest.{allows, thereAndHome, nearestOffer, nearestOnward, arrivalAt, startAt, isFirst, windowOffer, windowOnward}
-use Rattle.nearest_neighbor.specs.Ride.{pushedBy, allowsBy, setOut, nearestBy, ridden, windowBy, ruleOf, offerBy, onwardBy, Ticking, Riding}
+use Rattle.nearest_neighbor.specs.Greedy.{Offer, betterStop, choose, Trip, emptyTrip as setOff}
+use Rattle.nearest_neighbor.specs.Nearest.{allows, thereAndHome, nearestOffer, nearestOnward, arrivalAt, serviceStart, isFirst, windowOffer, windowOnward}
+use Rattle.nearest_neighbor.specs.Partial.{pushedBy, allowsBy, emptyPartial, nearestBy, partialWith, windowBy, ruleOf, offerBy, onwardBy, ClockKept, PartialRoute}
 
 -- the clock after the stops
-abbrev pub clockAfter : List ℕ → ℕ → Rest → List ℕ → RideClock
+abbrev pub clockAfter : List ℕ → ℕ → Rest → List ℕ → PartialClock
 clockAfter s depot NoRest stops = NoClock
 clockAfter s depot (Required b) stops = Kept (breakClock b (walkedOver s (atStart (Required b) depot) stops .clock))
 
 -- what is kept of a round so far
-abbrev pub rideOf : List ℕ → ℕ → Rest → Trip → Ride
+abbrev pub rideOf : List ℕ → ℕ → Rest → Trip → Partial
 rideOf s depot rest trip = record {
   current = trip .current;
   served = length (trip .stops);
@@ -86,7 +86,7 @@ module _ (s : List ℕ) (depot : ℕ) (v : Vehicle) (limits : RouteLimits) (trip
   unfolding offerBy ruleOf nearestBy nearestOffer windowBy windowOffer
   offers Nearest index e f = rw (allowed (limits .rest) refl (trip .clock ⊕ timeOf s (trip .current) i ⊕ stopOf s i .service ⊕ timeOf s i depot), e, f)
   offers (NearestTw soft) index e f =
-      rw (allowed (limits .rest) refl (startAt (stopOf s i .gate) (arrivalAt s trip i) ⊕ stopOf s i .service ⊕ timeOf s i depot), first (trip .stops), e, f)
+      rw (allowed (limits .rest) refl (serviceStart (stopOf s i .gate) (arrivalAt s trip i) ⊕ stopOf s i .service ⊕ timeOf s i depot), first (trip .stops), e, f)
 
 -- ---- one stop further
 pushed-on : (s : List ℕ) (depot : ℕ) (rest : Rest) (stops : List ℕ) (i : ℕ) → pushedBy s (clockAfter s depot rest stops) i ≡ clockAfter s depot rest (stops ++ (i ∷ []))
@@ -99,15 +99,15 @@ pushed-on s depot (Required b) stops i =
     ∙ sym (ap (breakClock b) (more-clock s (atStart (Required b) depot) stops i)))
 
 pub drives-on : (s : List ℕ) (depot : ℕ) (rest : Rest) (trip : Trip) (h : Heuristic) (index i : ℕ) → onwardBy s h (rideOf s depot rest trip) i ≡ rideOf s depot rest (ruleOf s depot h index .onward trip i)
-unfolding onwardBy ridden ruleOf nearestOnward windowOnward
+unfolding onwardBy partialWith ruleOf nearestOnward windowOnward
 drives-on s depot rest trip Nearest index i = rw (pushed-on s depot rest (trip .stops) i, one-more (trip .stops) i)
 drives-on s depot rest trip (NearestTw soft) index i = rw (pushed-on s depot rest (trip .stops) i, one-more (trip .stops) i)
 
 -- a step is the round with its clock
-pub stepped : (s : List ℕ) (h : Heuristic) (ride : Ride) (i : ℕ) (clock : Float) → clock ≡ onwardBy s h ride i .clock → ridden s ride i clock ≡ onwardBy s h ride i
-unfolding onwardBy ridden
-stepped s Nearest ride i clock e = rw e
-stepped s (NearestTw soft) ride i clock e = rw e
+pub stepped : (s : List ℕ) (h : Heuristic) (partial : Partial) (i : ℕ) (clock : Float) → clock ≡ onwardBy s h partial i .clock → partialWith s partial i clock ≡ onwardBy s h partial i
+unfolding onwardBy partialWith
+stepped s Nearest partial i clock e = rw e
+stepped s (NearestTw soft) partial i clock e = rw e
 
 -- the figures stay those of the stops
 pub stays-driven : (s : List ℕ) (depot : ℕ) (trip : Trip) (h : Heuristic) (index i : ℕ) → Accepted s → Driven s depot trip → i < rowsOf s → Driven s depot (ruleOf s depot h index .onward trip i)
@@ -128,17 +128,17 @@ stays-driven s depot trip h index i fine ok k = go h
     go (NearestTw soft) = record { last = last; far = far; from = k; load = load }
 
 -- and may be stepped on from, with at most 100 stops so far
-ticks : (s : List ℕ) (depot : ℕ) (rest : Rest) (trip : Trip) → Accepted s → Driven s depot trip → length (trip .stops) ≤ 100 → Ticking s (clockAfter s depot rest (trip .stops))
+ticks : (s : List ℕ) (depot : ℕ) (rest : Rest) (trip : Trip) → Accepted s → Driven s depot trip → length (trip .stops) ≤ 100 → ClockKept s (clockAfter s depot rest (trip .stops))
 ticks s depot NoRest trip fine ok few = tt
 ticks s depot (Required b) trip fine ok few =
     let place = walked-place s (atStart (Required b) depot) (trip .stops) in
     record { sheet = fine; from = rw (ok .last (Required b)) (ok .from); room = omega (arith, place) }
 
-pub riding : (s : List ℕ) (depot : ℕ) (rest : Rest) (trip : Trip) → Accepted s → Driven s depot trip → length (trip .stops) ≤ 100 → Riding s (rideOf s depot rest trip)
+pub riding : (s : List ℕ) (depot : ℕ) (rest : Rest) (trip : Trip) → Accepted s → Driven s depot trip → length (trip .stops) ≤ 100 → PartialRoute s (rideOf s depot rest trip)
 riding s depot rest trip fine ok few = record { sheet = fine; from = ok .from; few = few; load = ok .load; ticking = ticks s depot rest trip fine ok few }
 
 -- ---- at the depot
-pub sets-out : (s : List ℕ) (depot : ℕ) (rest : Rest) → setOut rest depot ≡ rideOf s depot rest (setOff depot)
+pub sets-out : (s : List ℕ) (depot : ℕ) (rest : Rest) → emptyPartial rest depot ≡ rideOf s depot rest (setOff depot)
 sets-out s depot NoRest = refl
 sets-out s depot (Required b) = refl
 
@@ -146,7 +146,7 @@ pub off : (s : List ℕ) (depot : ℕ) → depot < rowsOf s → Driven s depot (
 off s depot h = record { last = λ rest. refl; far = λ rest. refl; from = h; load = omega arith }
 
 -- ---- the best of the stops left, by offers that agree
-pub choose-alike : (f g : ℕ → Offer) → ((i : ℕ) → f i ≡ g i) → (c : Choice) (j : ℕ) (left : List ℕ) → choose f c j left ≡ choose g c j left
+pub choose-alike : (f g : ℕ → Offer) → ((i : ℕ) → f i ≡ g i) → (c : StopChoice) (j : ℕ) (left : List ℕ) → choose f c j left ≡ choose g c j left
 unfolding choose
 choose-alike f g e c j [] = refl
-choose-alike f g e c j (row ∷ rows) = ap (λ (o : Offer). choose f (better c j o) (j + 1) rows) (e row) ∙ choose-alike f g e (better c j (g row)) (j + 1) rows
+choose-alike f g e c j (row ∷ rows) = ap (λ (o : Offer). choose f (betterStop c j o) (j + 1) rows) (e row) ∙ choose-alike f g e (betterStop c j (g row)) (j + 1) rows

@@ -7,20 +7,21 @@ use native.Mathlib.Omega.{arith}
 use mathlib.Core.List.{List, [], _∷_, _++_, append-nil}
 use lib.ListN.{length, getD, take, drop, length-append, length-drop}
 use lib.Seq.{length-take-le, drop-cons, drop-length, append-snoc}
-use Rattle.lists.specs.Every.{Every, every-of, every-at}
+use Rattle.lists.specs.Every.{Every}
+use Rattle.lists.specs.Laws.Every.{every-of, every-at}
 use Rattle.wire.specs.Bytes.{write}
-use Rattle.wire.specs.Laws.{length-write}
-use Rattle.wire.specs.Overwrite.{write-same, part-write, write-over}
+use Rattle.wire.specs.Laws.Bytes.{length-write}
+use Rattle.wire.specs.Laws.Overwrite.{write-same, part-write, write-over}
 use Rattle.sheet.specs.Fields.{rowsOf, vehiclesOf}
 use Rattle.constructive.specs.declared.tables.Filled.{Filled}
 use Rattle.constructive.specs.Outcome.{Round, Outcome, chains}
 use Rattle.constructive.specs.Members.{part, Members, Fleet}
-use Rattle.constructive.specs.Laid.{endsFrom, vehiclesFrom, routedIn, filledBy, Laid, Room}
-use Rattle.constructive.specs.Entered.{enters-one}
-use Rattle.constructive.specs.LaidLaws.{chains-aside, chains-append, length-chains, length-ends, length-vehicles, routed-append}
+use Rattle.constructive.specs.Stored.{endsFrom, vehiclesFrom, routedIn, filledBy, Stored, Room}
+use Rattle.constructive.specs.Laws.Entered.{enters-one}
+use Rattle.constructive.specs.Laws.Stored.{chains-aside, chains-append, length-chains, length-ends, length-vehicles, routed-append}
 use Rattle.nearest_neighbor.specs.declared.greedy.Heuristic.{Heuristic}
-use Rattle.nearest_neighbor.specs.Greedy.{Grown, roundOf, withStops, after, greedy}
-use Rattle.nearest_neighbor.specs.Ride.{ruleOf}
+use Rattle.nearest_neighbor.specs.Greedy.{Grown, vehicleRound, withStops, roundThen, greedy}
+use Rattle.nearest_neighbor.specs.Partial.{ruleOf}
 use Rattle.nearest_neighbor.proofs.Leaving.{joins, round-long, round-every}
 
 -- rounds before an outcome's
@@ -38,7 +39,7 @@ pub record Laying (s : List ℕ) (depot : ℕ) (h : Heuristic) (fleet stops₀ e
   pub within : k ≤ end
   pub done : List Round
   pub left : List ℕ
-  pub laid : Laid stops₀ ends₀ vehicles₀ f₀ (laidSo done left) stops ends vehicles
+  pub laid : Stored stops₀ ends₀ vehicles₀ f₀ (laidSo done left) stops ends vehicles
   pub count : f ≡ filledBy f₀ done
   pub all : f₀ .routed + routedIn done + length left ≡ total
   pub each : length done ≤ routedIn done
@@ -129,7 +130,7 @@ module _ (s : List ℕ) (depot : ℕ) (h : Heuristic) (fleet stops₀ ends₀ ve
     index = getD fleet k 0
 
     abbrev grown : Grown
-    grown = roundOf (ruleOf s depot h index) depot (g .left)
+    grown = vehicleRound (ruleOf s depot h index) depot (g .left)
 
     pub known-index : index < vehiclesOf s
     known-index = g .known k (omega (arith, g .last))
@@ -137,7 +138,7 @@ module _ (s : List ℕ) (depot : ℕ) (h : Heuristic) (fleet stops₀ ends₀ ve
     long : length (grown .stops) + length (grown .left) ≡ length (g .left)
     long = round-long (ruleOf s depot h index) (joins s depot h index) depot (g .left)
 
-    one-more : greedy (ruleOf s depot h) depot fleet (part stops₀ (f₀ .routed) total) ≡ joined (g .done) (after index (grown .stops) (greedy (ruleOf s depot h) depot (drop (k + 1) fleet) (grown .left)))
+    one-more : greedy (ruleOf s depot h) depot fleet (part stops₀ (f₀ .routed) total) ≡ joined (g .done) (roundThen index (grown .stops) (greedy (ruleOf s depot h) depot (drop (k + 1) fleet) (grown .left)))
     unfolding greedy
     one-more = let l : k < length fleet = omega (arith, g .last) in
         g .same ∙ ap (λ (v : List ℕ). joined (g .done) (greedy (ruleOf s depot h) depot v (g .left))) (drop-cons fleet k 0 l ∙ ap (λ (n : ℕ). index ∷ drop n fleet) (sym (add-one k)))
@@ -171,7 +172,7 @@ module _ (s : List ℕ) (depot : ℕ) (h : Heuristic) (fleet stops₀ ends₀ ve
           all = let e = ap length none in omega (arith, g .all, long, e);
           each = g .each;
           rows = round-every (λ (i : ℕ). i < rowsOf s) (ruleOf s depot h index) depot (g .left) (g .rows);
-          same = one-more ∙ ap (λ (l : List ℕ). joined (g .done) (after index l (greedy (ruleOf s depot h) depot (drop (k + 1) fleet) (grown .left)))) none;
+          same = one-more ∙ ap (λ (l : List ℕ). joined (g .done) (roundThen index l (greedy (ruleOf s depot h) depot (drop (k + 1) fleet) (grown .left)))) none;
         }
 
       -- its round is closed
@@ -220,13 +221,13 @@ module _ (s : List ℕ) (depot : ℕ) (h : Heuristic) (fleet stops₀ ends₀ ve
             }
 
     -- ---- as the table has it: its members are those that are left
-    module _ (stops′ : List ℕ) (at : ℕ) (e : at ≡ f .routed + length (roundOf (ruleOf s depot h index) depot (part stops (f .routed) total) .stops))
-        (p : stops′ ≡ write stops (f .routed) (roundOf (ruleOf s depot h index) depot (part stops (f .routed) total) .stops ++ roundOf (ruleOf s depot h index) depot (part stops (f .routed) total) .left)) where
+    module _ (stops′ : List ℕ) (at : ℕ) (e : at ≡ f .routed + length (vehicleRound (ruleOf s depot h index) depot (part stops (f .routed) total) .stops))
+        (p : stops′ ≡ write stops (f .routed) (vehicleRound (ruleOf s depot h index) depot (part stops (f .routed) total) .stops ++ vehicleRound (ruleOf s depot h index) depot (part stops (f .routed) total) .left)) where
       ended-at : at ≡ f .routed + length (grown .stops)
-      ended-at = e ∙ ap (λ (l : List ℕ). f .routed + length (roundOf (ruleOf s depot h index) depot l .stops)) left-part
+      ended-at = e ∙ ap (λ (l : List ℕ). f .routed + length (vehicleRound (ruleOf s depot h index) depot l .stops)) left-part
 
       laid-at : stops′ ≡ write stops (f .routed) (grown .stops ++ grown .left)
-      laid-at = p ∙ ap (λ (l : List ℕ). write stops (f .routed) (roundOf (ruleOf s depot h index) depot l .stops ++ roundOf (ruleOf s depot h index) depot l .left)) left-part
+      laid-at = p ∙ ap (λ (l : List ℕ). write stops (f .routed) (vehicleRound (ruleOf s depot h index) depot l .stops ++ vehicleRound (ruleOf s depot h index) depot l .left)) left-part
 
       pub passes-on : at ≡ f .routed → Laying s depot h fleet stops₀ ends₀ vehicles₀ f₀ total stops′ ends vehicles f (k + 1) end
       passes-on u = passed stops′ laid-at (nothing (grown .stops) (omega (arith, ended-at)))
@@ -259,5 +260,5 @@ module _ (s : List ℕ) (depot : ℕ) (h : Heuristic) (fleet stops₀ ends₀ ve
   pub ends-count : end ≤ k → f ≡ filledBy f₀ (greedy (ruleOf s depot h) depot fleet (part stops₀ (f₀ .routed) total) .rounds)
   ends-count l = rw (ends-all l) (g .count)
 
-  pub ends-laid : end ≤ k → Laid stops₀ ends₀ vehicles₀ f₀ (greedy (ruleOf s depot h) depot fleet (part stops₀ (f₀ .routed) total)) stops ends vehicles
+  pub ends-laid : end ≤ k → Stored stops₀ ends₀ vehicles₀ f₀ (greedy (ruleOf s depot h) depot fleet (part stops₀ (f₀ .routed) total)) stops ends vehicles
   ends-laid l = rw (ends-all l) (g .laid)

@@ -21,17 +21,17 @@ use Rattle.nearest_neighbor.specs.Greedy.{Offer, out, key, Trip, Rule, g
 
 -- ---- both
 -- "A place for a stop is lawful if the load stays within capacity"
-abbrev pub carries : List ℕ → Vehicle → Trip → ℕ → Bool
-carries s v trip i = leb (trip .load + demandOf s i) (v .capacity)
+abbrev pub tripCarries : List ℕ → Vehicle → Trip → ℕ → Bool
+tripCarries s v trip i = leb (trip .load + demandOf s i) (v .capacity)
 
 -- "and `route_feasible` passes the round with the stop in it": so with a rest; without one the limits are held to figures of the rule's own
 abbrev pub allows : List ℕ → ℕ → RouteLimits → Rest → Trip → ℕ → Float → Float → Bool
 allows s depot limits NoRest trip i distance duration = allowOf limits distance duration
 allows s depot limits (Required b) trip i distance duration = routeFeasible s depot limits (trip .stops ++ (i ∷ []))
 
-abbrev pub offered : Bool → Float → Offer
-offered true k = key k
-offered false k = out
+abbrev pub offerIf : Bool → Float → Offer
+offerIf true k = key k
+offerIf false k = out
 
 -- the distance with the way there and home
 abbrev pub thereAndHome : List ℕ → ℕ → Trip → ℕ → Float
@@ -40,8 +40,8 @@ thereAndHome s depot trip i = trip .travelled ⊕ distanceOf s (trip .current) i
 -- ---- nearest neighbour: "without a rest it ignores windows and waiting"
 unfoldable pub nearestOffer : List ℕ → ℕ → Vehicle → RouteLimits → Trip → ℕ → Offer
 nearestOffer s depot v limits trip i =
-    offered
-    (carries s v trip i
+    offerIf
+    (tripCarries s v trip i
     && allows s depot limits (limits .rest) trip i (thereAndHome s depot trip i)
     (trip .clock ⊕ timeOf s (trip .current) i ⊕ stopOf s i .service ⊕ timeOf s i depot))
     (distanceOf s (trip .current) i)
@@ -73,10 +73,10 @@ lateAt (Hard w) arrival = latenessOf w arrival
 lateAt (Soft w penalty) arrival = latenessOf w arrival
 
 -- arrival, plus the wait
-abbrev pub startAt : Gate → Float → Float
-startAt Open arrival = arrival
-startAt (Hard w) arrival = arrival ⊕ waitingOf w arrival
-startAt (Soft w penalty) arrival = arrival ⊕ waitingOf w arrival
+abbrev pub serviceStart : Gate → Float → Float
+serviceStart Open arrival = arrival
+serviceStart (Hard w) arrival = arrival ⊕ waitingOf w arrival
+serviceStart (Soft w penalty) arrival = arrival ⊕ waitingOf w arrival
 
 abbrev pub penaltyOf : Gate → Float
 penaltyOf Open = nought
@@ -97,9 +97,9 @@ isFirst (row ∷ rows) = false
 abbrev pub marginal : List ℕ → ℕ → Trip → ℕ → Float → Float
 marginal s depot trip i lateCost = distanceOf s (trip .current) i ⊕ distanceOf s i depot ⊖ distanceOf s (trip .current) depot ⊕ lateCost
 
--- "soft windows also need the added cost to be below going alone plus the fixed cost"; the first stop of a round goes alone
-abbrev pub tooDear : List ℕ → ℕ → Vehicle → RouteLimits → Bool → Trip → ℕ → Float → Bool
-tooDear s depot v limits soft trip i lateCost =
+-- "soft windows (..) also need the added cost to be below going alone plus the fixed cost"; the first stop of a round goes alone
+abbrev pub stopTooDear : List ℕ → ℕ → Vehicle → RouteLimits → Bool → Trip → ℕ → Float → Bool
+stopTooDear s depot v limits soft trip i lateCost =
     (soft && not (isFirst (trip .stops)))
     && le (effectiveCost s depot limits (i ∷ []) ⊕ fixedInDistance v) (marginal s depot trip i lateCost)
 
@@ -110,11 +110,11 @@ windowOffer s depot v limits soft trip i =
     let arrival = arrivalAt s trip i in
     let late = lateAt gate arrival in
     let lateCost = penaltyOf gate ⊗ late in
-    offered
-    (carries s v trip i
+    offerIf
+    (tripCarries s v trip i
     && (not (missed gate late)
-    && (allows s depot limits (limits .rest) trip i (thereAndHome s depot trip i) (startAt gate arrival ⊕ stopOf s i .service ⊕ timeOf s i depot)
-    && not (tooDear s depot v limits soft trip i lateCost))))
+    && (allows s depot limits (limits .rest) trip i (thereAndHome s depot trip i) (serviceStart gate arrival ⊕ stopOf s i .service ⊕ timeOf s i depot)
+    && not (stopTooDear s depot v limits soft trip i lateCost))))
     (distanceOf s (trip .current) i ⊕ lateCost)
 
 -- its clock waits
@@ -124,7 +124,7 @@ windowOnward s trip i = record {
   current = i;
   load = trip .load + demandOf s i;
   travelled = trip .travelled ⊕ distanceOf s (trip .current) i;
-  clock = startAt (stopOf s i .gate) (arrivalAt s trip i) ⊕ stopOf s i .service;
+  clock = serviceStart (stopOf s i .gate) (arrivalAt s trip i) ⊕ stopOf s i .service;
 }
 
 abbrev pub windowRule : List ℕ → ℕ → Bool → ℕ → Rule

@@ -3,17 +3,17 @@ ghost use mathlib.Core.Path.{_≡_};
 ghost use Rattle.nearest_neighbor.specs.Greedy.{winsOf};
 
 // Its place among the stops left, and its key.
-pub enum Choice {
-    Nobody,
+pub enum StopChoice {
+    NoStop,
     Best(usize, f64),
 }
 
 // Whether a key wins over it: the first of equals stays.
-pub fn wins(key: f64, best: Choice) -> bool
+pub fn wins(key: f64, best: StopChoice) -> bool
     ensures { λ r. ⌜ r ≡ winsOf key best ⌝ }
 {
     match best {
-        Choice::Nobody => true,
-        Choice::Best(_, least) => key < least,
+        StopChoice::NoStop => true,
+        StopChoice::Best(_, least) => key < least,
     }
 }

@@ -1,9 +1,9 @@
 // What both nearest neighbours share: each vehicle in turn grows one round by the best stop left.
-use crate::choice::Choice;
+use crate::choice::StopChoice;
 use crate::nearest;
 use crate::nn_tw;
-use crate::ride;
-use crate::ride::Ride;
+use crate::partial;
+use crate::partial::Partial;
 use constructive::tables;
 use constructive::tables::Filled;
 use evaluation::limits;
@@ -19,11 +19,11 @@ ghost use lib.ListN.{length, getD, take, drop};
 ghost use Rattle.wire.specs.Bytes.{write};
 ghost use Rattle.sheet.specs.Fields.{rowsOf, vehiclesOf};
 ghost use Rattle.evaluation.specs.Routed.{Routed};
-ghost use Rattle.constructive.specs.Laid.{Laid, Room, filledBy};
+ghost use Rattle.constructive.specs.Stored.{Stored, Room, filledBy};
 ghost use Rattle.constructive.specs.Members.{part, Members, Fleet};
-ghost use Rattle.nearest_neighbor.specs.declared.choice.Choice.the-variants.{Nobody};
-ghost use Rattle.nearest_neighbor.specs.Greedy.{choose, roundOf, greedy};
-ghost use Rattle.nearest_neighbor.specs.Ride.{ruleOf, offerBy, onwardBy, ridden, Riding};
+ghost use Rattle.nearest_neighbor.specs.declared.choice.StopChoice.the-variants.{NoStop};
+ghost use Rattle.nearest_neighbor.specs.Greedy.{choose, vehicleRound, greedy};
+ghost use Rattle.nearest_neighbor.specs.Partial.{ruleOf, offerBy, onwardBy, partialWith, PartialRoute};
 
 // Which of the two; with windows, whether some window has a penalty.
 pub enum Heuristic {
@@ -37,52 +37,52 @@ fn best_stop(
     heuristic: Heuristic,
     vehicle: Vehicle,
     limits: RouteLimits,
-    ride: Ride,
+    partial: Partial,
     left: &[u16],
-) -> Choice
-    requires { ⌜ Riding (now sheet) ride ⌝ }
+) -> StopChoice
+    requires { ⌜ PartialRoute (now sheet) partial ⌝ }
     requires { ⌜ Routed (now sheet) depot (now left) ⌝ }
-    ensures { λ r. ⌜ r ≡ choose (offerBy (now (sheet .entry)) depot heuristic vehicle limits ride) Nobody 0 (now (left .entry)) ⌝ }
+    ensures { λ r. ⌜ r ≡ choose (offerBy (now (sheet .entry)) depot heuristic vehicle limits partial) NoStop 0 (now (left .entry)) ⌝ }
 {
     match heuristic {
-        Heuristic::Nearest => nearest::nearest(sheet, depot, vehicle, limits, ride, left),
+        Heuristic::Nearest => nearest::nearest(sheet, depot, vehicle, limits, partial, left),
         Heuristic::NearestTw(soft) => nn_tw::nearest(
             sheet,
             depot,
             vehicle,
             limits,
             soft,
-            ride,
+            partial,
             left,
         ),
     }
 }
 
-fn clock_at(sheet: &[u8], heuristic: Heuristic, ride: Ride, row: usize) -> f64
-    requires { ⌜ Riding (now sheet) ride ⌝ }
+fn clock_at(sheet: &[u8], heuristic: Heuristic, partial: Partial, row: usize) -> f64
+    requires { ⌜ PartialRoute (now sheet) partial ⌝ }
     requires { ⌜ row < rowsOf (now sheet) ⌝ }
-    ensures { λ r. ⌜ r ≡ onwardBy (now (sheet .entry)) heuristic ride row .clock ⌝ }
+    ensures { λ r. ⌜ r ≡ onwardBy (now (sheet .entry)) heuristic partial row .clock ⌝ }
 {
     match heuristic {
-        Heuristic::Nearest => nearest::clock_at(sheet, ride, row),
-        Heuristic::NearestTw(_) => nn_tw::clock_at(sheet, ride, row),
+        Heuristic::Nearest => nearest::clock_at(sheet, partial, row),
+        Heuristic::NearestTw(_) => nn_tw::clock_at(sheet, partial, row),
     }
 }
 
 // The round one stop further.
-fn drive_on(sheet: &[u8], heuristic: Heuristic, ride: Ride, row: usize) -> Ride
-    requires { ⌜ Riding (now sheet) ride ⌝ }
+fn drive_on(sheet: &[u8], heuristic: Heuristic, partial: Partial, row: usize) -> Partial
+    requires { ⌜ PartialRoute (now sheet) partial ⌝ }
     requires { ⌜ row < rowsOf (now sheet) ⌝ }
-    ensures { λ r. ⌜ r ≡ onwardBy (now (sheet .entry)) heuristic ride row ⌝ }
+    ensures { λ r. ⌜ r ≡ onwardBy (now (sheet .entry)) heuristic partial row ⌝ }
 {
-    let kept = ride.rest;
-    let clock = clock_at(sheet, heuristic, ride, row);
-    let rest = ride::pushed_by(sheet, kept, row);
-    Ride {
+    let kept = partial.rest;
+    let clock = clock_at(sheet, heuristic, partial, row);
+    let rest = partial::pushed_by(sheet, kept, row);
+    Partial {
         current: row,
-        served: ride.served + 1,
-        load: ride.load + customer::demand(sheet, row),
-        travelled: ride.travelled + matrix::distance(sheet, ride.current, row),
+        served: partial.served + 1,
+        load: partial.load + customer::demand(sheet, row),
+        travelled: partial.travelled + matrix::distance(sheet, partial.current, row),
         clock,
         rest,
     }
@@ -101,28 +101,28 @@ fn grow_round(
 ) -> usize
     requires { ⌜ Members (now sheet) depot (now stops) start total ⌝ }
     requires { ⌜ index < vehiclesOf (now sheet) ⌝ }
-    ensures { λ r. ⌜ r ≡ start + length (roundOf (ruleOf (now (sheet .entry)) depot heuristic index) depot (part (now (stops .entry)) start total) .stops) ⌝ }
-    ensures { λ _. ⌜ now (stops .exit) ≡ write (now (stops .entry)) start (roundOf (ruleOf (now (sheet .entry)) depot heuristic index) depot (part (now (stops .entry)) start total) .stops ++ roundOf (ruleOf (now (sheet .entry)) depot heuristic index) depot (part (now (stops .entry)) start total) .left) ⌝ }
+    ensures { λ r. ⌜ r ≡ start + length (vehicleRound (ruleOf (now (sheet .entry)) depot heuristic index) depot (part (now (stops .entry)) start total) .stops) ⌝ }
+    ensures { λ _. ⌜ now (stops .exit) ≡ write (now (stops .entry)) start (vehicleRound (ruleOf (now (sheet .entry)) depot heuristic index) depot (part (now (stops .entry)) start total) .stops ++ vehicleRound (ruleOf (now (sheet .entry)) depot heuristic index) depot (part (now (stops .entry)) start total) .left) ⌝ }
 {
     let vehicle = vehicle::vehicle_at(sheet, index);
     let limits = limits::limits_at(sheet, index);
     let rest = limits.rest;
-    let mut ride = ride::set_out(rest, depot);
+    let mut partial = partial::empty_partial(rest, depot);
     let mut end = start;
     while end < total {
-        let Choice::Best(j, _) = best_stop(
+        let StopChoice::Best(j, _) = best_stop(
             sheet,
             depot,
             heuristic,
             vehicle,
             limits,
-            ride,
+            partial,
             &stops[end..total],
         ) else {
             return end;
         };
         let from = end + j;
-        ride = drive_on(sheet, heuristic, ride, stops[from] as usize);
+        partial = drive_on(sheet, heuristic, partial, stops[from] as usize);
         tables::bring(stops, end, from);
         end = end + 1;
     }
@@ -145,7 +145,7 @@ pub fn lay_rounds(
     requires { ⌜ Room (now ends) (now vehicles) filled total ⌝ }
     requires { ⌜ Fleet (now sheet) (now fleet) ⌝ }
     ensures { λ r. ⌜ r ≡ filledBy filled (greedy (ruleOf (now (sheet .entry)) depot heuristic) depot (now (fleet .entry)) (part (now (stops .entry)) (filled .routed) total) .rounds) ⌝ }
-    ensures { λ _. ⌜ Laid (now (stops .entry)) (now (ends .entry)) (now (vehicles .entry)) filled (greedy (ruleOf (now (sheet .entry)) depot heuristic) depot (now (fleet .entry)) (part (now (stops .entry)) (filled .routed) total)) (now (stops .exit)) (now (ends .exit)) (now (vehicles .exit)) ⌝ }
+    ensures { λ _. ⌜ Stored (now (stops .entry)) (now (ends .entry)) (now (vehicles .entry)) filled (greedy (ruleOf (now (sheet .entry)) depot heuristic) depot (now (fleet .entry)) (part (now (stops .entry)) (filled .routed) total)) (now (stops .exit)) (now (ends .exit)) (now (vehicles .exit)) ⌝ }
 {
     let mut done = filled;
     for k in 0..fleet.len() {

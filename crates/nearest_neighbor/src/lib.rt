@@ -3,12 +3,12 @@ pub mod choice;
 pub mod greedy;
 mod nearest;
 pub mod nn_tw;
-pub mod ride;
+pub mod partial;
 
 use constructive::tables::Filled;
 use greedy::Heuristic;
 ghost use mathlib.Core.Path.{_≡_};
-ghost use Rattle.constructive.specs.Laid.{Laid, Room, filledBy};
+ghost use Rattle.constructive.specs.Stored.{Stored, Room, filledBy};
 ghost use Rattle.constructive.specs.Members.{part, Members, Fleet};
 ghost use Rattle.nearest_neighbor.specs.Nearest.{nearestNeighbor, nearestNeighborTw};
 
@@ -28,7 +28,7 @@ pub fn nearest_neighbor(
     requires { ⌜ Room (now ends) (now vehicles) filled total ⌝ }
     requires { ⌜ Fleet (now sheet) (now fleet) ⌝ }
     ensures { λ r. ⌜ r ≡ filledBy filled (nearestNeighbor (now (sheet .entry)) depot (part (now (stops .entry)) (filled .routed) total) (now (fleet .entry)) .rounds) ⌝ }
-    ensures { λ _. ⌜ Laid (now (stops .entry)) (now (ends .entry)) (now (vehicles .entry)) filled (nearestNeighbor (now (sheet .entry)) depot (part (now (stops .entry)) (filled .routed) total) (now (fleet .entry))) (now (stops .exit)) (now (ends .exit)) (now (vehicles .exit)) ⌝ }
+    ensures { λ _. ⌜ Stored (now (stops .entry)) (now (ends .entry)) (now (vehicles .entry)) filled (nearestNeighbor (now (sheet .entry)) depot (part (now (stops .entry)) (filled .routed) total) (now (fleet .entry))) (now (stops .exit)) (now (ends .exit)) (now (vehicles .exit)) ⌝ }
 {
     greedy::lay_rounds(
         sheet,
@@ -58,7 +58,7 @@ pub fn nearest_neighbor_tw(
     requires { ⌜ Room (now ends) (now vehicles) filled total ⌝ }
     requires { ⌜ Fleet (now sheet) (now fleet) ⌝ }
     ensures { λ r. ⌜ r ≡ filledBy filled (nearestNeighborTw (now (sheet .entry)) depot (part (now (stops .entry)) (filled .routed) total) (now (fleet .entry)) .rounds) ⌝ }
-    ensures { λ _. ⌜ Laid (now (stops .entry)) (now (ends .entry)) (now (vehicles .entry)) filled (nearestNeighborTw (now (sheet .entry)) depot (part (now (stops .entry)) (filled .routed) total) (now (fleet .entry))) (now (stops .exit)) (now (ends .exit)) (now (vehicles .exit)) ⌝ }
+    ensures { λ _. ⌜ Stored (now (stops .entry)) (now (ends .entry)) (now (vehicles .entry)) filled (nearestNeighborTw (now (sheet .entry)) depot (part (now (stops .entry)) (filled .routed) total) (now (fleet .entry))) (now (stops .exit)) (now (ends .exit)) (now (vehicles .exit)) ⌝ }
 {
     let start = filled.routed;
     let soft = evaluation::checks::has_soft_windows(sheet, depot, &stops[start..total]);

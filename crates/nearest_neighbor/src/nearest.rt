@@ -1,8 +1,8 @@
 // Nearest neighbour: without a rest it ignores windows and waiting.
 use crate::choice;
-use crate::choice::Choice;
-use crate::ride;
-use crate::ride::Ride;
+use crate::choice::StopChoice;
+use crate::partial;
+use crate::partial::Partial;
 use evaluation::limits::RouteLimits;
 use sheet::customer;
 use sheet::matrix;
@@ -13,28 +13,28 @@ ghost use Rattle.sheet.specs.Fields.{rowsOf};
 ghost use Rattle.evaluation.specs.Routed.{Routed};
 ghost use Rattle.evaluation.specs.Sums.{_⊕_};
 ghost use Rattle.sheet.specs.Values.{stopOf, timeOf};
-ghost use Rattle.nearest_neighbor.specs.declared.choice.Choice.the-variants.{Nobody};
-ghost use Rattle.nearest_neighbor.specs.Greedy.{better, choose};
+ghost use Rattle.nearest_neighbor.specs.declared.choice.StopChoice.the-variants.{NoStop};
+ghost use Rattle.nearest_neighbor.specs.Greedy.{betterStop, choose};
 ghost use Rattle.nearest_neighbor.specs.Nearest.{thereAndHome};
-ghost use Rattle.nearest_neighbor.specs.Ride.{tripBy, allowsBy, nearestBy, nearestClock, Riding};
+ghost use Rattle.nearest_neighbor.specs.Partial.{tripOf, allowsBy, nearestBy, nearestClock, PartialRoute};
 
 // Whether the limits are kept with the row as the last stop.
-fn fits(sheet: &[u8], depot: usize, limits: RouteLimits, ride: Ride, row: usize) -> bool
-    requires { ⌜ Riding (now sheet) ride ⌝ }
+fn fits(sheet: &[u8], depot: usize, limits: RouteLimits, partial: Partial, row: usize) -> bool
+    requires { ⌜ PartialRoute (now sheet) partial ⌝ }
     requires { ⌜ (row < rowsOf (now sheet)) × (depot < rowsOf (now sheet)) ⌝ }
-    ensures { λ r. ⌜ r ≡ allowsBy (now (sheet .entry)) depot limits (ride .rest) row (thereAndHome (now (sheet .entry)) depot (tripBy ride) row) (ride .clock ⊕ timeOf (now (sheet .entry)) (ride .current) row ⊕ stopOf (now (sheet .entry)) row .service ⊕ timeOf (now (sheet .entry)) row depot) ⌝ }
+    ensures { λ r. ⌜ r ≡ allowsBy (now (sheet .entry)) depot limits (partial .rest) row (thereAndHome (now (sheet .entry)) depot (tripOf partial) row) (partial .clock ⊕ timeOf (now (sheet .entry)) (partial .current) row ⊕ stopOf (now (sheet .entry)) row .service ⊕ timeOf (now (sheet .entry)) row depot) ⌝ }
 {
-    let current = ride.current;
-    let kept = ride.rest;
-    let distance = ride.travelled
+    let current = partial.current;
+    let kept = partial.rest;
+    let distance = partial.travelled
         + matrix::distance(sheet, current, row)
         + matrix::distance(sheet, row, depot);
     let stop = customer::stop_at(sheet, row);
-    let duration = ride.clock
+    let duration = partial.clock
         + matrix::travel_time(sheet, current, row)
         + stop.service
         + matrix::travel_time(sheet, row, depot);
-    ride::allows(sheet, depot, limits, kept, row, distance, duration)
+    partial::allows(sheet, depot, limits, kept, row, distance, duration)
 }
 
 // The better of the best so far and the stop at place j. What is no nearer is not looked at further.
@@ -43,26 +43,26 @@ fn nearer(
     depot: usize,
     vehicle: Vehicle,
     limits: RouteLimits,
-    ride: Ride,
-    best: Choice,
+    partial: Partial,
+    best: StopChoice,
     j: usize,
     row: usize,
-) -> Choice
-    requires { ⌜ Riding (now sheet) ride ⌝ }
+) -> StopChoice
+    requires { ⌜ PartialRoute (now sheet) partial ⌝ }
     requires { ⌜ (row < rowsOf (now sheet)) × (depot < rowsOf (now sheet)) ⌝ }
-    ensures { λ r. ⌜ r ≡ better best j (nearestBy (now (sheet .entry)) depot vehicle limits ride row) ⌝ }
+    ensures { λ r. ⌜ r ≡ betterStop best j (nearestBy (now (sheet .entry)) depot vehicle limits partial row) ⌝ }
 {
-    let distance = matrix::distance(sheet, ride.current, row);
+    let distance = matrix::distance(sheet, partial.current, row);
     if !choice::wins(distance, best) {
         return best;
     }
-    if !ride::carries(sheet, vehicle, ride, row) {
+    if !partial::carries(sheet, vehicle, partial, row) {
         return best;
     }
-    if !fits(sheet, depot, limits, ride, row) {
+    if !fits(sheet, depot, limits, partial, row) {
         return best;
     }
-    Choice::Best(j, distance)
+    StopChoice::Best(j, distance)
 }
 
 // The nearest of the stops left that the round can take.
@@ -71,21 +71,21 @@ pub fn nearest(
     depot: usize,
     vehicle: Vehicle,
     limits: RouteLimits,
-    ride: Ride,
+    partial: Partial,
     left: &[u16],
-) -> Choice
-    requires { ⌜ Riding (now sheet) ride ⌝ }
+) -> StopChoice
+    requires { ⌜ PartialRoute (now sheet) partial ⌝ }
     requires { ⌜ Routed (now sheet) depot (now left) ⌝ }
-    ensures { λ r. ⌜ r ≡ choose (nearestBy (now (sheet .entry)) depot vehicle limits ride) Nobody 0 (now (left .entry)) ⌝ }
+    ensures { λ r. ⌜ r ≡ choose (nearestBy (now (sheet .entry)) depot vehicle limits partial) NoStop 0 (now (left .entry)) ⌝ }
 {
-    let mut best = Choice::Nobody;
+    let mut best = StopChoice::NoStop;
     for j in 0..left.len() {
         best = nearer(
             sheet,
             depot,
             vehicle,
             limits,
-            ride,
+            partial,
             best,
             j,
             left[j] as usize,
@@ -95,11 +95,11 @@ pub fn nearest(
 }
 
 // The clock grows by the leg and the service, summed first.
-pub fn clock_at(sheet: &[u8], ride: Ride, row: usize) -> f64
-    requires { ⌜ Riding (now sheet) ride ⌝ }
+pub fn clock_at(sheet: &[u8], partial: Partial, row: usize) -> f64
+    requires { ⌜ PartialRoute (now sheet) partial ⌝ }
     requires { ⌜ row < rowsOf (now sheet) ⌝ }
-    ensures { λ r. ⌜ r ≡ nearestClock (now (sheet .entry)) ride row ⌝ }
+    ensures { λ r. ⌜ r ≡ nearestClock (now (sheet .entry)) partial row ⌝ }
 {
     let stop = customer::stop_at(sheet, row);
-    ride.clock + (matrix::travel_time(sheet, ride.current, row) + stop.service)
+    partial.clock + (matrix::travel_time(sheet, partial.current, row) + stop.service)
 }

@@ -1,8 +1,8 @@
 // Nearest neighbour with windows: a stop's key is its distance plus its penalty times its lateness.
 use crate::choice;
-use crate::choice::Choice;
-use crate::ride;
-use crate::ride::Ride;
+use crate::choice::StopChoice;
+use crate::partial;
+use crate::partial::Partial;
 use evaluation::limits::RouteLimits;
 use evaluation::window;
 use sheet::customer;
@@ -18,10 +18,10 @@ ghost use Rattle.sheet.specs.Fields.{rowsOf};
 ghost use Rattle.sheet.specs.Values.{stopOf, distanceOf, timeOf};
 ghost use Rattle.evaluation.specs.Routed.{Routed};
 ghost use Rattle.evaluation.specs.Sums.{_⊕_};
-ghost use Rattle.nearest_neighbor.specs.declared.choice.Choice.the-variants.{Nobody};
-ghost use Rattle.nearest_neighbor.specs.Greedy.{better, choose};
-ghost use Rattle.nearest_neighbor.specs.Nearest.{lateAt, startAt, penaltyOf, missed, thereAndHome, arrivalAt, marginal};
-ghost use Rattle.nearest_neighbor.specs.Ride.{tripBy, allowsBy, tooDearBy, lookOf, takesBy, windowBy, windowClock, Riding};
+ghost use Rattle.nearest_neighbor.specs.declared.choice.StopChoice.the-variants.{NoStop};
+ghost use Rattle.nearest_neighbor.specs.Greedy.{betterStop, choose};
+ghost use Rattle.nearest_neighbor.specs.Nearest.{lateAt, serviceStart, penaltyOf, missed, thereAndHome, arrivalAt, marginal};
+ghost use Rattle.nearest_neighbor.specs.Partial.{tripOf, allowsBy, partialTooDear, candidateOf, takesBy, windowBy, windowClock, PartialRoute};
 
 // By how much an arrival is late, whatever the window costs.
 fn late_at(gate: Gate, arrival: f64) -> f64
@@ -36,7 +36,7 @@ fn late_at(gate: Gate, arrival: f64) -> f64
 
 // Arrival, plus the wait.
 fn start_at(gate: Gate, arrival: f64) -> f64
-    ensures { λ r. ⌜ r ≡ startAt gate arrival ⌝ }
+    ensures { λ r. ⌜ r ≡ serviceStart gate arrival ⌝ }
 {
     match gate {
         Gate::Open => arrival,
@@ -66,12 +66,12 @@ fn is_missed(gate: Gate, late: f64) -> bool
     }
 }
 
-fn arrival_at(sheet: &[u8], ride: Ride, row: usize) -> f64
-    requires { ⌜ Riding (now sheet) ride ⌝ }
+fn arrival_at(sheet: &[u8], partial: Partial, row: usize) -> f64
+    requires { ⌜ PartialRoute (now sheet) partial ⌝ }
     requires { ⌜ row < rowsOf (now sheet) ⌝ }
-    ensures { λ r. ⌜ r ≡ arrivalAt (now (sheet .entry)) (tripBy ride) row ⌝ }
+    ensures { λ r. ⌜ r ≡ arrivalAt (now (sheet .entry)) (tripOf partial) row ⌝ }
 {
-    ride.clock + matrix::travel_time(sheet, ride.current, row)
+    partial.clock + matrix::travel_time(sheet, partial.current, row)
 }
 
 // Whether the limits are kept with the row, left at `departure`, as the last stop.
@@ -79,30 +79,30 @@ fn fits(
     sheet: &[u8],
     depot: usize,
     limits: RouteLimits,
-    ride: Ride,
+    partial: Partial,
     row: usize,
     departure: f64,
 ) -> bool
-    requires { ⌜ Riding (now sheet) ride ⌝ }
+    requires { ⌜ PartialRoute (now sheet) partial ⌝ }
     requires { ⌜ (row < rowsOf (now sheet)) × (depot < rowsOf (now sheet)) ⌝ }
-    ensures { λ r. ⌜ r ≡ allowsBy (now (sheet .entry)) depot limits (ride .rest) row (thereAndHome (now (sheet .entry)) depot (tripBy ride) row) (departure ⊕ timeOf (now (sheet .entry)) row depot) ⌝ }
+    ensures { λ r. ⌜ r ≡ allowsBy (now (sheet .entry)) depot limits (partial .rest) row (thereAndHome (now (sheet .entry)) depot (tripOf partial) row) (departure ⊕ timeOf (now (sheet .entry)) row depot) ⌝ }
 {
-    let kept = ride.rest;
-    let distance = ride.travelled
-        + matrix::distance(sheet, ride.current, row)
+    let kept = partial.rest;
+    let distance = partial.travelled
+        + matrix::distance(sheet, partial.current, row)
         + matrix::distance(sheet, row, depot);
     let duration = departure + matrix::travel_time(sheet, row, depot);
-    ride::allows(sheet, depot, limits, kept, row, distance, duration)
+    partial::allows(sheet, depot, limits, kept, row, distance, duration)
 }
 
 // What a stop adds to the round so far, with its lateness.
-fn added(sheet: &[u8], depot: usize, ride: Ride, row: usize, late_cost: f64) -> f64
-    requires { ⌜ Riding (now sheet) ride ⌝ }
+fn added(sheet: &[u8], depot: usize, partial: Partial, row: usize, late_cost: f64) -> f64
+    requires { ⌜ PartialRoute (now sheet) partial ⌝ }
     requires { ⌜ (row < rowsOf (now sheet)) × (depot < rowsOf (now sheet)) ⌝ }
-    ensures { λ r. ⌜ r ≡ marginal (now (sheet .entry)) depot (tripBy ride) row «late_cost» ⌝ }
+    ensures { λ r. ⌜ r ≡ marginal (now (sheet .entry)) depot (tripOf partial) row «late_cost» ⌝ }
 {
-    matrix::distance(sheet, ride.current, row) + matrix::distance(sheet, row, depot)
-        - matrix::distance(sheet, ride.current, depot)
+    matrix::distance(sheet, partial.current, row) + matrix::distance(sheet, row, depot)
+        - matrix::distance(sheet, partial.current, depot)
         + late_cost
 }
 
@@ -113,46 +113,46 @@ fn is_too_dear(
     vehicle: Vehicle,
     limits: RouteLimits,
     soft: bool,
-    ride: Ride,
+    partial: Partial,
     alone: &[u16],
     late_cost: f64,
 ) -> bool
-    requires { ⌜ Riding (now sheet) ride ⌝ }
+    requires { ⌜ PartialRoute (now sheet) partial ⌝ }
     requires { ⌜ Routed (now sheet) depot (now alone) ⌝ }
     requires { ⌜ length (now alone) ≡ 1 ⌝ }
-    ensures { λ r. ⌜ r ≡ tooDearBy (now (sheet .entry)) depot vehicle limits soft ride (getD (now (alone .entry)) 0 0) «late_cost» ⌝ }
+    ensures { λ r. ⌜ r ≡ partialTooDear (now (sheet .entry)) depot vehicle limits soft partial (getD (now (alone .entry)) 0 0) «late_cost» ⌝ }
 {
     if !soft {
         return false;
     }
-    if ride.served == 0 {
+    if partial.served == 0 {
         return false;
     }
     let cost = evaluation::effective_cost(sheet, alone, depot, limits);
     let most = cost + vehicle::fixed_cost_in_distance(vehicle);
-    most <= added(sheet, depot, ride, alone[0] as usize, late_cost)
+    most <= added(sheet, depot, partial, alone[0] as usize, late_cost)
 }
 
 // What the key of a stop is made of.
-pub struct Look {
+pub struct Candidate {
     pub arrival: f64,
     pub late: f64,
     pub late_cost: f64,
     pub key: f64,
 }
 
-fn look_at(sheet: &[u8], ride: Ride, row: usize) -> Look
-    requires { ⌜ Riding (now sheet) ride ⌝ }
+fn candidate_at(sheet: &[u8], partial: Partial, row: usize) -> Candidate
+    requires { ⌜ PartialRoute (now sheet) partial ⌝ }
     requires { ⌜ row < rowsOf (now sheet) ⌝ }
-    ensures { λ r. ⌜ r ≡ lookOf (now (sheet .entry)) ride row ⌝ }
+    ensures { λ r. ⌜ r ≡ candidateOf (now (sheet .entry)) partial row ⌝ }
 {
     let stop = customer::stop_at(sheet, row);
     let gate = stop.gate;
-    let arrival = arrival_at(sheet, ride, row);
+    let arrival = arrival_at(sheet, partial, row);
     let late = late_at(gate, arrival);
     let late_cost = penalty_of(gate) * late;
-    let key = matrix::distance(sheet, ride.current, row) + late_cost;
-    Look {
+    let key = matrix::distance(sheet, partial.current, row) + late_cost;
+    Candidate {
         arrival,
         late,
         late_cost,
@@ -167,17 +167,17 @@ fn takes(
     vehicle: Vehicle,
     limits: RouteLimits,
     soft: bool,
-    ride: Ride,
+    partial: Partial,
     alone: &[u16],
-    seen: Look,
+    seen: Candidate,
 ) -> bool
-    requires { ⌜ Riding (now sheet) ride ⌝ }
+    requires { ⌜ PartialRoute (now sheet) partial ⌝ }
     requires { ⌜ Routed (now sheet) depot (now alone) ⌝ }
     requires { ⌜ length (now alone) ≡ 1 ⌝ }
-    ensures { λ r. ⌜ r ≡ takesBy (now (sheet .entry)) depot vehicle limits soft ride (getD (now (alone .entry)) 0 0) seen ⌝ }
+    ensures { λ r. ⌜ r ≡ takesBy (now (sheet .entry)) depot vehicle limits soft partial (getD (now (alone .entry)) 0 0) seen ⌝ }
 {
     let row = alone[0] as usize;
-    if !ride::carries(sheet, vehicle, ride, row) {
+    if !partial::carries(sheet, vehicle, partial, row) {
         return false;
     }
     let stop = customer::stop_at(sheet, row);
@@ -186,7 +186,7 @@ fn takes(
         return false;
     }
     let departure = start_at(gate, seen.arrival) + stop.service;
-    if !fits(sheet, depot, limits, ride, row, departure) {
+    if !fits(sheet, depot, limits, partial, row, departure) {
         return false;
     }
     !is_too_dear(
@@ -195,7 +195,7 @@ fn takes(
         vehicle,
         limits,
         soft,
-        ride,
+        partial,
         alone,
         seen.late_cost,
     )
@@ -208,24 +208,24 @@ fn nearer(
     vehicle: Vehicle,
     limits: RouteLimits,
     soft: bool,
-    ride: Ride,
-    best: Choice,
+    partial: Partial,
+    best: StopChoice,
     j: usize,
     alone: &[u16],
-) -> Choice
-    requires { ⌜ Riding (now sheet) ride ⌝ }
+) -> StopChoice
+    requires { ⌜ PartialRoute (now sheet) partial ⌝ }
     requires { ⌜ Routed (now sheet) depot (now alone) ⌝ }
     requires { ⌜ length (now alone) ≡ 1 ⌝ }
-    ensures { λ r. ⌜ r ≡ better best j (windowBy (now (sheet .entry)) depot vehicle limits soft ride (getD (now (alone .entry)) 0 0)) ⌝ }
+    ensures { λ r. ⌜ r ≡ betterStop best j (windowBy (now (sheet .entry)) depot vehicle limits soft partial (getD (now (alone .entry)) 0 0)) ⌝ }
 {
-    let seen = look_at(sheet, ride, alone[0] as usize);
+    let seen = candidate_at(sheet, partial, alone[0] as usize);
     if !choice::wins(seen.key, best) {
         return best;
     }
-    if !takes(sheet, depot, vehicle, limits, soft, ride, alone, seen) {
+    if !takes(sheet, depot, vehicle, limits, soft, partial, alone, seen) {
         return best;
     }
-    Choice::Best(j, seen.key)
+    StopChoice::Best(j, seen.key)
 }
 
 // The stop of least key among the stops left that the round can take.
@@ -235,14 +235,14 @@ pub fn nearest(
     vehicle: Vehicle,
     limits: RouteLimits,
     soft: bool,
-    ride: Ride,
+    partial: Partial,
     left: &[u16],
-) -> Choice
-    requires { ⌜ Riding (now sheet) ride ⌝ }
+) -> StopChoice
+    requires { ⌜ PartialRoute (now sheet) partial ⌝ }
     requires { ⌜ Routed (now sheet) depot (now left) ⌝ }
-    ensures { λ r. ⌜ r ≡ choose (windowBy (now (sheet .entry)) depot vehicle limits soft ride) Nobody 0 (now (left .entry)) ⌝ }
+    ensures { λ r. ⌜ r ≡ choose (windowBy (now (sheet .entry)) depot vehicle limits soft partial) NoStop 0 (now (left .entry)) ⌝ }
 {
-    let mut best = Choice::Nobody;
+    let mut best = StopChoice::NoStop;
     for j in 0..left.len() {
         let next = j + 1;
         best = nearer(
@@ -251,7 +251,7 @@ pub fn nearest(
             vehicle,
             limits,
             soft,
-            ride,
+            partial,
             best,
             j,
             &left[j..next],
@@ -261,12 +261,12 @@ pub fn nearest(
 }
 
 // The clock waits.
-pub fn clock_at(sheet: &[u8], ride: Ride, row: usize) -> f64
-    requires { ⌜ Riding (now sheet) ride ⌝ }
+pub fn clock_at(sheet: &[u8], partial: Partial, row: usize) -> f64
+    requires { ⌜ PartialRoute (now sheet) partial ⌝ }
     requires { ⌜ row < rowsOf (now sheet) ⌝ }
-    ensures { λ r. ⌜ r ≡ windowClock (now (sheet .entry)) ride row ⌝ }
+    ensures { λ r. ⌜ r ≡ windowClock (now (sheet .entry)) partial row ⌝ }
 {
     let stop = customer::stop_at(sheet, row);
     let gate = stop.gate;
-    start_at(gate, arrival_at(sheet, ride, row)) + stop.service
+    start_at(gate, arrival_at(sheet, partial, row)) + stop.service
 }

@@ -1,5 +1,3 @@
 pub mod All
-pub mod Upto
 pub mod Range
-pub mod Thousandth
-pub mod Differ
+pub mod Laws

@@ -7,7 +7,7 @@ use lib.ListN.{length, drop, getD, drop-of-length-le}
 use lib.Seq.{drop-cons}
 use Rattle.wire.specs.Bytes.{write}
 use Rattle.sheet.specs.Fields.{rowsOf}
-use Rattle.plan.specs.Plan.{first, visitAt, asideBytes, withAside}
+use Rattle.plan.specs.Plan.{firstOf, rowRecordAt, asideBytes, withAside}
 
 pub record Chaining (s chain before plan : List ℕ) (i : ℕ) : Type 0 where
   pub long : length plan ≡ length before
@@ -18,11 +18,11 @@ module _ (s chain before : List ℕ) where
   begins = record { long = refl; same = refl }
 
   module _ (plan : List ℕ) (i : ℕ) (g : Chaining s chain before plan i) where
-    step : i < length chain → withAside s (drop i chain) plan ≡ withAside s (drop (i + 1) chain) (write plan (visitAt (rowsOf s) (getD chain i 0)) (asideBytes (first (drop (i + 1) chain))))
+    step : i < length chain → withAside s (drop i chain) plan ≡ withAside s (drop (i + 1) chain) (write plan (rowRecordAt (rowsOf s) (getD chain i 0)) (asideBytes (firstOf (drop (i + 1) chain))))
     unfolding withAside
     step h = rw (add-one i, drop-cons chain i 0 h)
 
-    pub goes-on : (next : ℕ) (after : List ℕ) → i < length chain → next ≡ first (drop (i + 1) chain) → length after ≡ length plan → after ≡ write plan (visitAt (rowsOf s) (getD chain i 0)) (asideBytes next) → Chaining s chain before after (i + 1)
+    pub goes-on : (next : ℕ) (after : List ℕ) → i < length chain → next ≡ firstOf (drop (i + 1) chain) → length after ≡ length plan → after ≡ write plan (rowRecordAt (rowsOf s) (getD chain i 0)) (asideBytes next) → Chaining s chain before after (i + 1)
     goes-on next after h n l w = record { long = l ∙ g .long; same = rw (w, n) (sym (step h) ∙ g .same) }
 
     pub ends : length chain ≤ i → plan ≡ withAside s chain before

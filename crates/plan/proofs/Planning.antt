@@ -8,18 +8,18 @@ use lib.ListN.{length, take, drop, replicate, length-take, length-drop}
 use lib.Seq.{getD-take, getD-drop}
 use lib.Ieee.{Float}
 use Rattle.wire.specs.Bytes.{write}
-use Rattle.numbers.specs.Upto.{no-nan}
-use Rattle.numbers.specs.Range.{zero-upto}
+use Rattle.numbers.specs.Laws.Upto.{no-nan}
+use Rattle.numbers.specs.Laws.Range.{zero-upto}
 use Rattle.sheet.specs.Fields.{rowsOf, planLength}
 use Rattle.sheet.specs.Values.{nought}
 use Rattle.evaluator.specs.Record.{priceStart}
 use Rattle.constructive.specs.Outcome.{roundsIn, startIn, outcomeIn}
-use Rattle.constructive.specs.LaidLaws.{length-rounds}
+use Rattle.constructive.specs.Laws.Stored.{length-rounds}
 use Rattle.constructive.specs.Tables.{Tables}
 use Rattle.constructive.proofs.InTables.{start-in, rounds-of}
-use Rattle.plan.specs.Plan.{first, headerBytes, withRounds, withAside, priceOf, costOf, planBytes, planOf}
+use Rattle.plan.specs.Plan.{firstOf, headerBytes, withRounds, withAside, priceOf, pricedCost, planBytes, planOf}
 use Rattle.plan.specs.Writable.{Number, Chained}
-use Rattle.plan.specs.Written.{writable}
+use Rattle.plan.specs.Laws.Written.{writable}
 
 module _ (s stops ends vehicles : List ℕ) (n total : ℕ) (ok : Tables s stops ends vehicles n total) (start : ℕ) (from : start ≡ startIn ends n) where
   -- the stops set aside lie within the stops
@@ -37,7 +37,7 @@ module _ (s stops ends vehicles : List ℕ) (n total : ℕ) (ok : Tables s stops
         row = λ i h. rw (getD-take (total - start) (drop start stops) i 0 (omega arith), getD-drop start stops i 0) (ok .row (start + i) (omega arith));
       }
 
-  pub number : (priced : Bool) → Number (costOf priced (priceOf s priceStart (roundsIn stops ends vehicles n 0 0)))
+  pub number : (priced : Bool) → Number (pricedCost priced (priceOf s priceStart (roundsIn stops ends vehicles n 0 0)))
   number true = writable s (ok .sheet) .cost (roundsIn stops ends vehicles n 0 0) (rw (length-rounds stops ends vehicles n 0 0) (ok .few)) (rounds-of s stops ends vehicles n total ok)
   number false = no-nan 0 nought (zero-upto 0)
 
@@ -45,10 +45,10 @@ module _ (s stops ends vehicles : List ℕ) (n total : ℕ) (ok : Tables s stops
       → blank ≡ replicate (length before) 0
       → price ≡ priceOf s priceStart (roundsIn stops ends vehicles n 0 0)
       → rounds ≡ withRounds s 0 (roundsIn stops ends vehicles n 0 0) blank
-      → chain ≡ first (take (total - start) (drop start stops))
+      → chain ≡ firstOf (take (total - start) (drop start stops))
       → aside ≡ withAside s (take (total - start) (drop start stops)) rounds
       → rows ≡ rowsOf s
-      → cost ≡ costOf priced price
+      → cost ≡ pricedCost priced price
       → plan ≡ write aside 0 (headerBytes n chain rows cost)
       → plan ≡ planOf s (outcomeIn stops ends vehicles n total) priced
   unfolding planOf planBytes outcomeIn

@@ -13,7 +13,7 @@ use Rattle.evaluator.specs.declared.Progress.{Progress}
 use Rattle.evaluator.specs.declared.Placed.{Placed}
 use Rattle.evaluator.specs.declared.Record.{Record}
 use Rattle.evaluator.specs.Record.{placedOf, beginOf, visitedOf, progressOf, recordOf, buildRoute}
-use Rattle.plan.specs.Plan.{first, roundAt, roundBytes, withVisits, withRound}
+use Rattle.plan.specs.Plan.{firstOf, roundRecordAt, roundBytes, withVisits, withRound}
 
 prev-in : (s : List ℕ) (t : Placed) (rows : List ℕ) (p : Progress) → p .prev < rowsOf s → ((k : ℕ) → k < length rows → getD rows k 0 < rowsOf s) → progressOf s t p rows .prev < rowsOf s
 unfolding visitedOf
@@ -30,6 +30,6 @@ module _ (s : List ℕ) (v : Vehicle) (limits : RouteLimits) (route : List ℕ) 
     unfolding buildRoute
     figures = rw (summed, gone, told)
 
-    pub rounded : (k start : ℕ) (before plan after : List ℕ) → start ≡ first route → plan ≡ withVisits s t (beginOf (v .depot)) route before → after ≡ write plan (roundAt k) (roundBytes (v .id) start r) → after ≡ withRound s k v limits route before
+    pub rounded : (k start : ℕ) (before plan after : List ℕ) → start ≡ firstOf route → plan ≡ withVisits s t (beginOf (v .depot)) route before → after ≡ write plan (roundRecordAt k) (roundBytes (v .id) start r) → after ≡ withRound s k v limits route before
     unfolding withRound
     rounded k start before plan after e w a = rw (a, w, e, figures, told)

@@ -5,7 +5,7 @@ use native.Mathlib.Omega.{arith}
 use mathlib.Core.List.{List, _++_}
 use lib.ListN.{length, length-append}
 use Rattle.wire.specs.Bytes.{bytes, write}
-use Rattle.wire.specs.Laws.{length-bytes, write-write}
+use Rattle.wire.specs.Laws.Bytes.{length-bytes, write-write}
 
 -- t is s with the n bytes xs from `at` on
 pub record Wrote (n : ℕ) (s t : List ℕ) (at : ℕ) (xs : List ℕ) : Type 0 where

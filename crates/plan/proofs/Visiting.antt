@@ -13,14 +13,14 @@ use Rattle.evaluator.specs.declared.Placed.{Placed}
 use Rattle.evaluator.specs.Record.{beginOf, visitedOf}
 use Rattle.evaluator.proofs.Going as steps
 use Rattle.evaluator.proofs.Going.{Going}
-use Rattle.plan.specs.Plan.{first, visitAt, visitBytes, withVisits}
+use Rattle.plan.specs.Plan.{firstOf, rowRecordAt, visitBytes, withVisits}
 use Rattle.plan.specs.Writable.{VisitWritable, VisitsWritable}
 
 -- ---- the links of a chain
-pub link-stop : (chain : List ℕ) (i : ℕ) → i < length chain → getD chain i 0 ≡ first (drop i chain)
+pub link-stop : (chain : List ℕ) (i : ℕ) → i < length chain → getD chain i 0 ≡ firstOf (drop i chain)
 link-stop chain i h = rw (drop-cons chain i 0 h)
 
-pub link-end : (chain : List ℕ) (i : ℕ) → length chain ≤ i → 0 ≡ first (drop i chain)
+pub link-end : (chain : List ℕ) (i : ℕ) → length chain ≤ i → 0 ≡ firstOf (drop i chain)
 link-end chain i h = rw (drop-of-length-le chain h)
 
 -- ---- after i stops
@@ -42,11 +42,11 @@ module _ (s : List ℕ) (depot : ℕ) (t : Placed) (route : List ℕ) (ok : Rout
     pub writes : i < length route → VisitWritable (visitedOf s t p (getD route i 0))
     writes h = writable-here h .0
 
-    step : i < length route → withVisits s t p (drop i route) plan ≡ withVisits s t (visitedOf s t p (getD route i 0)) (drop (i + 1) route) (write plan (visitAt (rowsOf s) (getD route i 0)) (visitBytes (first (drop (i + 1) route)) (visitedOf s t p (getD route i 0))))
+    step : i < length route → withVisits s t p (drop i route) plan ≡ withVisits s t (visitedOf s t p (getD route i 0)) (drop (i + 1) route) (write plan (rowRecordAt (rowsOf s) (getD route i 0)) (visitBytes (firstOf (drop (i + 1) route)) (visitedOf s t p (getD route i 0))))
     unfolding withVisits
     step h = rw (add-one i, drop-cons route i 0 h)
 
-    pub goes-on : (q : Progress) (next : ℕ) (after : List ℕ) → i < length route → q ≡ visitedOf s t p (getD route i 0) → next ≡ first (drop (i + 1) route) → length after ≡ length plan → after ≡ write plan (visitAt (rowsOf s) (getD route i 0)) (visitBytes next q) → Visiting s depot t route before after q (i + 1)
+    pub goes-on : (q : Progress) (next : ℕ) (after : List ℕ) → i < length route → q ≡ visitedOf s t p (getD route i 0) → next ≡ firstOf (drop (i + 1) route) → length after ≡ length plan → after ≡ write plan (rowRecordAt (rowsOf s) (getD route i 0)) (visitBytes next q) → Visiting s depot t route before after q (i + 1)
     goes-on q next after h e n l w = record {
       going = steps.goes-on s depot t route ok p q i (g .going) h e;
       long = l ∙ g .long;

@@ -21,18 +21,18 @@ abbrev pub f64 : Float → List ℕ
 f64 x = bytes 8 (toBits binary64 x)
 
 -- "zero ends a chain": the first of a chain
-abbrev pub first : List ℕ → ℕ
-first [] = 0
-first (row ∷ rows) = row
+abbrev pub firstOf : List ℕ → ℕ
+firstOf [] = 0
+firstOf (row ∷ rows) = row
 
 -- ---- where the records stand
 -- "Then `rows` round records of 56 bytes": the k-th, from 0
-abbrev pub roundAt : ℕ → ℕ
-roundAt k = 16 + 56 * k
+abbrev pub roundRecordAt : ℕ → ℕ
+roundRecordAt k = 16 + 56 * k
 
 -- "Then one 24-byte record per row"
-abbrev pub visitAt : ℕ → ℕ → ℕ
-visitAt n row = 16 + 56 * n + 24 * row
+abbrev pub rowRecordAt : ℕ → ℕ → ℕ
+rowRecordAt n row = 16 + 56 * n + 24 * row
 
 -- ---- the records
 -- "next u16, zero u16, load after i32, f64 arrival and departure"
@@ -63,13 +63,13 @@ unfoldable pub withVisits : List ℕ → Placed → Progress → List ℕ → Li
 withVisits s t p [] plan = plan
 withVisits s t p (row ∷ rows) plan =
     let q = visitedOf s t p row in
-    withVisits s t q rows (write plan (visitAt (rowsOf s) row) (visitBytes (first rows) q))
+    withVisits s t q rows (write plan (rowRecordAt (rowsOf s) row) (visitBytes (firstOf rows) q))
 
 -- a round counted k, from 0, with its vehicle and its limits: its stops, then its record
 unfoldable pub withRound : List ℕ → ℕ → Vehicle → RouteLimits → List ℕ → List ℕ → List ℕ
 withRound s k v limits stops plan =
     let t = placedOf s (v .depot) limits stops in
-    write (withVisits s t (beginOf (v .depot)) stops plan) (roundAt k) (roundBytes (v .id) (first stops) (buildRoute s (v .depot) limits stops))
+    write (withVisits s t (beginOf (v .depot)) stops plan) (roundRecordAt k) (roundBytes (v .id) (firstOf stops) (buildRoute s (v .depot) limits stops))
 
 unfoldable pub withRounds : List ℕ → ℕ → List Round → List ℕ → List ℕ
 withRounds s k [] plan = plan
@@ -78,7 +78,7 @@ withRounds s k (r ∷ rs) plan = withRounds s (k + 1) rs (withRound s k (vehicle
 -- "the set-aside chain too"
 unfoldable pub withAside : List ℕ → List ℕ → List ℕ → List ℕ
 withAside s [] plan = plan
-withAside s (row ∷ rows) plan = withAside s rows (write plan (visitAt (rowsOf s) row) (asideBytes (first rows)))
+withAside s (row ∷ rows) plan = withAside s rows (write plan (rowRecordAt (rowsOf s) row) (asideBytes (firstOf rows)))
 
 -- `price`: a round more, of the vehicle at index v
 unfoldable pub priceAfter : List ℕ → Float → ℕ → List ℕ → Float
@@ -92,9 +92,9 @@ priceOf s total [] = total
 priceOf s total (r ∷ rs) = priceOf s (priceAfter s total (r .vehicle) (r .stops)) rs
 
 -- where the Rust returns early, nothing is priced and the cost is 0
-abbrev pub costOf : Bool → Float → Float
-costOf true price = price
-costOf false price = nought
+abbrev pub pricedCost : Bool → Float → Float
+pricedCost true price = price
+pricedCost false price = nought
 
 -- "Exactly 16 + 80 × rows bytes." "Unused bytes are zero."
 abbrev pub blank : List ℕ → List ℕ
@@ -104,8 +104,8 @@ blank s = replicate (planLength s) 0
 unfoldable pub planBytes : List ℕ → Outcome → Float → List ℕ
 planBytes s o cost =
     write (withAside s (o .aside) (withRounds s 0 (o .rounds) (blank s))) 0
-    (headerBytes (length (o .rounds)) (first (o .aside)) (rowsOf s) cost)
+    (headerBytes (length (o .rounds)) (firstOf (o .aside)) (rowsOf s) cost)
 
 -- the plan of an outcome, priced or not
 unfoldable pub planOf : List ℕ → Outcome → Bool → List ℕ
-planOf s o priced = planBytes s o (costOf priced (priceOf s priceStart (o .rounds)))
+planOf s o priced = planBytes s o (pricedCost priced (priceOf s priceStart (o .rounds)))

@@ -8,7 +8,7 @@ use Rattle.sheet.specs.Fields.{rowsOf}
 use Rattle.sheet.specs.Fleet.{indexOf}
 use Rattle.constructive.specs.Outcome.{Round, Outcome}
 use Rattle.constructive.specs.Right.{outcomeRight}
-use Rattle.plan.specs.Plan.{roundAt, visitAt}
+use Rattle.plan.specs.Plan.{roundRecordAt, rowRecordAt}
 
 -- ---- the fields that are read
 unfoldable pub roundsAt : List ℕ → ℕ
@@ -18,13 +18,13 @@ unfoldable pub asideAt : List ℕ → ℕ
 asideAt plan = u16At plan 2
 
 unfoldable pub idAt : List ℕ → ℕ → ℕ
-idAt plan k = u32At plan (roundAt k)
+idAt plan k = u32At plan (roundRecordAt k)
 
-unfoldable pub firstAt : List ℕ → ℕ → ℕ
-firstAt plan k = u16At plan (roundAt k + 8)
+unfoldable pub firstStopAt : List ℕ → ℕ → ℕ
+firstStopAt plan k = u16At plan (roundRecordAt k + 8)
 
 unfoldable pub nextAt : List ℕ → ℕ → ℕ → ℕ
-nextAt plan n row = u16At plan (visitAt n row)
+nextAt plan n row = u16At plan (rowRecordAt n row)
 
 -- ---- what they say
 -- "zero ends a chain": a link, and the rest of its chain
@@ -45,7 +45,7 @@ chainOf s plan link = chainFrom plan (rowsOf s) (rowsOf s) link
 unfoldable pub roundsFrom : List ℕ → List ℕ → ℕ → ℕ → List Round
 roundsFrom s plan zero k = []
 roundsFrom s plan (suc n) k =
-    record { vehicle = indexOf s (idAt plan k); stops = chainOf s plan (firstAt plan k) }
+    record { vehicle = indexOf s (idAt plan k); stops = chainOf s plan (firstStopAt plan k) }
     ∷ roundsFrom s plan n (k + 1)
 
 unfoldable pub readPlan : List ℕ → List ℕ → Outcome

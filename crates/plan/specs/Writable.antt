@@ -1,4 +1,4 @@
--- What a writer asks of the figures: no NaN, whose bits nobody says.
+-- What a writer asks of the figures: none is a NaN, which has no bits of its own.
 use Prim.Native.Nat.{ℕ, _≤_, _<_}
 use mathlib.Core.Bool.{not}
 use mathlib.Core.List.{List, [], _∷_}

@@ -20,14 +20,14 @@ ghost use Rattle.evaluator.specs.Driven.{Driven};
 ghost use Rattle.evaluator.specs.Record.{beginOf, visitedOf, progressOf, buildRoute, priceStart};
 ghost use Rattle.constructive.specs.Outcome.{roundsIn, startIn, outcomeIn};
 ghost use Rattle.constructive.specs.Tables.{RoundOf, Tables, RoundTables};
-ghost use Rattle.plan.specs.Plan.{first, visitAt, visitBytes, asideBytes, withVisits, withRound, withRounds, withAside, priceAfter, priceOf, costOf, planOf};
+ghost use Rattle.plan.specs.Plan.{firstOf, rowRecordAt, visitBytes, asideBytes, withVisits, withRound, withRounds, withAside, priceAfter, priceOf, pricedCost, planOf};
 ghost use Rattle.plan.specs.Writable.{VisitWritable, VisitsWritable, RoundWritable, Writable, Chained};
 
 mod records;
 
 // What a chain links to at place i: the stop there, or 0 at its end.
 fn link(chain: &[u16], i: usize) -> u16
-    ensures { λ r. ⌜ r ≡ first (drop i (now (chain .entry))) ⌝ }
+    ensures { λ r. ⌜ r ≡ firstOf (drop i (now (chain .entry))) ⌝ }
 {
     if i < chain.len() { chain[i] } else { 0 }
 }
@@ -36,7 +36,7 @@ fn link(chain: &[u16], i: usize) -> u16
 pub fn visit_place(sheet: &[u8], row: usize) -> usize
     requires { ⌜ Sized (now sheet) ⌝ }
     requires { ⌜ row < rowsOf (now sheet) ⌝ }
-    ensures { λ r. ⌜ (r ≡ visitAt (rowsOf (now (sheet .entry))) row) × (r + 24 ≤ planLength (now (sheet .entry))) ⌝ }
+    ensures { λ r. ⌜ (r ≡ rowRecordAt (rowsOf (now (sheet .entry))) row) × (r + 24 ≤ planLength (now (sheet .entry))) ⌝ }
 {
     16 + 56 * sheet::rows(sheet) + 24 * row
 }
@@ -54,7 +54,7 @@ fn write_visit(
     requires { ⌜ (row < rowsOf (now sheet)) × (length (now plan) ≡ planLength (now sheet)) ⌝ }
     requires { ⌜ VisitWritable (visitedOf (now sheet) placed progress row) ⌝ }
     ensures { λ r. ⌜ r ≡ visitedOf (now (sheet .entry)) placed progress row ⌝ }
-    ensures { λ r. ⌜ now (plan .exit) ≡ write (now (plan .entry)) (visitAt (rowsOf (now (sheet .entry))) row) (visitBytes next r) ⌝ }
+    ensures { λ r. ⌜ now (plan .exit) ≡ write (now (plan .entry)) (rowRecordAt (rowsOf (now (sheet .entry))) row) (visitBytes next r) ⌝ }
 {
     let visit = progress.visited(sheet, placed, row);
     records::put_visit(plan, visit_place(sheet, row), next, visit);
@@ -169,7 +169,7 @@ fn write_rounds(
 fn write_link(plan: &mut [u8], sheet: &[u8], row: usize, next: u16)
     requires { ⌜ Sized (now sheet) ⌝ }
     requires { ⌜ (row < rowsOf (now sheet)) × (length (now plan) ≡ planLength (now sheet)) ⌝ }
-    ensures { λ _. ⌜ now (plan .exit) ≡ write (now (plan .entry)) (visitAt (rowsOf (now (sheet .entry))) row) (asideBytes next) ⌝ }
+    ensures { λ _. ⌜ now (plan .exit) ≡ write (now (plan .entry)) (rowRecordAt (rowsOf (now (sheet .entry))) row) (asideBytes next) ⌝ }
 {
     wire::put_u16(plan, visit_place(sheet, row), next);
 }
@@ -178,7 +178,7 @@ fn write_link(plan: &mut [u8], sheet: &[u8], row: usize, next: u16)
 fn write_aside(plan: &mut [u8], sheet: &[u8], aside: &[u16]) -> u16
     requires { ⌜ Chained (now sheet) (now aside) ⌝ }
     requires { ⌜ length (now plan) ≡ planLength (now sheet) ⌝ }
-    ensures { λ r. ⌜ r ≡ first (now (aside .entry)) ⌝ }
+    ensures { λ r. ⌜ r ≡ firstOf (now (aside .entry)) ⌝ }
     ensures { λ _. ⌜ now (plan .exit) ≡ withAside (now (sheet .entry)) (now (aside .entry)) (now (plan .entry)) ⌝ }
 {
     for i in 0..aside.len() {
@@ -188,7 +188,7 @@ fn write_aside(plan: &mut [u8], sheet: &[u8], aside: &[u16]) -> u16
 }
 
 fn cost_of(priced: bool, price: f64) -> f64
-    ensures { λ r. ⌜ r ≡ costOf priced price ⌝ }
+    ensures { λ r. ⌜ r ≡ pricedCost priced price ⌝ }
 {
     if priced { price } else { 0.0 }
 }

@@ -11,9 +11,9 @@ use Rattle.sheet.specs.Fields.{rowsOf}
 use Rattle.sheet.specs.Depots.{depotsOf}
 use Rattle.constructive.specs.Right.{linksRight}
 use Rattle.plan.specs.Read.{nextAt, chainFrom, chainOf}
-use Rattle.plan_reader.specs.Reading.{stopsIn}
+use Rattle.plan_reader.specs.Reading.{stopCount}
 use Rattle.plan_reader.specs.Chains.{Followed}
-use Rattle.plan_reader.specs.Links.{links-one, links-join, links-mid}
+use Rattle.plan_reader.specs.Laws.Links.{links-one, links-join, links-mid}
 
 -- ---- a chain at its link
 module _ (plan : List ℕ) (n : ℕ) where
@@ -36,7 +36,7 @@ module _ (plan : List ℕ) (n : ℕ) where
 -- ---- after the stops from `from` up to `at`
 pub record Following (s plan : List ℕ) (first : ℕ) (before : List ℕ) (from : ℕ) (stops : List ℕ) (link at : ℕ) : Type 0 where
   pub low : from ≤ at
-  pub room : at ≤ stopsIn s
+  pub room : at ≤ stopCount s
   pub long : length stops ≡ length before
   pub same : take from before ++ chainOf s plan first ≡ take at stops ++ chainFrom plan (rowsOf s) (rowsOf s - (at - from)) link
   pub links : T (linksRight s (take at stops))
@@ -45,7 +45,7 @@ module _ (s plan : List ℕ) (first : ℕ) (before : List ℕ) (from : ℕ) wher
   abbrev rows : List ℕ
   rows = take from before ++ chainOf s plan first
 
-  pub begins : from ≤ stopsIn s → T (linksRight s (take from before)) → Following s plan first before from before first from
+  pub begins : from ≤ stopCount s → T (linksRight s (take from before)) → Following s plan first before from before first from
   begins h t = let e : rowsOf s - (from - from) ≡ rowsOf s = omega arith in record { low = omega arith; room = h; long = refl; same = rw e; links = t }
 
   module _ (stops : List ℕ) (link at : ℕ) (g : Following s plan first before from stops link at) where
@@ -55,17 +55,17 @@ module _ (s plan : List ℕ) (first : ℕ) (before : List ℕ) (from : ℕ) wher
         (c .0, g .same ∙ ap (λ (l : List ℕ). take at stops ++ l) (c .1))
 
     -- a link to no stop
-    pub no-stop : (link ≡ 0 → ⊥) → ((depotsOf s ≤ link) × (link < rowsOf s) → ⊥) → T (linksRight s rows) → stopsIn s < length rows
+    pub no-stop : (link ≡ 0 → ⊥) → ((depotsOf s ≤ link) × (link < rowsOf s) → ⊥) → T (linksRight s rows) → stopCount s < length rows
     no-stop d n t = let h = head d in absurd (n (links-mid s (take at stops) link (h .0) (subst (λ (l : List ℕ). T (linksRight s l)) (h .1) t)))
 
     -- a stop more than there are
-    pub no-room : (link ≡ 0 → ⊥) → rowsOf s ≤ length stops → stopsIn s ≤ at → stopsIn s < length rows
+    pub no-room : (link ≡ 0 → ⊥) → rowsOf s ≤ length stops → stopCount s ≤ at → stopCount s < length rows
     no-room d l h =
         let c = head d in
         let k = length-take-le at stops (omega (arith, g .room)) in
         rw (c .1) (omega (arith, length-append (take at stops) (link ∷ c .0)))
 
-    module _ (low : depotsOf s ≤ link) (high : link < rowsOf s) (more : at < stopsIn s) (size : rowsOf s ≤ length stops) where
+    module _ (low : depotsOf s ≤ link) (high : link < rowsOf s) (more : at < stopCount s) (size : rowsOf s ≤ length stops) where
       taken : take (at + 1) (set stops at link) ≡ take at stops ++ (link ∷ [])
       taken = rw (add-one at) (take-suc-set stops at link (omega arith))
 

@@ -10,7 +10,7 @@ use lib.ListN.{length, getD, take, drop, set, replicate, length-replicate, lengt
 use lib.Seq.{split-at, take-suc, take-all, getD-set-same, getD-set-other}
 use borrow.Author.Tests.{eq-eqb, eqb-true, eqb-false}
 use Rattle.lists.specs.Count.{one, count}
-use Rattle.lists.specs.Once.{count-append}
+use Rattle.lists.specs.Laws.Once.{count-append}
 use Rattle.plan_reader.specs.Chains.{Single}
 
 pub record Marking (rows : List ℕ) (met : List Bool) (i : ℕ) : Type 0 where

@@ -13,13 +13,13 @@ use Rattle.constructive.specs.Outcome.{roundsIn, startIn, outcomeIn, chains, st
 use Rattle.constructive.specs.Tables.{Tables}
 use Rattle.constructive.specs.Right.{linksRight, eachOnce}
 use Rattle.plan.specs.Read.{roundsAt, asideAt, chainOf, roundsFrom, readPlan, planRight}
-use Rattle.plan_reader.specs.Reading.{stopsIn, Lent, ReadRight}
+use Rattle.plan_reader.specs.Reading.{stopCount, ReaderTables, ReadRight}
 use Rattle.plan_reader.specs.Chains.{FollowedAs, RoundsRead, ChainsRead, ChainsAs}
 use Rattle.plan_reader.specs.declared.Chain.{Chain}
 use Rattle.plan_reader.specs.declared.Chain.the-variants.{Ended, Broken}
-use Rattle.plan_reader.specs.Links.{links-at}
-use Rattle.plan_reader.specs.Tally.{once-length}
-use Rattle.plan_reader.specs.Right.{PlanRight, right, wrong}
+use Rattle.plan_reader.specs.Laws.Links.{links-at}
+use Rattle.plan_reader.specs.Laws.Tally.{once-length}
+use Rattle.plan_reader.specs.Laws.Right.{PlanRight, right, wrong}
 use Rattle.plan_reader.proofs.Splitting.{reaches, keeps, lies}
 use Rattle.plan_reader.proofs.Rounding.{breaks, round-kept}
 
@@ -58,7 +58,7 @@ pub chains-told : (s plan stops ends vehicles : List ℕ) {r v : Chain} → r �
 chains-told s plan stops ends vehicles q f = subst (λ (x : Chain). ChainsAs s plan x stops ends vehicles) q f
 
 -- ---- every chain is read
-module _ (s plan stops ends vehicles : List ℕ) (lent : Lent s plan stops ends vehicles) (total : ℕ) (g : ChainsRead s plan stops ends vehicles total) where
+module _ (s plan stops ends vehicles : List ℕ) (lent : ReaderTables s plan stops ends vehicles) (total : ℕ) (g : ChainsRead s plan stops ends vehicles total) where
   pub within : total ≤ length stops
   within = omega (arith, g .room, lent .rows)
 
@@ -66,7 +66,7 @@ module _ (s plan stops ends vehicles : List ℕ) (lent : Lent s plan stops ends 
   fails e = wrong s plan (λ r. subst T (ap (eachOnce s) (g .whole) ∙ e) (r .once))
 
   module _ (once : T (eachOnce s (take total stops))) where
-    all : total ≡ stopsIn s
+    all : total ≡ stopCount s
     all = sym (length-take-le total stops within) ∙ once-length s (take total stops) (g .links) once
 
     plan-right : PlanRight s plan

@@ -13,13 +13,13 @@ use Rattle.sheet.specs.Fields.{rowsOf, vehiclesOf}
 use Rattle.sheet.specs.Fleet.{indexOf}
 use Rattle.constructive.specs.Outcome.{startIn, chains, stopsOf}
 use Rattle.constructive.specs.Right.{linksRight}
-use Rattle.plan.specs.Read.{roundsAt, asideAt, idAt, firstAt, chainOf, roundsFrom, readPlan, planRight}
-use Rattle.plan_reader.specs.Reading.{stopsIn, Lent}
+use Rattle.plan.specs.Read.{roundsAt, asideAt, idAt, firstStopAt, chainOf, roundsFrom, readPlan, planRight}
+use Rattle.plan_reader.specs.Reading.{stopCount, ReaderTables}
 use Rattle.plan_reader.specs.Chains.{Followed, FollowedAs, RoundRead, RoundsRead, RoundsAs}
 use Rattle.plan_reader.specs.declared.Chain.{Chain}
-use Rattle.plan_reader.specs.Links.{links-front}
-use Rattle.plan_reader.specs.Tally.{once-length}
-use Rattle.plan_reader.specs.Right.{wrong}
+use Rattle.plan_reader.specs.Laws.Links.{links-front}
+use Rattle.plan_reader.specs.Laws.Tally.{once-length}
+use Rattle.plan_reader.specs.Laws.Right.{wrong}
 use Rattle.plan_reader.proofs.Splitting.{part-kept, reaches, keeps, lies}
 
 -- a chain by the link that was read and the answer that was given
@@ -29,7 +29,7 @@ told s plan before after at {first = first} {v = v} e q f =
     (subst (λ (x : Chain). FollowedAs s (take at before ++ chainOf s plan first) x after) q f)
 
 -- ---- a chain that breaks is no right plan's
-pub breaks : (s plan rows rest : List ℕ) → stopsOf (readPlan s plan) ≡ rows ++ rest → (T (linksRight s rows) → stopsIn s < length rows) → planRight s plan ≡ false
+pub breaks : (s plan rows rest : List ℕ) → stopsOf (readPlan s plan) ≡ rows ++ rest → (T (linksRight s rows) → stopCount s < length rows) → planRight s plan ≡ false
 breaks s plan rows rest e f =
     wrong s plan (λ r.
     let l = once-length s (stopsOf (readPlan s plan)) (r .links) (r .once) in
@@ -73,7 +73,7 @@ start-kept ends k end (suc j) h = getD-set-other ends k j end 0 (λ e. omega ari
 
 module _ (s plan stops ends vehicles : List ℕ) (k at : ℕ) (g : RoundsRead s plan stops ends vehicles k at) (more : k < roundsAt plan) where
   abbrev rows : List ℕ
-  rows = take at stops ++ chainOf s plan (firstAt plan k)
+  rows = take at stops ++ chainOf s plan (firstStopAt plan k)
 
   abbrev left : List ℕ
   left = chains (roundsFrom s plan (roundsAt plan - (k + 1)) (k + 1)) (chainOf s plan (asideAt plan))
@@ -84,12 +84,12 @@ module _ (s plan stops ends vehicles : List ℕ) (k at : ℕ) (g : RoundsRead s 
       let e : roundsAt plan - k ≡ suc (roundsAt plan - (k + 1)) = omega arith in
       g .whole
       ∙ ap (λ (n : ℕ). take at stops ++ chains (roundsFrom s plan n k) (chainOf s plan (asideAt plan))) e
-      ∙ sym (append-assoc (take at stops) (chainOf s plan (firstAt plan k)) left)
+      ∙ sym (append-assoc (take at stops) (chainOf s plan (firstStopAt plan k)) left)
 
   pub unknown : (index : ℕ) → index ≡ indexOf s (idAt plan k) → vehiclesOf s ≤ index → planRight s plan ≡ false
   unknown index e h = wrong s plan (λ r. let l = r .known k more in omega arith)
 
-  pub broken : (T (linksRight s rows) → stopsIn s < length rows) → planRight s plan ≡ false
+  pub broken : (T (linksRight s rows) → stopCount s < length rows) → planRight s plan ≡ false
   broken f = breaks s plan rows left whole f
 
   module _ (after : List ℕ) (end index : ℕ) (f : Followed s rows after end) (size : rowsOf s ≤ length stops) (long : length after ≡ length stops) (ended : k < length ends) (fleet : k < length vehicles) where
@@ -100,13 +100,13 @@ module _ (s plan stops ends vehicles : List ℕ) (k at : ℕ) (g : RoundsRead s 
     there = omega (arith, f .room)
 
     on : at ≤ end
-    on = let e = reaches stops after (chainOf s plan (firstAt plan k)) at end here there (f .same) in omega arith
+    on = let e = reaches stops after (chainOf s plan (firstStopAt plan k)) at end here there (f .same) in omega arith
 
     -- a round before
     kept : (j : ℕ) → j < k → RoundRead s plan after (set ends k end) (set vehicles k index) end j
     kept j h =
         round-kept s plan (g .read j h) (getD-set-other ends k j end 0 (λ q. omega arith)) (start-kept ends k end j (omega arith)) (getD-set-other vehicles k j index 0 (λ q. omega arith)) on here (omega (arith, on, there))
-        (keeps stops after (chainOf s plan (firstAt plan k)) at end here there (f .same))
+        (keeps stops after (chainOf s plan (firstStopAt plan k)) at end here there (f .same))
 
     -- this one
     new : index ≡ indexOf s (idAt plan k) → index < vehiclesOf s → RoundRead s plan after (set ends k end) (set vehicles k index) end k
@@ -119,7 +119,7 @@ module _ (s plan stops ends vehicles : List ℕ) (k at : ℕ) (g : RoundsRead s 
           known = rw v h;
           from = rw (e, b) on;
           to = rw e (omega arith);
-          chain = rw (e, b) (lies stops after (chainOf s plan (firstAt plan k)) at end here there (f .same));
+          chain = rw (e, b) (lies stops after (chainOf s plan (firstStopAt plan k)) at end here there (f .same));
         }
 
     pub goes-on : index ≡ indexOf s (idAt plan k) → index < vehiclesOf s → RoundsRead s plan after (set ends k end) (set vehicles k index) (k + 1) end
@@ -143,7 +143,7 @@ pub record Going (s plan stops₀ ends₀ vehicles₀ stops ends vehicles : List
   pub fleet : length vehicles ≡ length vehicles₀
   pub read : RoundsRead s plan stops ends vehicles k at
 
-pub lent : (s plan : List ℕ) {stops₀ ends₀ vehicles₀ stops ends vehicles : List ℕ} → Lent s plan stops₀ ends₀ vehicles₀ → length stops ≡ length stops₀ → length ends ≡ length ends₀ → length vehicles ≡ length vehicles₀ → Lent s plan stops ends vehicles
+pub lent : (s plan : List ℕ) {stops₀ ends₀ vehicles₀ stops ends vehicles : List ℕ} → ReaderTables s plan stops₀ ends₀ vehicles₀ → length stops ≡ length stops₀ → length ends ≡ length ends₀ → length vehicles ≡ length vehicles₀ → ReaderTables s plan stops ends vehicles
 lent s plan l a b c = record { sheet = l .sheet; planned = l .planned; rows = rw a (l .rows); ended = rw b (l .ended); fleet = rw c (l .fleet) }
 
 -- the rounds by the answer that was given

@@ -1,5 +1,3 @@
 pub mod Reading
 pub mod Chains
-pub mod Links
-pub mod Tally
-pub mod Right
+pub mod Laws

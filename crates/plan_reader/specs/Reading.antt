@@ -14,11 +14,11 @@ use Rattle.plan_reader.specs.declared.Reading.{Reading}
 use Rattle.plan_reader.specs.declared.Reading.the-variants.{Right, Wrong}
 
 -- how many stops a sheet has: its rows less its depots
-abbrev pub stopsIn : List ℕ → ℕ
-stopsIn s = rowsOf s - depotsOf s
+abbrev pub stopCount : List ℕ → ℕ
+stopCount s = rowsOf s - depotsOf s
 
 -- an accepted sheet, a plan of its length, and tables with room for every row
-pub record Lent (s plan stops ends vehicles : List ℕ) : Type 0 where
+pub record ReaderTables (s plan stops ends vehicles : List ℕ) : Type 0 where
   pub sheet : Accepted s
   pub planned : length plan ≡ planLength s
   pub rows : rowsOf s ≤ length stops
@@ -29,8 +29,8 @@ pub record Lent (s plan stops ends vehicles : List ℕ) : Type 0 where
 pub record ReadRight (s plan stops ends vehicles : List ℕ) (n : ℕ) : Type 0 where
   pub right : planRight s plan ≡ true
   pub rounds : n ≡ roundsAt plan
-  pub outcome : outcomeIn stops ends vehicles n (stopsIn s) ≡ readPlan s plan
-  pub tables : Tables s stops ends vehicles n (stopsIn s)
+  pub outcome : outcomeIn stops ends vehicles n (stopCount s) ≡ readPlan s plan
+  pub tables : Tables s stops ends vehicles n (stopCount s)
 
 -- the answer: the outcome of a plan that is right, or refusal 10
 abbrev pub ReadAs : List ℕ → List ℕ → Reading → List ℕ → List ℕ → List ℕ → Type 0

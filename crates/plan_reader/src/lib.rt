@@ -7,11 +7,11 @@ ghost use lib.Dec.{T};
 ghost use lib.ListN.{length, take, getD};
 ghost use Rattle.sheet.specs.Accepted.{Sized};
 ghost use Rattle.sheet.specs.Depots.{depotsOf};
-ghost use Rattle.sheet.specs.Fields.{rowsOf, vehiclesOf, vehicleAt, idField, planLength};
+ghost use Rattle.sheet.specs.Fields.{rowsOf, vehiclesOf, vehicleAt, idField, planLength, mostRows};
 ghost use Rattle.sheet.specs.Fleet.{indexOf};
 ghost use Rattle.constructive.specs.Right.{linksRight, eachOnce};
 ghost use Rattle.plan.specs.Read.{roundsAt, nextAt, chainOf};
-ghost use Rattle.plan_reader.specs.Reading.{stopsIn, Lent, ReadAs};
+ghost use Rattle.plan_reader.specs.Reading.{stopCount, ReaderTables, ReadAs};
 ghost use Rattle.plan_reader.specs.Chains.{FollowedAs, RoundsRead, RoundsAs, ChainsAs, SingleAs};
 
 // What reading finds: a number of rounds in the tables, or a plan that refusal 10 is told of.
@@ -31,7 +31,10 @@ fn id_at(sheet: &[u8], index: usize) -> u32
     requires { ⌜ index < vehiclesOf (now sheet) ⌝ }
     ensures { λ r. ⌜ r ≡ idField (now (sheet .entry)) (vehicleAt (now (sheet .entry)) index) ⌝ }
 {
-    wire::u32_at(sheet, 16 + 48 * sheet::rows(sheet) + 72 * index)
+    wire::u32_at(
+        sheet,
+        sheet::HEADER_SIZE + sheet::ROW_SIZE * sheet::rows(sheet) + sheet::VEHICLE_SIZE * index,
+    )
 }
 
 // The vehicle with an id, or the one past the last.
@@ -67,7 +70,7 @@ fn follow(
 ) -> Chain
     requires { ⌜ Sized (now sheet) ⌝ }
     requires { ⌜ (length (now plan) ≡ planLength (now sheet)) × (depots ≡ depotsOf (now sheet)) ⌝ }
-    requires { ⌜ (rowsOf (now sheet) ≤ length (now stops)) × (from ≤ stopsIn (now sheet)) ⌝ }
+    requires { ⌜ (rowsOf (now sheet) ≤ length (now stops)) × (from ≤ stopCount (now sheet)) ⌝ }
     requires { ⌜ T (linksRight (now sheet) (take from (now stops))) ⌝ }
     ensures { λ r. ⌜ FollowedAs (now (sheet .entry)) (take from (now (stops .entry)) ++ chainOf (now (sheet .entry)) (now (plan .entry)) first) r (now (stops .exit)) ⌝ }
 {
@@ -102,7 +105,7 @@ fn read_round(
     vehicles: &mut [u16],
     at: usize,
 ) -> Chain
-    requires { ⌜ Lent (now sheet) (now plan) (now stops) (now ends) (now vehicles) ⌝ }
+    requires { ⌜ ReaderTables (now sheet) (now plan) (now stops) (now ends) (now vehicles) ⌝ }
     requires { ⌜ depots ≡ depotsOf (now sheet) ⌝ }
     requires { ⌜ (k < roundsAt (now plan)) × (roundsAt (now plan) ≤ rowsOf (now sheet)) ⌝ }
     requires { ⌜ RoundsRead (now sheet) (now plan) (now stops) (now ends) (now vehicles) k at ⌝ }
@@ -130,7 +133,7 @@ fn read_rounds(
     ends: &mut [u16],
     vehicles: &mut [u16],
 ) -> Chain
-    requires { ⌜ Lent (now sheet) (now plan) (now stops) (now ends) (now vehicles) ⌝ }
+    requires { ⌜ ReaderTables (now sheet) (now plan) (now stops) (now ends) (now vehicles) ⌝ }
     requires { ⌜ depots ≡ depotsOf (now sheet) ⌝ }
     requires { ⌜ (rounds ≡ roundsAt (now plan)) × (roundsAt (now plan) ≤ rowsOf (now sheet)) ⌝ }
     ensures { λ r. ⌜ RoundsAs (now (sheet .entry)) (now (plan .entry)) (roundsAt (now (plan .entry))) r (now (stops .exit)) (now (ends .exit)) (now (vehicles .exit)) ⌝ }
@@ -147,10 +150,10 @@ fn read_rounds(
 
 // Whether no row stands twice.
 fn single(rows: &[u16]) -> bool
-    requires { ⌜ ((i : ℕ) → i < length (now rows) → getD (now rows) i 0 < 101) ⌝ }
+    requires { ⌜ ((i : ℕ) → i < length (now rows) → getD (now rows) i 0 < mostRows) ⌝ }
     ensures { λ r. ⌜ SingleAs r (now (rows .entry)) ⌝ }
 {
-    let mut met = [false; 101];
+    let mut met = [false; sheet::MOST_ROWS];
     for i in 0..rows.len() {
         let row = rows[i] as usize;
         if met[row] {
@@ -164,7 +167,7 @@ fn single(rows: &[u16]) -> bool
 // Whether each stop stands exactly once.
 fn each_once(sheet: &[u8], depots: usize, rows: &[u16]) -> bool
     requires { ⌜ Sized (now sheet) ⌝ }
-    requires { ⌜ (depots ≡ depotsOf (now sheet)) × (length (now rows) ≤ stopsIn (now sheet)) ⌝ }
+    requires { ⌜ (depots ≡ depotsOf (now sheet)) × (length (now rows) ≤ stopCount (now sheet)) ⌝ }
     requires { ⌜ T (linksRight (now sheet) (now rows)) ⌝ }
     ensures { λ r. ⌜ r ≡ eachOnce (now (sheet .entry)) (now (rows .entry)) ⌝ }
 {
@@ -183,7 +186,7 @@ fn read_chains(
     ends: &mut [u16],
     vehicles: &mut [u16],
 ) -> Chain
-    requires { ⌜ Lent (now sheet) (now plan) (now stops) (now ends) (now vehicles) ⌝ }
+    requires { ⌜ ReaderTables (now sheet) (now plan) (now stops) (now ends) (now vehicles) ⌝ }
     requires { ⌜ depots ≡ depotsOf (now sheet) ⌝ }
     ensures { λ r. ⌜ ChainsAs (now (sheet .entry)) (now (plan .entry)) r (now (stops .exit)) (now (ends .exit)) (now (vehicles .exit)) ⌝ }
 {
@@ -206,7 +209,7 @@ pub fn read_plan(
     ends: &mut [u16],
     vehicles: &mut [u16],
 ) -> Reading
-    requires { ⌜ Lent (now sheet) (now plan) (now stops) (now ends) (now vehicles) ⌝ }
+    requires { ⌜ ReaderTables (now sheet) (now plan) (now stops) (now ends) (now vehicles) ⌝ }
     ensures { λ r. ⌜ ReadAs (now (sheet .entry)) (now (plan .entry)) r (now (stops .exit)) (now (ends .exit)) (now (vehicles .exit)) ⌝ }
 {
     let depots = customer::depots(sheet);

@@ -8,10 +8,11 @@ use borrow.Author.Tests.{lt-leb, le-leb, ltb-true, ltb-false}
 use lib.ListN.{length, getD}
 use Rattle.sheet.specs.Fields.{planLength}
 use Rattle.sheet.specs.Refusal.{refusalOf}
-use Rattle.sheet.specs.Accepted.{Accepted, accepted}
+use Rattle.sheet.specs.Accepted.{Accepted}
+use Rattle.sheet.specs.Laws.Accepted.{accepted}
 use Rattle.planner.specs.Answer.{planFor, answerOf, Answered, Once, Lawful, Alone, Closed}
-use Rattle.planner.specs.Promised.{stands, lawful-rounds}
-use Rattle.planner.specs.Insertion.{alone-kept, closed-kept}
+use Rattle.planner.specs.Laws.Promised.{stands, lawful-rounds}
+use Rattle.planner.specs.Laws.Insertion.{alone-kept, closed-kept}
 
 module _ (s lent : List ℕ) (n : ℕ) (told : n ≡ refusalOf s (length lent)) where
   -- a refused sheet: nothing is promised of it

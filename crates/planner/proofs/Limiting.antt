@@ -12,8 +12,8 @@ use Rattle.sheet.specs.Fields.{rowsOf, sheetLength, planLength}
 use Rattle.sheet.specs.Depots.{depotsOf}
 use Rattle.sheet.specs.Ranges.{rowsInRange, entriesInRange, vehiclesInRange}
 use Rattle.sheet.specs.Refusal.{headerRight, countsRight, methodRight, lengthsRight, fleetRight, unless, contents, refusalOf}
-use Rattle.sheet.specs.Accepted.{accepted}
-use Rattle.sheet.specs.Stops.{depots-some}
+use Rattle.sheet.specs.Laws.Accepted.{accepted}
+use Rattle.sheet.specs.Laws.Stops.{depots-some}
 use Rattle.constructive.specs.Outcome.{outcomeIn}
 use Rattle.constructive.specs.Right.{outcomeRight}
 use Rattle.plan.specs.Plan.{planOf}
@@ -26,7 +26,7 @@ use Rattle.fleet_limiter.specs.Limitable.{Limitable}
 use Rattle.planner.specs.Answer.{numberOf, bytesOf}
 use Rattle.planner.specs.Limited.{orElse, oneDepot, unreadRefusal, limitRefusal, limitedPlan, limitTold, limitAnswer, LimitAnswered, LimitOnce, LimitFew, LimitStood, LimitAside}
 use Rattle.planner.specs.Limiting.{Unread, outBy, LimitDone}
-use Rattle.planner.specs.LimitPromised.{limited-stands, limited-few, limited-stood, limited-aside}
+use Rattle.planner.specs.Laws.LimitPromised.{limited-stands, limited-few, limited-stood, limited-aside}
 
 -- what the sheet holds is told of by 5 and above
 contents-late : (s : List ℕ) → (contents s ≡ 0 → ⊥) → 5 ≤ contents s

@@ -56,7 +56,7 @@ pub record Answered (s lent : List ℕ) (r : ℕ) (plan : List ℕ) : Type 0 whe
   pub number : r ≡ numberOf (answerOf s (length lent))
   pub bytes : plan ≡ bytesOf (answerOf s (length lent)) lent
 
--- **once**, demand 3: "Every pond of an accepted sheet stands once in its plan [..]: on one round or set aside."
+-- **once**, demand 3: every stop of an accepted sheet stands once in its plan, on one round or set aside
 pub record Standing (s plan : List ℕ) : Type 0 where
   pub each : (i : ℕ) → depotsOf s ≤ i → i < rowsOf s → count i (stopsOf (readPlan s plan)) ≡ 1
   -- nothing else does: every id is a vehicle's, every link a stop's, and refusal 10 is not told of it
@@ -65,7 +65,7 @@ pub record Standing (s plan : List ℕ) : Type 0 where
 abbrev pub Once : List ℕ → ℕ → List ℕ → Type 0
 Once s r plan = r ≡ 0 → Standing s plan
 
--- "keeps capacity, save a lone savings pond"
+-- a round keeps capacity, save a lone stop that savings made a round of
 abbrev pub capacityKept : List ℕ → Round → Bool
 capacityKept s r = keepsCapacity s (r .vehicle) (r .stops) || (eqb (methodOf s) 0 && eqb (length (r .stops)) 1)
 
@@ -73,7 +73,7 @@ pub record LawfulRound (s : List ℕ) (r : Round) : Type 0 where
   pub schedule : T (lawful s (r .vehicle) (r .stops))
   pub capacity : T (capacityKept s r)
 
--- **lawful**, demand 3: "every round of the plan, whichever constructor but plain nearest neighbour made it, has a lawful schedule [..] and keeps capacity"
+-- **lawful**, demand 3: every round, whichever constructor but plain nearest neighbour made it, has a lawful schedule and keeps capacity
 abbrev pub Lawful : List ℕ → ℕ → List ℕ → Type 0
 Lawful s r plan = r ≡ 0 → Whole s → (methodOf s ≡ 2 → ⊥) → Every (LawfulRound s) (readPlan s plan .rounds)
 
@@ -82,7 +82,7 @@ Lawful s r plan = r ≡ 0 → Whole s → (methodOf s ≡ 2 → ⊥) → Every (
 abbrev pub firstVehicle : List ℕ → ℕ
 firstVehicle s = getD (fleetOf s 0) 0 0
 
--- **alone**, demand 3: "With one depot, insertion then sets aside no pond that could make a round alone"
+-- **alone**, demand 3: with one depot, insertion sets aside no stop that could make a round alone
 abbrev pub Alone : List ℕ → ℕ → List ℕ → Type 0
 Alone s r plan = r ≡ 0 → Whole s → methodOf s ≡ 1 → depotsOf s ≡ 1 → Every (λ (i : ℕ). alone s (firstVehicle s) i ≡ false) (readPlan s plan .aside)
 
@@ -99,6 +99,6 @@ FitsNowhere s i r = (k : ℕ) → k ≤ length (r .stops) → fits s (r .vehicle
 abbrev pub ClosedRounds : List ℕ → Outcome → Type 0
 ClosedRounds s o = (n i : ℕ) → n < length (o .rounds) → Later s o n i → FitsNowhere s i (roundAt (o .rounds) n)
 
--- **closed**, demand 3: "and for every round it closes, no pond placed or set aside later fits at any place in it"
+-- **closed**, demand 3: for every round that it closes, no stop placed or set aside later fits at any place in it
 abbrev pub Closed : List ℕ → ℕ → List ℕ → Type 0
 Closed s r plan = r ≡ 0 → Whole s → methodOf s ≡ 1 → depotsOf s ≡ 1 → ClosedRounds s (readPlan s plan)

@@ -13,7 +13,7 @@ use Rattle.sheet.specs.Refusal.{headerRight, countsRight, methodRight, lengthsR
 use Rattle.plan.specs.Plan.{planOf}
 use Rattle.plan.specs.Read.{readPlan, planRight}
 use Rattle.fleet.specs.Limit.{limitRoutes}
-use Rattle.fleet.specs.Kept.{Stood}
+use Rattle.fleet.specs.Stood.{Stood}
 use Rattle.planner.specs.Answer.{Answer, refused, planned, numberOf, bytesOf, Standing}
 
 -- ---- the refusals

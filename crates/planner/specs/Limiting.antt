@@ -4,7 +4,7 @@ use Prim.Native.Nat.{ℕ, _≤_}
 use mathlib.Core.Bool.{Bool, true, false}
 use mathlib.Core.List.{List}
 use lib.ListN.{length}
-use Rattle.sheet.specs.Fields.{planLength}
+use Rattle.sheet.specs.Fields.{planLength, mostRows}
 use Rattle.sheet.specs.Depots.{depotsOf}
 use Rattle.sheet.specs.Refusal.{unless}
 use Rattle.sheet.specs.Accepted.{Accepted}
@@ -20,11 +20,11 @@ pub record Unread (s plan lent : List ℕ) : Type 0 where
 
 -- tables with room for every row
 pub record LimitTables (stops ends vehicles marks trial : List ℕ) : Type 0 where
-  pub stopped : 101 ≤ length stops
-  pub ended : 101 ≤ length ends
-  pub driven : 101 ≤ length vehicles
-  pub marked : 101 ≤ length marks
-  pub tried : 101 ≤ length trial
+  pub stopped : mostRows ≤ length stops
+  pub ended : mostRows ≤ length ends
+  pub driven : mostRows ≤ length vehicles
+  pub marked : mostRows ≤ length marks
+  pub tried : mostRows ≤ length trial
 
 -- the bytes of the plan out, where the plan in is right and where it is not
 abbrev pub outBy : Bool → List ℕ → List ℕ → ℕ → List ℕ → List ℕ

@@ -2,11 +2,12 @@
 use Prim.Native.Nat.{ℕ, _≤_}
 use mathlib.Core.List.{List}
 use lib.ListN.{length}
+use Rattle.sheet.specs.Fields.{mostVehicles, mostRows}
 
-pub record Tabled (at marks fleet stops ends vehicles : List ℕ) : Type 0 where
-  pub placed : 101 ≤ length at
-  pub marked : 101 ≤ length marks
-  pub manned : 16 ≤ length fleet
-  pub stopped : 101 ≤ length stops
-  pub ended : 101 ≤ length ends
-  pub driven : 101 ≤ length vehicles
+pub record PlannerTables (at marks fleet stops ends vehicles : List ℕ) : Type 0 where
+  pub placed : mostRows ≤ length at
+  pub marked : mostRows ≤ length marks
+  pub fleet-long : mostVehicles ≤ length fleet
+  pub stopped : mostRows ≤ length stops
+  pub ended : mostRows ≤ length ends
+  pub driven : mostRows ≤ length vehicles

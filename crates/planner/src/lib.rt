@@ -9,7 +9,7 @@ ghost use Rattle.sheet.specs.Depots.{depotsOf};
 ghost use Rattle.sheet.specs.Accepted.{Sized, Accepted};
 ghost use Rattle.sheet.specs.Refusal.{refusalOf};
 ghost use Rattle.planner.specs.Answer.{priced, planFor, Answered, Once, Lawful, Alone, Closed};
-ghost use Rattle.planner.specs.Tabled.{Tabled};
+ghost use Rattle.planner.specs.Tabled.{PlannerTables};
 ghost use Rattle.planner.specs.Limited.{LimitAnswered, LimitOnce, LimitFew, LimitStood, LimitAside};
 
 // Whether a sheet would be planned into a buffer of `plan_len` bytes: 0, or the number of the refusal.
@@ -53,7 +53,7 @@ fn fill_by(
 )
     requires { ⌜ Accepted (now sheet) ⌝ }
     requires { ⌜ length (now plan) ≡ planLength (now sheet) ⌝ }
-    requires { ⌜ Tabled (now at) (now marks) (now fleet) (now stops) (now ends) (now vehicles) ⌝ }
+    requires { ⌜ PlannerTables (now at) (now marks) (now fleet) (now stops) (now ends) (now vehicles) ⌝ }
     ensures { λ _. ⌜ now (plan .exit) ≡ planFor (now (sheet .entry)) ⌝ }
 {
     let filled = multi_depot::outcome(sheet, at, marks, fleet, stops, ends, vehicles);
@@ -76,12 +76,12 @@ fn fill(sheet: &[u8], plan: &mut [u8])
     requires { ⌜ length (now plan) ≡ planLength (now sheet) ⌝ }
     ensures { λ _. ⌜ now (plan .exit) ≡ planFor (now (sheet .entry)) ⌝ }
 {
-    let mut at = [0u16; 101];
-    let mut marks = [0u16; 101];
-    let mut fleet = [0u16; 16];
-    let mut stops = [0u16; 101];
-    let mut ends = [0u16; 101];
-    let mut vehicles = [0u16; 101];
+    let mut at = [0u16; sheet::MOST_ROWS];
+    let mut marks = [0u16; sheet::MOST_ROWS];
+    let mut fleet = [0u16; sheet::MOST_VEHICLES];
+    let mut stops = [0u16; sheet::MOST_ROWS];
+    let mut ends = [0u16; sheet::MOST_ROWS];
+    let mut vehicles = [0u16; sheet::MOST_ROWS];
     fill_by(
         sheet,
         plan,

@@ -78,11 +78,11 @@ pub fn limit(sheet: &[u8], plan_in: &[u8], greatest: u32, plan_out: &mut [u8]) -
     requires { ⌜ Unread (now sheet) (now «plan_in») (now «plan_out») ⌝ }
     ensures { λ r. ⌜ LimitDone (now (sheet .entry)) (now («plan_in» .entry)) greatest (now («plan_out» .entry)) r (now («plan_out» .exit)) ⌝ }
 {
-    let mut stops = [0u16; 101];
-    let mut ends = [0u16; 101];
-    let mut vehicles = [0u16; 101];
-    let mut marks = [0u16; 101];
-    let mut trial = [0u16; 101];
+    let mut stops = [0u16; sheet::MOST_ROWS];
+    let mut ends = [0u16; sheet::MOST_ROWS];
+    let mut vehicles = [0u16; sheet::MOST_ROWS];
+    let mut marks = [0u16; sheet::MOST_ROWS];
+    let mut trial = [0u16; sheet::MOST_ROWS];
     limit_by(
         sheet,
         plan_in,

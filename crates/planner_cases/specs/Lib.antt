@@ -1,4 +1,4 @@
-pub mod Cases
-pub mod LimitCases
+pub mod Refusals
+pub mod LimitRefusals
 pub mod Table
-pub mod Wrong
+pub mod Laws

@@ -9,14 +9,15 @@ use borrow.Author.Tests.{eq-eqb, lt-leb}
 use lib.Ieee.Fits.{and-l, and-r}
 use lib.ListN.{length, getD, take, drop, length-drop}
 use lib.Seq.{length-take-le, getD-take, getD-drop}
-use Rattle.wire.specs.Laws.{le-lt}
+use Rattle.wire.specs.Laws.Bytes.{le-lt}
 use Rattle.sheet.specs.Fields.{rowsOf, vehiclesOf, planLength}
 use Rattle.sheet.specs.Refusal.{headerRight, refusalOf}
-use Rattle.sheet.specs.Accepted.{Accepted, accepted}
+use Rattle.sheet.specs.Accepted.{Accepted}
+use Rattle.sheet.specs.Laws.Accepted.{accepted}
 use Rattle.sheet.specs.Values.{vehicleOf}
-use Rattle.numbers.specs.All.{all-at}
+use Rattle.numbers.specs.Laws.All.{all-at}
 use Rattle.evaluation.specs.Routed.{Routed}
-use Rattle.probe.specs.Asked.{Asked, acceptedOf, askable, rowsRight, roundRight, roundsRight}
+use Rattle.probe.specs.Contracts.{RowsAsked, acceptedOf, askable, rowsRight, roundRight, roundsRight}
 
 -- a test that passed
 pub passed : {a b : Bool} → a ≡ b → a ≡ true → T b
@@ -56,7 +57,7 @@ vehicled s v t =
     }
 
 -- ---- the rows
-pub asked-of : (s : List ℕ) (v : ℕ) (stops : List ℕ) → Vehicled s v → T (rowsRight stops (rowsOf s)) → Asked s (vehicleOf s v .depot) stops
+pub asked-of : (s : List ℕ) (v : ℕ) (stops : List ℕ) → Vehicled s v → T (rowsRight stops (rowsOf s)) → RowsAsked s (vehicleOf s v .depot) stops
 unfolding rowsRight
 asked-of s v stops a t = record {
   sheet = a .sheet;
@@ -71,7 +72,7 @@ routed-of s v route a t =
     record { sheet = q .sheet; home = q .home; few = leb→le (length route) 101 (and-l (leb (length route) 101) _ t); row = q .row }
 
 -- rows that are asked about make rounds that can be walked
-pub routed : (s : List ℕ) (depot : ℕ) (stops : List ℕ) (first n : ℕ) → Asked s depot stops → n ≤ 101 → first + n ≤ length stops → Routed s depot (take n (drop first stops))
+pub routed : (s : List ℕ) (depot : ℕ) (stops : List ℕ) (first n : ℕ) → RowsAsked s depot stops → n ≤ 101 → first + n ≤ length stops → Routed s depot (take n (drop first stops))
 routed s depot stops first n a h r =
     let e : length (take n (drop first stops)) ≡ n = length-take-le n (drop first stops) (rw length-drop (omega arith)) in record {
       sheet = a .sheet;

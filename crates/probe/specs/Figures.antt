@@ -19,7 +19,7 @@ use Rattle.evaluation.specs.Feasible.{routeEval}
 use Rattle.evaluator.specs.declared.Progress.{Progress}
 use Rattle.evaluator.specs.declared.Record.{Record}
 use Rattle.evaluator.specs.Record.{placedOf, beginOf, progressOf, buildRoute}
-use Rattle.probe.specs.Asked.{askable, roundRight}
+use Rattle.probe.specs.Contracts.{askable, roundRight}
 
 -- -1.0 where a round is not allowed, -2.0 where the question is not right: no figure is below 0
 abbrev pub notAllowed : Float
@@ -29,12 +29,12 @@ abbrev pub notRight : Float
 notRight = ofBits binary64 0xc000_0000_0000_0000
 
 -- a number below 2^53, which an f64 holds
-abbrev pub whole : ℕ → Float
-whole n = ofInt binary64 (pos n)
+abbrev pub wholeFigure : ℕ → Float
+wholeFigure n = ofInt binary64 (pos n)
 
 -- 0 to 5: distance, duration, lateness, its cost, the rest's place and its start
 abbrev pub sixOf : Float → Float → Float → Float → RestAnswer → List Float
-sixOf distance duration lateness cost rest = distance ∷ duration ∷ lateness ∷ cost ∷ whole (restPlace rest) ∷ restStart rest ∷ []
+sixOf distance duration lateness cost rest = distance ∷ duration ∷ lateness ∷ cost ∷ wholeFigure (restPlace rest) ∷ restStart rest ∷ []
 
 abbrev pub scheduleFigures : Schedule → List Float
 scheduleFigures k = sixOf (k .distance) (k .duration) (k .lateness) (k .«lateness_cost») (k .rest)
@@ -48,11 +48,11 @@ abbrev pub recordFigures : Record → List Float
 recordFigures k = sixOf (k .distance) (k .duration) (k .lateness) (k .«lateness_cost») (k .rest)
 
 unfoldable pub recordFigure : Record → ℕ → Float
-recordFigure k n = cond (ltb n 6) (getD (recordFigures k) n nan) (whole (k .load))
+recordFigure k n = cond (ltb n 6) (getD (recordFigures k) n nan) (wholeFigure (k .load))
 
 -- 0 to 2: arrival, departure and load after
 abbrev pub visitFigure : Progress → ℕ → Float
-visitFigure p n = getD (p .arrival ∷ p .departure ∷ whole (p .load) ∷ []) n nan
+visitFigure p n = getD (p .arrival ∷ p .departure ∷ wholeFigure (p .load) ∷ []) n nan
 
 -- the round as far as the stop at index k
 unfoldable pub progressAt : List ℕ → ℕ → RouteLimits → List ℕ → ℕ → Progress

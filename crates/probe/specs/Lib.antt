@@ -1,3 +1,3 @@
-pub mod Asked
+pub mod Contracts
 pub mod Rounds
 pub mod Figures

@@ -8,7 +8,7 @@ use Rattle.sheet.specs.Values.{vehicleOf}
 use Rattle.evaluation.specs.declared.limits.RouteLimits.{RouteLimits}
 use Rattle.evaluation.specs.Limits.{limitsAt}
 use Rattle.evaluation.specs.Feasible.{routeFeasible}
-use Rattle.probe.specs.Asked.{askable, roundsRight}
+use Rattle.probe.specs.Contracts.{askable, roundsRight}
 
 abbrev pub oneOf : Bool → ℕ
 oneOf true = 1
@@ -24,11 +24,11 @@ unfoldable pub passedOf : List ℕ → ℕ → RouteLimits → List ℕ → ℕ 
 passedOf s depot limits stops len = passedFrom s depot limits stops len (length stops / len) 0
 
 -- the answer to a question that is not right
-abbrev pub refused : ℕ
-refused = 0xffff_ffff
+abbrev pub notAsked : ℕ
+notAsked = 0xffff_ffff
 
 unfoldable pub probeRounds : List ℕ → List ℕ → ℕ → ℕ → ℕ
 probeRounds s stops len v =
     cond (askable s v && roundsRight stops len (rowsOf s))
     (passedOf s (vehicleOf s v .depot) (limitsAt s v) stops len)
-    refused
+    notAsked

@@ -1,13 +1,13 @@
 // Whether a question is right.
 use sheet::vehicle;
 ghost use mathlib.Core.Path.{_≡_};
-ghost use Rattle.probe.specs.Asked.{acceptedOf, rowsRight, roundRight, roundsRight};
+ghost use Rattle.probe.specs.Contracts.{acceptedOf, rowsRight, roundRight, roundsRight};
 
 // Whether a sheet is accepted, with a plan buffer of its own length.
 fn accepted(sheet: &[u8]) -> bool
     ensures { λ r. ⌜ r ≡ acceptedOf (now (sheet .entry)) ⌝ }
 {
-    if sheet.len() < 16 {
+    if sheet.len() < sheet::HEADER_SIZE {
         return false;
     }
     sheet_refusal::refusal(sheet, 16 + 80 * sheet::rows(sheet)) == 0
@@ -15,7 +15,7 @@ fn accepted(sheet: &[u8]) -> bool
 
 // Whether rounds of a vehicle can be asked about.
 pub fn askable(sheet: &[u8], vehicle: usize) -> bool
-    ensures { λ r. ⌜ r ≡ Rattle.probe.specs.Asked.askable (now (sheet .entry)) vehicle ⌝ }
+    ensures { λ r. ⌜ r ≡ Rattle.probe.specs.Contracts.askable (now (sheet .entry)) vehicle ⌝ }
 {
     if !accepted(sheet) {
         return false;
@@ -41,7 +41,7 @@ pub fn rows_right(stops: &[u16], rows: u16) -> bool
 pub fn round_right(route: &[u16], rows: u16) -> bool
     ensures { λ r. ⌜ r ≡ roundRight (now (route .entry)) rows ⌝ }
 {
-    if 101 < route.len() {
+    if sheet::MOST_ROWS < route.len() {
         return false;
     }
     rows_right(route, rows)
@@ -54,7 +54,7 @@ pub fn rounds_right(stops: &[u16], len: usize, rows: u16) -> bool
     if len == 0 {
         return false;
     }
-    if 101 < len {
+    if sheet::MOST_ROWS < len {
         return false;
     }
     if 0xffff_ffff <= stops.len() {

@@ -15,7 +15,7 @@ ghost use Rattle.evaluator.specs.Record.{beginOf, progressOf};
 ghost use Rattle.probe.specs.Figures.{sixOf, evalFigure, recordFigure, visitFigure, visitFigures, figureOf};
 
 fn place(rest: RestAnswer) -> f64
-    ensures { λ r. ⌜ r ≡ Rattle.probe.specs.Figures.whole (restPlace rest) ⌝ }
+    ensures { λ r. ⌜ r ≡ Rattle.probe.specs.Figures.wholeFigure (restPlace rest) ⌝ }
 {
     match rest {
         RestAnswer::NoRest => 0.0,

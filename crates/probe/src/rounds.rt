@@ -3,8 +3,9 @@ use evaluation::limits::RouteLimits;
 ghost use mathlib.Core.Path.{_≡_};
 ghost use Prim.Native.Nat.{_+_, _≤_, _<_};
 ghost use lib.ListN.{length, take, drop};
+ghost use Rattle.sheet.specs.Fields.{mostRows};
 ghost use Rattle.evaluation.specs.Feasible.{routeFeasible};
-ghost use Rattle.probe.specs.Asked.{Asked};
+ghost use Rattle.probe.specs.Contracts.{RowsAsked};
 ghost use Rattle.probe.specs.Rounds.{oneOf, passedOf};
 
 // Whether the round of `len` rows from `first` on is feasible.
@@ -16,8 +17,8 @@ fn passes(
     depot: usize,
     limits: RouteLimits,
 ) -> bool
-    requires { ⌜ Asked (now sheet) depot (now stops) ⌝ }
-    requires { ⌜ (len ≤ 101) × (first + len ≤ length (now stops)) ⌝ }
+    requires { ⌜ RowsAsked (now sheet) depot (now stops) ⌝ }
+    requires { ⌜ (len ≤ mostRows) × (first + len ≤ length (now stops)) ⌝ }
     ensures { λ r. ⌜ r ≡ routeFeasible (now (sheet .entry)) depot limits (take len (drop first (now (stops .entry)))) ⌝ }
 {
     let end = first + len;
@@ -32,8 +33,8 @@ fn one(passes: bool) -> u32
 
 // How many of the rounds of `len` rows are feasible.
 pub fn passed(sheet: &[u8], stops: &[u16], len: usize, depot: usize, limits: RouteLimits) -> u32
-    requires { ⌜ Asked (now sheet) depot (now stops) ⌝ }
-    requires { ⌜ (0 < len) × ((len ≤ 101) × (length (now stops) < 0xffff_ffff)) ⌝ }
+    requires { ⌜ RowsAsked (now sheet) depot (now stops) ⌝ }
+    requires { ⌜ (0 < len) × ((len ≤ mostRows) × (length (now stops) < 0xffff_ffff)) ⌝ }
     ensures { λ r. ⌜ r ≡ passedOf (now (sheet .entry)) depot limits (now (stops .entry)) len ⌝ }
 {
     let mut count = 0;

@@ -10,7 +10,7 @@ use lib.ListN.{length}
 use Rattle.wire.specs.Bytes.{isNumber, f64At}
 use Rattle.sheet.specs.Fields.{rowsOf, timesOf, entriesOf, entryAt}
 use Rattle.sheet.specs.Accepted.{Accepted}
-use Rattle.sheet.specs.Finite.{entry-number, entries-split}
+use Rattle.sheet.specs.Laws.Finite.{entry-number, entries-split}
 use Rattle.sheet.specs.Values.{distanceOf, timeOf}
 
 pub cell-lt : (n i j : ℕ) → i < n → j < n → i * n + j < n * n

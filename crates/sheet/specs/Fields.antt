@@ -1,4 +1,4 @@
--- Document 01, "The sheet": every field by its offset in the bytes. Sizes and offsets stand here alone.
+-- Document 01, "The sheet": every field by its offset in the bytes. Sizes, offsets and the greatest counts stand here alone.
 use Prim.Native.Nat.{ℕ, _+_, _*_, _/_, _%_}
 use mathlib.Core.Bool.{Bool}
 use mathlib.Core.List.{List}
@@ -6,7 +6,24 @@ use lib.Dec.{eqb}
 use lib.IntN.{ℤ}
 use Rattle.wire.specs.Bytes.{le, u8At, u16At, u32At, i32At}
 
--- "Header, 16 bytes: rows u16, vehicles u16, method u8, time table u8 (0 or 1), ten zero bytes."
+-- the sizes of the header, of a row and of a vehicle
+abbrev pub headerSize : ℕ
+headerSize = 16
+
+abbrev pub rowSize : ℕ
+rowSize = 48
+
+abbrev pub vehicleSize : ℕ
+vehicleSize = 72
+
+-- "rows 0 to 101; vehicles 0 to 16"
+abbrev pub mostRows : ℕ
+mostRows = 101
+
+abbrev pub mostVehicles : ℕ
+mostVehicles = 16
+
+-- "Header, 16 bytes: rows u16, vehicles u16, method u8 (..), time table u8 (0 or 1), ten zero bytes."
 unfoldable pub rowsOf : List ℕ → ℕ
 rowsOf s = u16At s 0
 
@@ -25,7 +42,7 @@ spareOf s = le 10 s 6
 
 -- "Each row, 48 bytes": where row i starts. The fields below go by the start of their record.
 abbrev pub rowAt : ℕ → ℕ
-rowAt i = 16 + 48 * i
+rowAt i = headerSize + rowSize * i
 
 -- "horizontal and vertical coordinate i32, demand i32, marks u32 (..), then f64 service, ready, due, penalty"
 abbrev pub xField : List ℕ → ℕ → ℤ
@@ -54,7 +71,7 @@ penaltyAt at = at + 40
 
 -- "Each vehicle, 72 bytes": where vehicle v starts.
 abbrev pub vehicleAt : List ℕ → ℕ → ℕ
-vehicleAt s v = 16 + 48 * rowsOf s + 72 * v
+vehicleAt s v = headerSize + rowSize * rowsOf s + vehicleSize * v
 
 -- "id u32, depot u32, capacity i32, marks u32 (..), then f64 cost per distance, fixed cost, max distance, max duration, earliest, latest, rest duration"
 unfoldable pub idField : List ℕ → ℕ → ℕ
@@ -92,7 +109,7 @@ restAt at = at + 64
 
 -- "Then rows × rows distances f64, then times if marked": where the tables start, how many entries they have, where entry k starts.
 abbrev pub tablesAt : List ℕ → ℕ
-tablesAt s = 16 + 48 * rowsOf s + 72 * vehiclesOf s
+tablesAt s = headerSize + rowSize * rowsOf s + vehicleSize * vehiclesOf s
 
 abbrev pub entriesOf : List ℕ → ℕ
 entriesOf s = (1 + timesOf s) * (rowsOf s * rowsOf s)

@@ -3,7 +3,7 @@ use Prim.Native.Nat.{ℕ, zero, suc, _+_}
 use mathlib.Core.Bool.{cond}
 use mathlib.Core.List.{List}
 use lib.Dec.{eqb}
-use Rattle.lists.specs.Those.{those}
+use Rattle.lists.specs.Filter.{filtered}
 use Rattle.sheet.specs.Fields.{vehiclesOf, vehicleAt, idField}
 use Rattle.sheet.specs.Values.{vehicleOf}
 
@@ -17,4 +17,4 @@ indexOf s id = indexFrom s id (vehiclesOf s) 0
 
 -- the vehicles of a depot, by their index, ascending
 unfoldable pub fleetOf : List ℕ → ℕ → List ℕ
-fleetOf s depot = those (λ v. eqb (vehicleOf s v .depot) depot) (vehiclesOf s) 0
+fleetOf s depot = filtered (λ v. eqb (vehicleOf s v .depot) depot) (vehiclesOf s) 0

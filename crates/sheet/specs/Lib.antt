@@ -8,3 +8,4 @@ pub mod Finite
 pub mod Fleet
 pub mod SheetA
 pub mod Stops
+pub mod Laws

@@ -4,16 +4,16 @@ use mathlib.Core.Bool.{Bool, true, false, not, _&&_, _||_}
 use mathlib.Core.List.{List}
 use lib.Dec.{leb, eqb}
 use lib.ListN.{length}
-use Rattle.sheet.specs.Fields.{rowsOf, vehiclesOf, methodOf, timesOf, spareOf, sheetLength, planLength}
+use Rattle.sheet.specs.Fields.{rowsOf, vehiclesOf, methodOf, timesOf, spareOf, sheetLength, planLength, headerSize, mostRows, mostVehicles}
 use Rattle.sheet.specs.Ranges.{rowsInRange, entriesInRange, vehiclesInRange}
 
 -- 1: "sheet under 16 bytes, time byte above 1, or spare header byte set"
 unfoldable pub headerRight : List ℕ → Bool
-headerRight s = leb 16 (length s) && (leb (timesOf s) 1 && eqb (spareOf s) 0)
+headerRight s = leb headerSize (length s) && (leb (timesOf s) 1 && eqb (spareOf s) 0)
 
 -- 2: "rows or vehicles above range"
 unfoldable pub countsRight : List ℕ → Bool
-countsRight s = leb (rowsOf s) 101 && leb (vehiclesOf s) 16
+countsRight s = leb (rowsOf s) mostRows && leb (vehiclesOf s) mostVehicles
 
 -- 3: "method above 4"
 unfoldable pub methodRight : List ℕ → Bool

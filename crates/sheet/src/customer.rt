@@ -4,7 +4,7 @@ ghost use Prim.Native.Nat.{_+_, _*_, _<_, _≤_};
 ghost use lib.ListN.{length};
 ghost use Rattle.sheet.specs.Accepted.{Sized, Accepted};
 ghost use Rattle.sheet.specs.Depots.{depotsOf, leading, isDepot};
-ghost use Rattle.sheet.specs.Fields.{rowsOf, rowAt, xField, yField, rowMarks};
+ghost use Rattle.sheet.specs.Fields.{rowsOf, rowAt, xField, yField, rowMarks, rowSize, mostRows};
 ghost use Rattle.sheet.specs.Finite.{RowNumbers};
 ghost use Rattle.sheet.specs.Values.{gateAt, demandOf, stopOf};
 
@@ -30,15 +30,18 @@ pub struct Stop {
 }
 
 fn is_depot(sheet: &[u8], row: usize) -> bool
-    requires { ⌜ (row ≤ 101) × (16 + 48 * row + 48 ≤ length (now sheet)) ⌝ }
+    requires { ⌜ (row ≤ mostRows) × (rowAt row + rowSize ≤ length (now sheet)) ⌝ }
     ensures { λ r. ⌜ r ≡ isDepot (now (sheet .entry)) row ⌝ }
 {
-    crate::has_mark(1, wire::u32_at(sheet, 16 + 48 * row + 12))
+    crate::has_mark(
+        1,
+        wire::u32_at(sheet, crate::HEADER_SIZE + crate::ROW_SIZE * row + 12),
+    )
 }
 
 // How many leading rows are marked as depots.
 fn marked_depots(sheet: &[u8], rows: usize) -> usize
-    requires { ⌜ (rows ≤ 101) × (16 + 48 * rows ≤ length (now sheet)) ⌝ }
+    requires { ⌜ (rows ≤ mostRows) × (rowAt rows ≤ length (now sheet)) ⌝ }
     ensures { λ r. ⌜ r ≡ leading (now (sheet .entry)) rows 0 ⌝ }
 {
     for i in 0..rows {
@@ -59,7 +62,7 @@ pub fn depots(sheet: &[u8]) -> usize
 }
 
 fn gate_at(sheet: &[u8], at: usize) -> Gate
-    requires { ⌜ at + 48 ≤ length (now sheet) ⌝ }
+    requires { ⌜ at + rowSize ≤ length (now sheet) ⌝ }
     requires { ⌜ RowNumbers (now sheet) at ⌝ }
     ensures { λ r. ⌜ r ≡ gateAt (now (sheet .entry)) at ⌝ }
 {
@@ -81,7 +84,7 @@ pub fn x(sheet: &[u8], row: usize) -> i32
     requires { ⌜ row < rowsOf (now sheet) ⌝ }
     ensures { λ r. ⌜ r ≡ xField (now (sheet .entry)) (rowAt row) ⌝ }
 {
-    wire::i32_at(sheet, 16 + 48 * row)
+    wire::i32_at(sheet, crate::HEADER_SIZE + crate::ROW_SIZE * row)
 }
 
 // The vertical coordinate of a row.
@@ -90,7 +93,7 @@ pub fn y(sheet: &[u8], row: usize) -> i32
     requires { ⌜ row < rowsOf (now sheet) ⌝ }
     ensures { λ r. ⌜ r ≡ yField (now (sheet .entry)) (rowAt row) ⌝ }
 {
-    wire::i32_at(sheet, 16 + 48 * row + 4)
+    wire::i32_at(sheet, crate::HEADER_SIZE + crate::ROW_SIZE * row + 4)
 }
 
 // What a row loads.
@@ -99,7 +102,7 @@ pub fn demand(sheet: &[u8], row: usize) -> u32
     requires { ⌜ row < rowsOf (now sheet) ⌝ }
     ensures { λ r. ⌜ r ≡ demandOf (now (sheet .entry)) row ⌝ }
 {
-    wire::u32_at(sheet, 16 + 48 * row + 8)
+    wire::u32_at(sheet, crate::HEADER_SIZE + crate::ROW_SIZE * row + 8)
 }
 
 pub fn stop_at(sheet: &[u8], row: usize) -> Stop
@@ -107,7 +110,7 @@ pub fn stop_at(sheet: &[u8], row: usize) -> Stop
     requires { ⌜ row < rowsOf (now sheet) ⌝ }
     ensures { λ r. ⌜ r ≡ stopOf (now (sheet .entry)) row ⌝ }
 {
-    let at = 16 + 48 * row;
+    let at = crate::HEADER_SIZE + crate::ROW_SIZE * row;
     let gate = gate_at(sheet, at);
     Stop {
         x: x(sheet, row),

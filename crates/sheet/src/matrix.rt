@@ -2,7 +2,7 @@
 ghost use mathlib.Core.Path.{_≡_};
 ghost use Prim.Native.Nat.{_+_, _*_, _<_, _≤_};
 ghost use Rattle.sheet.specs.Accepted.{Sized, Accepted};
-ghost use Rattle.sheet.specs.Fields.{rowsOf, tablesAt};
+ghost use Rattle.sheet.specs.Fields.{rowsOf, tablesAt, mostRows};
 ghost use Rattle.sheet.specs.Values.{distanceOf, timeOf};
 
 // Where the distances start.
@@ -10,12 +10,14 @@ pub fn tables(sheet: &[u8]) -> usize
     requires { ⌜ Sized (now sheet) ⌝ }
     ensures { λ r. ⌜ r ≡ tablesAt (now (sheet .entry)) ⌝ }
 {
-    16 + 48 * crate::rows(sheet) + 72 * crate::vehicles(sheet)
+    crate::HEADER_SIZE
+        + crate::ROW_SIZE * crate::rows(sheet)
+        + crate::VEHICLE_SIZE * crate::vehicles(sheet)
 }
 
 // The place of an entry in a table of `n` rows.
 fn cell(n: usize, i: usize, j: usize) -> usize
-    requires { ⌜ (n ≤ 101) × ((i < n) × (j < n)) ⌝ }
+    requires { ⌜ (n ≤ mostRows) × ((i < n) × (j < n)) ⌝ }
     ensures { λ r. ⌜ (r ≡ i * n + j) × (r < n * n) ⌝ }
 {
     i * n + j

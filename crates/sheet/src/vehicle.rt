@@ -5,7 +5,7 @@ ghost use lib.Dec.{T};
 ghost use lib.ListN.{length};
 ghost use Rattle.wire.specs.Bytes.{isNumber};
 ghost use Rattle.sheet.specs.Accepted.{Accepted};
-ghost use Rattle.sheet.specs.Fields.{vehiclesOf, vehicleAt, vehicleMarks};
+ghost use Rattle.sheet.specs.Fields.{vehiclesOf, vehicleAt, vehicleMarks, vehicleSize};
 ghost use Rattle.sheet.specs.Finite.{VehicleNumbers};
 ghost use Rattle.sheet.specs.Values.{limitAt, restAfter, vehicleOf, fixedInDistance};
 
@@ -50,7 +50,7 @@ fn limit_at(sheet: &[u8], at: usize, mark: u32, field: usize) -> Limit
 }
 
 fn rest_at(sheet: &[u8], at: usize) -> Rest
-    requires { ⌜ at + 72 ≤ length (now sheet) ⌝ }
+    requires { ⌜ at + vehicleSize ≤ length (now sheet) ⌝ }
     requires { ⌜ VehicleNumbers (now sheet) at ⌝ }
     ensures { λ r. ⌜ r ≡ restAfter (now (sheet .entry)) at ⌝ }
 {
@@ -68,9 +68,9 @@ fn rest_at(sheet: &[u8], at: usize) -> Rest
 fn start(sheet: &[u8], index: usize) -> usize
     requires { ⌜ Accepted (now sheet) ⌝ }
     requires { ⌜ index < vehiclesOf (now sheet) ⌝ }
-    ensures { λ r. ⌜ (r ≡ vehicleAt (now (sheet .entry)) index) × (r + 72 ≤ length (now (sheet .entry))) ⌝ }
+    ensures { λ r. ⌜ (r ≡ vehicleAt (now (sheet .entry)) index) × (r + vehicleSize ≤ length (now (sheet .entry))) ⌝ }
 {
-    16 + 48 * crate::rows(sheet) + 72 * index
+    crate::HEADER_SIZE + crate::ROW_SIZE * crate::rows(sheet) + crate::VEHICLE_SIZE * index
 }
 
 pub fn vehicle_at(sheet: &[u8], index: usize) -> Vehicle

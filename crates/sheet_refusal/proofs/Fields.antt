@@ -9,9 +9,10 @@ use lib.Dec.{T, leb, ltb, eqb}
 use borrow.Author.Tests.{lt-ltb, le-leb, lt-leb, ne-eqb, ltb-true, ltb-false, leb-true, leb-false}
 use lib.Ieee.{binary64, nanBits}
 use Rattle.wire.specs.Bytes.{le, u64At, signed}
-use Rattle.wire.specs.Laws.{le-split}
+use Rattle.wire.specs.Laws.Bytes.{le-split}
 use Rattle.sheet.specs.Fields.{spareOf}
-use Rattle.numbers.specs.Range.{whole, in-range-number}
+use Rattle.numbers.specs.Range.{whole}
+use Rattle.numbers.specs.Laws.Range.{in-range-number}
 use Rattle.sheet.specs.Ranges.{coordinate, demand, capacity, amount}
 
 pub capacity-test : (n : ℕ) → ltb n 0x8000_0000 ≡ capacity (signed n)

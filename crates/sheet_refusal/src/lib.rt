@@ -7,13 +7,13 @@ ghost use mathlib.Core.Path.{_≡_};
 ghost use Prim.Native.Nat.{_+_, _*_, _≤_};
 ghost use lib.ListN.{length};
 ghost use Rattle.sheet.specs.Accepted.{Sized};
-ghost use Rattle.sheet.specs.Fields.{rowsOf, vehiclesOf, timesOf};
+ghost use Rattle.sheet.specs.Fields.{rowsOf, vehiclesOf, timesOf, headerSize, mostRows, mostVehicles};
 ghost use Rattle.sheet.specs.Refusal.{headerRight, countsRight, methodRight, lengthsRight, needsVehicle, fleetRight, refusalOf};
 
 pub fn header_right(sheet: &[u8]) -> bool
     ensures { λ r. ⌜ r ≡ headerRight (now (sheet .entry)) ⌝ }
 {
-    if sheet.len() < 16 {
+    if sheet.len() < sheet::HEADER_SIZE {
         return false;
     }
     if 1 < sheet::times(sheet) {
@@ -26,18 +26,18 @@ pub fn header_right(sheet: &[u8]) -> bool
 }
 
 fn counts_right(sheet: &[u8]) -> bool
-    requires { ⌜ 16 ≤ length (now sheet) ⌝ }
+    requires { ⌜ headerSize ≤ length (now sheet) ⌝ }
     ensures { λ r. ⌜ r ≡ countsRight (now (sheet .entry)) ⌝ }
 {
-    if 101 < sheet::rows(sheet) {
+    if sheet::MOST_ROWS < sheet::rows(sheet) {
         return false;
     }
-    sheet::vehicles(sheet) <= 16
+    sheet::vehicles(sheet) <= sheet::MOST_VEHICLES
 }
 
 // Whether the method is one of the five.
 fn method_right(sheet: &[u8]) -> bool
-    requires { ⌜ 16 ≤ length (now sheet) ⌝ }
+    requires { ⌜ headerSize ≤ length (now sheet) ⌝ }
     ensures { λ r. ⌜ r ≡ methodRight (now (sheet .entry)) ⌝ }
 {
     sheet::method(sheet) <= 4
@@ -45,20 +45,25 @@ fn method_right(sheet: &[u8]) -> bool
 
 // How many distances and times a sheet of these counts has.
 fn entries(rows: usize, times: usize) -> usize
-    requires { ⌜ (rows ≤ 101) × (times ≤ 1) ⌝ }
+    requires { ⌜ (rows ≤ mostRows) × (times ≤ 1) ⌝ }
     ensures { λ r. ⌜ (r ≡ (1 + times) * (rows * rows)) × (r ≤ 20402) ⌝ }
 {
     (1 + times) * (rows * rows)
 }
 
 fn lengths_right(sheet: &[u8], plan_len: usize) -> bool
-    requires { ⌜ 16 ≤ length (now sheet) ⌝ }
-    requires { ⌜ (rowsOf (now sheet) ≤ 101) × ((vehiclesOf (now sheet) ≤ 16) × (timesOf (now sheet) ≤ 1)) ⌝ }
+    requires { ⌜ headerSize ≤ length (now sheet) ⌝ }
+    requires { ⌜ (rowsOf (now sheet) ≤ mostRows) × ((vehiclesOf (now sheet) ≤ mostVehicles) × (timesOf (now sheet) ≤ 1)) ⌝ }
     ensures { λ r. ⌜ r ≡ lengthsRight (now (sheet .entry)) «plan_len» ⌝ }
 {
     let rows = sheet::rows(sheet);
     let entries = entries(rows, sheet::times(sheet) as usize);
-    if sheet.len() != 16 + 48 * rows + 72 * sheet::vehicles(sheet) + 8 * entries {
+    if sheet.len()
+        != sheet::HEADER_SIZE
+            + sheet::ROW_SIZE * rows
+            + sheet::VEHICLE_SIZE * sheet::vehicles(sheet)
+            + 8 * entries
+    {
         return false;
     }
     plan_len == 16 + 80 * rows
@@ -77,7 +82,7 @@ fn needs_vehicle(method: u8) -> bool
 }
 
 fn fleet_right(sheet: &[u8]) -> bool
-    requires { ⌜ 16 ≤ length (now sheet) ⌝ }
+    requires { ⌜ headerSize ≤ length (now sheet) ⌝ }
     ensures { λ r. ⌜ r ≡ fleetRight (now (sheet .entry)) ⌝ }
 {
     if sheet::vehicles(sheet) != 0 {

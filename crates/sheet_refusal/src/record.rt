@@ -3,11 +3,12 @@ use crate::field;
 ghost use mathlib.Core.Path.{_≡_};
 ghost use Prim.Native.Nat.{_+_, _≤_, _<_};
 ghost use lib.ListN.{length};
+ghost use Rattle.sheet.specs.Fields.{rowSize, vehicleSize};
 ghost use Rattle.sheet.specs.Depots.{depotsOf};
 ghost use Rattle.sheet.specs.Ranges.{servingInRange, rowInRange, maximaInRange, restInRange, vehicleInRange};
 
 fn serving_in_range(sheet: &[u8], at: usize) -> bool
-    requires { ⌜ at + 48 ≤ length (now sheet) ⌝ }
+    requires { ⌜ at + rowSize ≤ length (now sheet) ⌝ }
     ensures { λ r. ⌜ r ≡ servingInRange (now (sheet .entry)) at ⌝ }
 {
     let marks = wire::u32_at(sheet, at + 12);
@@ -21,7 +22,7 @@ fn serving_in_range(sheet: &[u8], at: usize) -> bool
 }
 
 pub fn row_in_range(sheet: &[u8], at: usize) -> bool
-    requires { ⌜ at + 48 ≤ length (now sheet) ⌝ }
+    requires { ⌜ at + rowSize ≤ length (now sheet) ⌝ }
     ensures { λ r. ⌜ r ≡ rowInRange (now (sheet .entry)) at ⌝ }
 {
     if !field::coordinate(wire::u32_at(sheet, at)) {
@@ -40,7 +41,7 @@ pub fn row_in_range(sheet: &[u8], at: usize) -> bool
 }
 
 fn maxima_in_range(sheet: &[u8], at: usize) -> bool
-    requires { ⌜ at + 72 ≤ length (now sheet) ⌝ }
+    requires { ⌜ at + vehicleSize ≤ length (now sheet) ⌝ }
     ensures { λ r. ⌜ r ≡ maximaInRange (now (sheet .entry)) at ⌝ }
 {
     let marks = wire::u32_at(sheet, at + 12);
@@ -61,7 +62,7 @@ fn maxima_in_range(sheet: &[u8], at: usize) -> bool
 }
 
 fn rest_in_range(sheet: &[u8], at: usize) -> bool
-    requires { ⌜ at + 72 ≤ length (now sheet) ⌝ }
+    requires { ⌜ at + vehicleSize ≤ length (now sheet) ⌝ }
     ensures { λ r. ⌜ r ≡ restInRange (now (sheet .entry)) at ⌝ }
 {
     let rests = sheet::has_mark(4, wire::u32_at(sheet, at + 12));
@@ -72,7 +73,7 @@ fn rest_in_range(sheet: &[u8], at: usize) -> bool
 }
 
 pub fn vehicle_in_range(sheet: &[u8], at: usize, depots: usize) -> bool
-    requires { ⌜ at + 72 ≤ length (now sheet) ⌝ }
+    requires { ⌜ at + vehicleSize ≤ length (now sheet) ⌝ }
     requires { ⌜ depots ≡ depotsOf (now sheet) ⌝ }
     ensures { λ r. ⌜ r ≡ vehicleInRange (now (sheet .entry)) at ⌝ }
 {

@@ -16,7 +16,7 @@ pub fn rows_in_range(sheet: &[u8]) -> bool
 {
     let rows = sheet::rows(sheet);
     for i in 0..rows {
-        if !record::row_in_range(sheet, 16 + 48 * i) {
+        if !record::row_in_range(sheet, sheet::HEADER_SIZE + sheet::ROW_SIZE * i) {
             return false;
         }
     }
@@ -42,8 +42,9 @@ fn same_id(sheet: &[u8], v: usize, w: usize) -> bool
     requires { ⌜ (v < vehiclesOf (now sheet)) × (w < vehiclesOf (now sheet)) ⌝ }
     ensures { λ r. ⌜ r ≡ sameId (now (sheet .entry)) v w ⌝ }
 {
-    let base = 16 + 48 * sheet::rows(sheet);
-    wire::u32_at(sheet, base + 72 * w) == wire::u32_at(sheet, base + 72 * v)
+    let base = sheet::HEADER_SIZE + sheet::ROW_SIZE * sheet::rows(sheet);
+    wire::u32_at(sheet, base + sheet::VEHICLE_SIZE * w)
+        == wire::u32_at(sheet, base + sheet::VEHICLE_SIZE * v)
 }
 
 // Whether no vehicle before `v` has its id.
@@ -65,7 +66,11 @@ fn vehicle_right(sheet: &[u8], v: usize, depots: usize) -> bool
     requires { ⌜ (v < vehiclesOf (now sheet)) × (depots ≡ depotsOf (now sheet)) ⌝ }
     ensures { λ r. ⌜ r ≡ (vehicleInRange (now (sheet .entry)) (vehicleAt (now (sheet .entry)) v) && newId (now (sheet .entry)) v) ⌝ }
 {
-    if !record::vehicle_in_range(sheet, 16 + 48 * sheet::rows(sheet) + 72 * v, depots) {
+    if !record::vehicle_in_range(
+        sheet,
+        sheet::HEADER_SIZE + sheet::ROW_SIZE * sheet::rows(sheet) + sheet::VEHICLE_SIZE * v,
+        depots,
+    ) {
         return false;
     }
     new_id(sheet, v)

@@ -7,10 +7,10 @@ use mathlib.Core.List.{List, [], _∷_}
 use lib.ListN.{length, getD, drop}
 use lib.Seq.{drop-cons, drop-length}
 use borrow.Author.Tests.{lt-leb, le-leb}
-use Rattle.lists.specs.Every.{every-of, every-at}
+use Rattle.lists.specs.Laws.Every.{every-of, every-at}
 use Rattle.sheet.specs.Fields.{rowsOf}
 use Rattle.sheet.specs.Values.{demandOf}
-use Rattle.sheet.specs.Finite.{demand-bounded}
+use Rattle.sheet.specs.Laws.Finite.{demand-bounded}
 use Rattle.constructive.specs.Load.{loadOf}
 use Rattle.constructive.specs.Unchecked.{Windowless}
 use Rattle.constructive.specs.declared.terms.Terms.{Terms}

@@ -6,8 +6,10 @@ use mathlib.Core.List.{List, [], _∷_, _++_, append-assoc}
 use lib.ListN.{length, getD, take, drop, length-append, length-drop}
 use lib.Seq.{length-take-le, take-all, take-at, drop-at, drop-cons, take-append-le, take-append-add, drop-append-le, drop-append-add, getD-append-add}
 use lib.Ieee.{Float}
-use Rattle.lists.specs.Every.{Every, every-of, every-at, every-drop}
-use Rattle.lists.specs.Moved.{without, without-length, without-every, inserted, inserted-length, inserted-every}
+use Rattle.lists.specs.Every.{Every}
+use Rattle.lists.specs.Laws.Every.{every-of, every-at, every-drop}
+use Rattle.lists.specs.Moved.{without, inserted}
+use Rattle.lists.specs.Laws.Moved.{without-length, without-every, inserted-length, inserted-every}
 use Rattle.wire.specs.Bytes.{write}
 use Rattle.sheet.specs.Accepted.{Accepted}
 use Rattle.sheet.specs.Fields.{rowsOf}
@@ -19,9 +21,9 @@ use Rattle.insertion.specs.declared.choice.Choice.the-variants.{Nowhere, Best}
 use Rattle.insertion.specs.Trial.{Unwalked, Joinable}
 use Rattle.insertion.proofs.Sliding.{brought}
 use Rattle.solomon_i1.specs.Insertion.{bestOf, Growth, growing, grown, grownBy, grow, growOn, routeIn, leftIn, roundFrom}
-use Rattle.solomon_i1.specs.Chosen.{Chosen, best-chosen}
-use Rattle.solomon_i1.specs.Grown.{stays}
-use Rattle.solomon_i1.specs.Tabled.{stopsIn}
+use Rattle.solomon_i1.specs.Laws.Chosen.{Chosen, best-chosen}
+use Rattle.solomon_i1.specs.Laws.Grown.{stays}
+use Rattle.solomon_i1.specs.Tabled.{growthStops}
 
 -- ---- rows of the sheet
 abbrev pub Row : List ℕ → ℕ → Type 0
@@ -222,7 +224,7 @@ module _ (s : List ℕ) (t : Terms) (left₀ trial₀ left trial : List ℕ) (en
     pub ends-at : end ≡ length (routeIn round)
     ends-at = rw (told .0) (g .at)
 
-    pub ends-laid : left ≡ stopsIn round
+    pub ends-laid : left ≡ growthStops round
     ends-laid = rw (told .0, told .1) (g .laid)
 
 -- ---- the seed brought to the front of the stops left

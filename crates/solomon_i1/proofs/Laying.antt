@@ -8,7 +8,8 @@ use mathlib.Core.List.{List, [], _∷_, _++_, append-assoc, append-nil}
 use lib.ListN.{length, getD, take, drop, length-append, length-drop, List·getD-append}
 use lib.Seq.{take-at, drop-at, take-append-le, drop-append-le, getD-append-add, append-snoc, drop-length}
 use Rattle.lists.specs.Every.{Every}
-use Rattle.lists.specs.Moved.{without, without-length, without-every, inserted-length}
+use Rattle.lists.specs.Moved.{without}
+use Rattle.lists.specs.Laws.Moved.{without-length, without-every, inserted-length}
 use Rattle.wire.specs.Bytes.{write}
 use Rattle.sheet.specs.Accepted.{Accepted}
 use Rattle.sheet.specs.Fields.{rowsOf}
@@ -16,15 +17,16 @@ use Rattle.evaluation.specs.Routed.{Routed}
 use Rattle.constructive.specs.declared.tables.Filled.{Filled}
 use Rattle.constructive.specs.Outcome.{Round, Outcome, chains, stopsOf}
 use Rattle.constructive.specs.Members.{part}
-use Rattle.constructive.specs.Laid.{routedIn, Room}
-use Rattle.constructive.specs.LaidLaws.{chains-aside, chains-append, length-chains, routed-append}
-use Rattle.constructive.specs.Entered.{Entered, enters-none, rounds-at, routed-at, ends-long, vehicles-long, enters-one}
+use Rattle.constructive.specs.Stored.{routedIn, Room}
+use Rattle.constructive.specs.Laws.Stored.{chains-aside, chains-append, length-chains, routed-append}
+use Rattle.constructive.specs.Entered.{Entered}
+use Rattle.constructive.specs.Laws.Entered.{enters-none, rounds-at, routed-at, ends-long, vehicles-long, enters-one}
 use Rattle.constructive.specs.declared.terms.Terms.{Terms}
 use Rattle.insertion.specs.Trial.{Joinable}
-use Rattle.solomon_i1.specs.Insertion.{seedOf, goesAlone, Growth, growing, routeIn, leftIn, roundFrom, Step, stepWith, stepFrom, stepOf, leftBy, planBy, planOn}
-use Rattle.solomon_i1.specs.Grown.{grow-on-kept}
-use Rattle.solomon_i1.specs.Planned.{seed-place, round-fewer, step-fewer, enough}
-use Rattle.solomon_i1.specs.Tabled.{stopsIn}
+use Rattle.solomon_i1.specs.Insertion.{seedOf, goesAlone, Growth, growing, routeIn, leftIn, roundFrom, Step, stepWith, stepFrom, seedStep, leftBy, planBy, planOn}
+use Rattle.solomon_i1.specs.Laws.Grown.{grow-on-kept}
+use Rattle.solomon_i1.specs.Laws.Planned.{seed-place, round-fewer, step-fewer, enough}
+use Rattle.solomon_i1.specs.Tabled.{growthStops}
 use Rattle.solomon_i1.proofs.Grows.{without-behind, joinable-so}
 
 -- ---- a seed's round and the stops that it leaves
@@ -43,17 +45,17 @@ module _ (s : List ℕ) (t : Terms) (seed : ℕ) (left : List ℕ) where
 
 -- ---- the definition, a seed further
 plan-step : (s : List ℕ) (t : Terms) (left : List ℕ) → 0 < length left
-    → planOn s t (length left) left ≡ planBy (t .vehicle) (stepOf s t left) (planOn s t (length (leftBy (stepOf s t left))) (leftBy (stepOf s t left)))
+    → planOn s t (length left) left ≡ planBy (t .vehicle) (seedStep s t left) (planOn s t (length (leftBy (seedStep s t left))) (leftBy (seedStep s t left)))
 unfolding planOn
 plan-step s t [] h = absurd (omega (arith, h))
 plan-step s t (row ∷ rows) h =
-    let x = stepOf s t (row ∷ rows) in
+    let x = seedStep s t (row ∷ rows) in
     ap (planBy (t .vehicle) x) (enough s t (length rows) (length (leftBy x)) (leftBy x) (omega (arith, step-fewer s t (row ∷ rows) (zero-lt-suc (length rows)))) (omega arith))
 
 -- so as what becomes of the seed
 plan-seed : (s : List ℕ) (t : Terms) (left : List ℕ) → 0 < length left → (seed : ℕ) → seed ≡ seedOf s (t .depot) left → (b : Bool) → goesAlone s t (getD left seed 0) ≡ b
     → let x = stepWith s t b (getD left seed 0) (without seed left) in planOn s t (length left) left ≡ planBy (t .vehicle) x (planOn s t (length (leftBy x)) (leftBy x))
-unfolding stepOf
+unfolding seedStep
 plan-seed s t left h seed e b u =
     plan-step s t left h
     ∙ ap (λ (x : Step). planBy (t .vehicle) x (planOn s t (length (leftBy x)) (leftBy x)))
@@ -267,7 +269,7 @@ module _ (s : List ℕ) (t : Terms) (stops₀ ends₀ vehicles₀ trial₀ : Lis
         abbrev round : Round
         round = record { vehicle = t .vehicle; stops = routeIn grown }
 
-        grown-so : (stops′ new : List ℕ) → new ≡ stopsIn (roundFrom s t (getD (part stops at end) seed 0) (without seed (part stops at end))) → stops′ ≡ take at stops ++ (new ++ drop (end - at) (drop at stops))
+        grown-so : (stops′ new : List ℕ) → new ≡ growthStops (roundFrom s t (getD (part stops at end) seed 0) (without seed (part stops at end))) → stops′ ≡ take at stops ++ (new ++ drop (end - at) (drop at stops))
             → stops′ ≡ chains (g .done ++ (round ∷ [])) [] ++ (leftIn grown ++ g .aside)
         unfolding chains
         grown-so stops′ new p r =
@@ -275,10 +277,10 @@ module _ (s : List ℕ) (t : Terms) (stops₀ ends₀ vehicles₀ trial₀ : Lis
             r
             ∙ ap (λ (l : List ℕ). take at l ++ (new ++ drop (end - at) (drop at l))) (g .laid)
             ∙ between routed (g .left) (g .aside) new at (end - at) routed-long k
-            ∙ ap (λ (l : List ℕ). routed ++ (l ++ g .aside)) (p ∙ ap (λ (l : List ℕ). stopsIn (roundFrom s t (getD l seed 0) (without seed l))) left-part)
+            ∙ ap (λ (l : List ℕ). routed ++ (l ++ g .aside)) (p ∙ ap (λ (l : List ℕ). growthStops (roundFrom s t (getD l seed 0) (without seed l))) left-part)
             ∙ sym (ap (λ (l : List ℕ). l ++ (leftIn grown ++ g .aside)) (chains-append (g .done) (round ∷ []) [] ∙ chains-aside (g .done) (routeIn grown ++ [])) ∙ simp (append-assoc, append-nil))
 
-        pub goes-round : (stops′ new ends′ vehicles′ trial′ : List ℕ) (f′ : Filled) → new ≡ stopsIn (roundFrom s t (getD (part stops at end) seed 0) (without seed (part stops at end)))
+        pub goes-round : (stops′ new ends′ vehicles′ trial′ : List ℕ) (f′ : Filled) → new ≡ growthStops (roundFrom s t (getD (part stops at end) seed 0) (without seed (part stops at end)))
             → stops′ ≡ take at stops ++ (new ++ drop (end - at) (drop at stops)) → length trial′ ≡ length trial → f′ ≡ record { rounds = f .rounds + 1; routed = f₀ .routed + (at + n) }
             → ends′ ≡ write ends (f .rounds) ((f₀ .routed + (at + n)) ∷ []) → vehicles′ ≡ write vehicles (f .rounds) (t .vehicle ∷ [])
             → Laying s t stops₀ ends₀ vehicles₀ trial₀ f₀ stops′ ends′ vehicles′ trial′ f′ (at + n) end

@@ -13,13 +13,13 @@ use Rattle.constructive.specs.declared.tables.Filled.{Filled}
 use Rattle.constructive.specs.declared.terms.Terms.{Terms}
 use Rattle.constructive.specs.Outcome.{stopsOf}
 use Rattle.constructive.specs.Members.{part, Members}
-use Rattle.constructive.specs.Unchecked.{unchecked-free, unchecked-windowless}
+use Rattle.constructive.specs.Laws.Unchecked.{unchecked-free, unchecked-windowless}
 use Rattle.constructive.specs.Terms.{termsOf}
-use Rattle.constructive.specs.Laid.{filledBy, Laid, Room}
+use Rattle.constructive.specs.Stored.{filledBy, Stored, Room}
 use Rattle.constructive.specs.Entered.{Entered}
 use Rattle.insertion.specs.Trial.{Joinable}
 use Rattle.solomon_i1.specs.Insertion.{planOn, solomonI1}
-use Rattle.solomon_i1.specs.Free.{unchecked-hard}
+use Rattle.solomon_i1.specs.Laws.Free.{unchecked-hard}
 
 -- all may join a round that has no stop
 members-joinable : (s : List ℕ) (depot v : ℕ) (members : List ℕ) → Routed s depot members → Joinable s (termsOf s depot v members) [] members
@@ -54,7 +54,7 @@ module _ (s : List ℕ) (depot v : ℕ) (stops ends vehicles : List ℕ) (f : Fi
     ends-filled = rw (← e) (entered .count)
 
     pub ends-laid : (new : List ℕ) → new ≡ stopsOf (planOn s t (length members) members) → length new ≡ length members
-        → Laid stops ends vehicles f (solomonI1 s depot v members) (take (f .routed) stops ++ (new ++ drop (total - f .routed) (drop (f .routed) stops))) ends′ vehicles′
+        → Stored stops ends vehicles f (solomonI1 s depot v members) (take (f .routed) stops ++ (new ++ drop (total - f .routed) (drop (f .routed) stops))) ends′ vehicles′
     unfolding solomonI1 write
     ends-laid new p k =
         let n : total - f .routed ≡ length new = omega (arith, long, k) in

@@ -7,7 +7,7 @@ use lib.ListN.{length, getD}
 use lib.Ieee.{Float, lt}
 use Rattle.lists.specs.Moved.{without, inserted}
 use Rattle.sheet.specs.Values.{nought, demandOf, distanceOf}
-use Rattle.constructive.specs.Outcome.{Outcome}
+use Rattle.constructive.specs.Outcome.{Outcome, emptyOutcome}
 use Rattle.constructive.specs.declared.terms.Terms.{Terms}
 use Rattle.constructive.specs.Terms.{termsOf}
 use Rattle.insertion.specs.declared.choice.Choice.{Choice}
@@ -100,8 +100,8 @@ stepWith s t true seed left =
 abbrev pub stepFrom : List ℕ → Terms → ℕ → List ℕ → Step
 stepFrom s t seed left = stepWith s t (goesAlone s t seed) seed left
 
-unfoldable pub stepOf : List ℕ → Terms → List ℕ → Step
-stepOf s t left =
+unfoldable pub seedStep : List ℕ → Terms → List ℕ → Step
+seedStep s t left =
     let j = seedOf s (t .depot) left in
     stepFrom s t (getD left j 0) (without j left)
 
@@ -114,15 +114,12 @@ abbrev pub planBy : ℕ → Step → Outcome → Outcome
 planBy v (lone seed left) o = record { rounds = o .rounds; aside = seed ∷ (o .aside) }
 planBy v (closed route left) o = record { rounds = record { vehicle = v; stops = route } ∷ (o .rounds); aside = o .aside }
 
-abbrev pub nothing : Outcome
-nothing = record { rounds = []; aside = [] }
-
 -- n seeds
 unfoldable pub planOn : List ℕ → Terms → ℕ → List ℕ → Outcome
-planOn s t zero left = nothing
-planOn s t (suc n) [] = nothing
+planOn s t zero left = emptyOutcome
+planOn s t (suc n) [] = emptyOutcome
 planOn s t (suc n) (row ∷ rows) =
-    let x = stepOf s t (row ∷ rows) in
+    let x = seedStep s t (row ∷ rows) in
     planBy (t .vehicle) x (planOn s t n (leftBy x))
 
 -- "Savings, insertion and sweep use the depot's first vehicle for all rounds": v is its index. Each seed leaves a stop less.

@@ -1,14 +1,5 @@
 pub mod Insertion
-pub mod Cases
-pub mod Free
-pub mod Chosen
-pub mod Grown
-pub mod Planned
-pub mod Permutation
-pub mod Feasible
-pub mod Alone
 pub mod Later
-pub mod First
-pub mod Closed
 pub mod Tabled
 pub mod Figures
+pub mod Laws

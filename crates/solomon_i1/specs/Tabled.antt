@@ -4,5 +4,5 @@ use mathlib.Core.List.{List, _++_}
 use Rattle.solomon_i1.specs.Insertion.{Growth, routeIn, leftIn}
 
 -- its stops first, then those that are left
-abbrev pub stopsIn : Growth → List ℕ
-stopsIn g = routeIn g ++ leftIn g
+abbrev pub growthStops : Growth → List ℕ
+growthStops g = routeIn g ++ leftIn g

@@ -9,13 +9,14 @@ ghost use mathlib.Core.Path.{_≡_};
 ghost use mathlib.Core.List.{[]};
 ghost use Prim.Native.Nat.{_+_, _≤_, _<_};
 ghost use lib.ListN.{length, getD, take, drop};
+ghost use Rattle.sheet.specs.Fields.{mostRows};
 ghost use Rattle.lists.specs.Moved.{without};
 ghost use Rattle.constructive.specs.Outcome.{stopsOf};
-ghost use Rattle.constructive.specs.Laid.{Room};
+ghost use Rattle.constructive.specs.Stored.{Room};
 ghost use Rattle.constructive.specs.Entered.{Entered};
 ghost use Rattle.insertion.specs.Trial.{Joinable};
 ghost use Rattle.solomon_i1.specs.Insertion.{bestOf, roundFrom, routeIn, planOn};
-ghost use Rattle.solomon_i1.specs.Tabled.{stopsIn};
+ghost use Rattle.solomon_i1.specs.Tabled.{growthStops};
 
 // The best insertion of a stop from `end` on into the round of those before it.
 fn best_joining(sheet: &[u8], terms: Terms, stops: &[u16], end: usize, trial: &mut [u16]) -> Choice
@@ -38,7 +39,7 @@ fn grow_round(sheet: &[u8], terms: Terms, left: &mut [u16], trial: &mut [u16]) -
     requires { ⌜ Joinable (now sheet) terms [] (now left) ⌝ }
     requires { ⌜ (0 < length (now left)) × (length (now left) ≤ length (now trial)) ⌝ }
     ensures { λ r. ⌜ r ≡ length (routeIn (roundFrom (now (sheet .entry)) terms (getD (now (left .entry)) 0 0) (drop 1 (now (left .entry))))) ⌝ }
-    ensures { λ _. ⌜ now (left .exit) ≡ stopsIn (roundFrom (now (sheet .entry)) terms (getD (now (left .entry)) 0 0) (drop 1 (now (left .entry)))) ⌝ }
+    ensures { λ _. ⌜ now (left .exit) ≡ growthStops (roundFrom (now (sheet .entry)) terms (getD (now (left .entry)) 0 0) (drop 1 (now (left .entry)))) ⌝ }
 {
     let mut end = 1;
     while end < left.len() {
@@ -56,7 +57,7 @@ fn open_round(sheet: &[u8], terms: Terms, left: &mut [u16], seed: usize, trial: 
     requires { ⌜ Joinable (now sheet) terms [] (now left) ⌝ }
     requires { ⌜ (seed < length (now left)) × (length (now left) ≤ length (now trial)) ⌝ }
     ensures { λ r. ⌜ r ≡ length (routeIn (roundFrom (now (sheet .entry)) terms (getD (now (left .entry)) seed 0) (without seed (now (left .entry))))) ⌝ }
-    ensures { λ _. ⌜ now (left .exit) ≡ stopsIn (roundFrom (now (sheet .entry)) terms (getD (now (left .entry)) seed 0) (without seed (now (left .entry)))) ⌝ }
+    ensures { λ _. ⌜ now (left .exit) ≡ growthStops (roundFrom (now (sheet .entry)) terms (getD (now (left .entry)) seed 0) (without seed (now (left .entry)))) ⌝ }
 {
     tables::bring(left, 0, seed);
     grow_round(sheet, terms, left, trial)
@@ -74,7 +75,7 @@ pub fn lay_rounds(
     filled: Filled,
 ) -> Filled
     requires { ⌜ Joinable (now sheet) terms [] (now stops) ⌝ }
-    requires { ⌜ (filled .routed + length (now stops) ≤ 101) × (length (now stops) ≤ length (now trial)) ⌝ }
+    requires { ⌜ (filled .routed + length (now stops) ≤ mostRows) × (length (now stops) ≤ length (now trial)) ⌝ }
     requires { ⌜ Room (now ends) (now vehicles) filled (filled .routed + length (now stops)) ⌝ }
     ensures { λ r. ⌜ Entered (now (ends .entry)) (now (vehicles .entry)) filled (planOn (now (sheet .entry)) terms (length (now (stops .entry))) (now (stops .entry)) .rounds) (now (ends .exit)) (now (vehicles .exit)) r ⌝ }
     ensures { λ _. ⌜ now (stops .exit) ≡ stopsOf (planOn (now (sheet .entry)) terms (length (now (stops .entry))) (now (stops .entry))) ⌝ }

@@ -18,7 +18,7 @@ ghost use Rattle.sheet.specs.Fields.{rowsOf};
 ghost use Rattle.evaluation.specs.Routed.{Routed};
 ghost use Rattle.constructive.specs.Load.{loadOf};
 ghost use Rattle.insertion.specs.declared.choice.Choice.the-variants.{Nowhere};
-ghost use Rattle.insertion.specs.Place.{prevAt, nextAt, detour, judge, better, tryPlaces};
+ghost use Rattle.insertion.specs.Place.{rowBefore, rowAfter, detour, judge, betterPlace, tryPlaces};
 ghost use Rattle.insertion.specs.Trial.{Trial, Joinable, softCost, aloneCost, pricesOf, judgeTrial};
 ghost use Rattle.solomon_i1.specs.Insertion.{tryStop, tryStops, bestOf};
 ghost use Rattle.solomon_i1.specs.Figures.{figuresOf};
@@ -58,7 +58,7 @@ fn weigh(
     k: usize,
 ) -> Choice
     requires { ⌜ Routed (now sheet) (terms .depot) (now trial) ⌝ }
-    ensures { λ r. ⌜ r ≡ better best j k (judgeTrial (now (sheet .entry)) terms prices (now (trial .entry))) ⌝ }
+    ensures { λ r. ⌜ r ≡ betterPlace best j k (judgeTrial (now (sheet .entry)) terms prices (now (trial .entry))) ⌝ }
 {
     let limits = terms.limits;
     let eval = evaluation::route_eval(sheet, trial, terms.depot, limits);
@@ -86,7 +86,7 @@ fn try_hard(
     requires { ⌜ Joinable (now sheet) terms (now route) (row ∷ []) ⌝ }
     requires { ⌜ Trial (now route) row (tried .at) (now trial) ⌝ }
     requires { ⌜ (terms .soft ≡ false) × (k ≤ length (now route)) ⌝ }
-    ensures { λ r. ⌜ r .choice ≡ better (tried .choice) j k (judge (now (sheet .entry)) terms (now (route .entry)) row k) ⌝ }
+    ensures { λ r. ⌜ r .choice ≡ betterPlace (tried .choice) j k (judge (now (sheet .entry)) terms (now (route .entry)) row k) ⌝ }
     ensures { λ r. ⌜ Trial (now (route .entry)) row (r .at) (now (trial .exit)) ⌝ }
 {
     let best = tried.choice;
@@ -127,7 +127,7 @@ fn try_place(
     requires { ⌜ Joinable (now sheet) terms (now route) (row ∷ []) ⌝ }
     requires { ⌜ Trial (now route) row (tried .at) (now trial) ⌝ }
     requires { ⌜ (prices ≡ pricesOf (now sheet) terms (now route) row) × (k ≤ length (now route)) ⌝ }
-    ensures { λ r. ⌜ r .choice ≡ better (tried .choice) j k (judge (now (sheet .entry)) terms (now (route .entry)) row k) ⌝ }
+    ensures { λ r. ⌜ r .choice ≡ betterPlace (tried .choice) j k (judge (now (sheet .entry)) terms (now (route .entry)) row k) ⌝ }
     ensures { λ r. ⌜ Trial (now (route .entry)) row (r .at) (now (trial .exit)) ⌝ }
 {
     if !terms.soft {

@@ -7,23 +7,25 @@ use mathlib.Core.Bool.{Bool, true, false}
 use mathlib.Core.List.{List, [], _∷_, _++_, append-assoc, append-nil}
 use lib.ListN.{length, getD, take, drop, length-append}
 use lib.Seq.{take-take, take-append-seam, drop-append-add, drop-drop, getD-append-seam, append-snoc}
-use Rattle.lists.specs.Every.{Every, every-of, every-at, every-append}
+use Rattle.lists.specs.Every.{Every}
+use Rattle.lists.specs.Laws.Every.{every-of, every-at, every-append}
 use Rattle.wire.specs.Bytes.{write}
-use Rattle.wire.specs.Overwrite.{write-same}
+use Rattle.wire.specs.Laws.Overwrite.{write-same}
 use Rattle.sheet.specs.Fields.{rowsOf}
 use Rattle.sheet.specs.Values.{demandOf}
 use Rattle.constructive.specs.declared.tables.Filled.{Filled}
 use Rattle.constructive.specs.declared.terms.Terms.{Terms}
 use Rattle.constructive.specs.Outcome.{Round, Outcome, chains}
-use Rattle.constructive.specs.Load.{loadOf, load-append}
+use Rattle.constructive.specs.Load.{loadOf}
+use Rattle.constructive.specs.Laws.Load.{load-append}
 use Rattle.constructive.specs.Members.{part, Members}
-use Rattle.constructive.specs.Laid.{endsFrom, vehiclesFrom, routedIn, filledBy, Laid, Room}
-use Rattle.constructive.specs.LaidLaws.{routed-append}
-use Rattle.constructive.specs.Closing.{laid-stops, laid-aside, laid-ends, laid-vehicles, laid-reordered, round-laid, round-counted}
+use Rattle.constructive.specs.Stored.{endsFrom, vehiclesFrom, routedIn, filledBy, Stored, Room}
+use Rattle.constructive.specs.Laws.Stored.{routed-append}
+use Rattle.constructive.specs.Laws.Closing.{laid-stops, laid-aside, laid-ends, laid-vehicles, laid-reordered, round-laid, round-counted}
 use Rattle.sweep.specs.declared.rounds.Packing.{Packing}
-use Rattle.sweep.specs.Sweep.{hopeless, closes, Swept, roundOf, step, stepped, sweptFrom, nothing, last, finished, sweptBy}
-use Rattle.sweep.specs.Feasible.{closes-some}
-use Rattle.sweep.specs.Met.{routeIn, nextIn, Midway, packedBy, stopsBy, entriesBy, Met}
+use Rattle.sweep.specs.Sweep.{unservable, closes, Swept, sweptRound, step, stepped, sweptFrom, nothingSwept, lastRound, finished, sweptBy}
+use Rattle.sweep.specs.Laws.Feasible.{closes-some}
+use Rattle.sweep.specs.Met.{openRoute, nextIn, Midway, packedBy, stopsBy, entriesBy, Met}
 use Rattle.sweep.proofs.Parts.{part-long, part-at, drop-part}
 
 -- what is swept so far, with the stops not met yet, as it stands in the tables
@@ -31,7 +33,7 @@ abbrev standing : Swept → List ℕ → Outcome
 standing x left = record { rounds = x .closed; aside = x .route ++ (left ++ x .aside) }
 
 pub record Standing (s stops₀ ends₀ vehicles₀ : List ℕ) (f₀ : Filled) (total : ℕ) (stops ends vehicles : List ℕ) (p : Packing) (x : Swept) (left : List ℕ) : Type 0 where
-  pub laid : Laid stops₀ ends₀ vehicles₀ f₀ (standing x left) stops ends vehicles
+  pub laid : Stored stops₀ ends₀ vehicles₀ f₀ (standing x left) stops ends vehicles
   pub count : p .filled ≡ filledBy f₀ (x .closed)
   pub ends-at : p .end ≡ p .filled .routed + length (x .route)
   pub meets-to : p .mid ≡ p .end + length left
@@ -46,7 +48,7 @@ pub record Filling (s : List ℕ) (t : Terms) (stops₀ ends₀ vehicles₀ : Li
   pub so : Swept
   pub left : List ℕ
   pub stands : Standing s stops₀ ends₀ vehicles₀ f₀ total stops ends vehicles p so left
-  pub same : sweptFrom s t nothing (part stops₀ (f₀ .routed) total) ≡ sweptFrom s t so left
+  pub same : sweptFrom s t nothingSwept (part stops₀ (f₀ .routed) total) ≡ sweptFrom s t so left
 
 -- ---- what is laid down at first: the stops, none of them met yet
 pub begins : (s : List ℕ) (t : Terms) (stops ends vehicles : List ℕ) (f : Filled) (total : ℕ) → Members s (t .depot) stops (f .routed) total → Room ends vehicles f total
@@ -58,7 +60,7 @@ begins s t stops ends vehicles f total ok room =
     record {
       members = ok;
       room = room;
-      so = nothing;
+      so = nothingSwept;
       left = all;
       stands = record {
         laid = record {
@@ -111,7 +113,7 @@ module _ (s : List ℕ) (t : Terms) (stops₀ ends₀ vehicles₀ : List ℕ) (f
       ∙ ap (λ (m : ℕ). take (length tail) (drop m stops)) routed-so
       ∙ laid-aside stops₀ ends₀ vehicles₀ f₀ (x .closed) tail stops ends vehicles (g .laid) within
 
-  route-part : routeIn stops p ≡ x .route
+  route-part : openRoute stops p ≡ x .route
   route-part =
       let n : p .end - p .filled .routed ≡ length (x .route) = omega (arith, g .ends-at) in
       ap (λ (m : ℕ). take m (drop (p .filled .routed) stops)) n
@@ -220,10 +222,10 @@ module _ (s : List ℕ) (t : Terms) (stops₀ ends₀ vehicles₀ : List ℕ) (f
   -- the round closes, and the stop begins the next
   closed-stands : 0 < length (x .route)
       → Standing s stops₀ ends₀ vehicles₀ f₀ total stops (write ends (p .filled .rounds) (p .end ∷ [])) (write vehicles (p .filled .rounds) (t .vehicle ∷ []))
-      (record { filled = record { rounds = p .filled .rounds + 1; routed = p .end }; end = p .end + 1; load = demandOf s row; mid = p .mid }) (record { closed = x .closed ++ (roundOf t (x .route) ∷ []); route = row ∷ []; aside = x .aside }) rows
+      (record { filled = record { rounds = p .filled .rounds + 1; routed = p .end }; end = p .end + 1; load = demandOf s row; mid = p .mid }) (record { closed = x .closed ++ (sweptRound t (x .route) ∷ []); route = row ∷ []; aside = x .aside }) rows
   unfolding routedIn loadOf
   closed-stands some =
-      let r = roundOf t (x .route) in
+      let r = sweptRound t (x .route) in
       let enough = rounds-so s t stops₀ ends₀ vehicles₀ f₀ total stops ends vehicles p ok room x (row ∷ rows) g in
       record {
         laid =
@@ -265,20 +267,20 @@ module _ (s : List ℕ) (t : Terms) (stops₀ ends₀ vehicles₀ : List ℕ) (f
   pub goes : (stops′ ends′ vehicles′ : List ℕ) (p′ : Packing) → Met s t total stops ends vehicles p stops′ ends′ vehicles′ p′ → Standing s stops₀ ends₀ vehicles₀ f₀ total stops′ ends′ vehicles′ p′ (stepped s t x row) rows
   unfolding stepped
   goes stops′ ends′ vehicles′ p′ m =
-      let h = hopeless s t row in
+      let h = unservable s t row in
       let c = closes s t (x .route) row in
       let route-is = route-part s t stops₀ ends₀ vehicles₀ f₀ total stops ends vehicles p ok room x (row ∷ rows) g in
       let both : (l : List ℕ) → l ≡ x .route → (n : ℕ) → n ≡ row → closes s t l n ≡ c = λ l a n b. rw (a, b) in
-      let now = both (routeIn stops p) route-is (nextIn stops p) next-is in
-      let first = ap (hopeless s t) next-is in
+      let now = both (openRoute stops p) route-is (nextIn stops p) next-is in
+      let first = ap (unservable s t) next-is in
       let a : stops′ ≡ stopsBy h stops (p .end) total = m .stopped ∙ ap (λ (b : Bool). stopsBy b stops (p .end) total) first in
       let b : ends′ ≡ entriesBy h c ends (p .filled .rounds) (p .end) =
-      m .ended ∙ ap (λ (b : Bool). entriesBy b (closes s t (routeIn stops p) (nextIn stops p)) ends (p .filled .rounds) (p .end)) first ∙ ap (λ (b : Bool). entriesBy h b ends (p .filled .rounds) (p .end)) now in
+      m .ended ∙ ap (λ (b : Bool). entriesBy b (closes s t (openRoute stops p) (nextIn stops p)) ends (p .filled .rounds) (p .end)) first ∙ ap (λ (b : Bool). entriesBy h b ends (p .filled .rounds) (p .end)) now in
       let d : vehicles′ ≡ entriesBy h c vehicles (p .filled .rounds) (t .vehicle) =
-      m .driven ∙ ap (λ (b : Bool). entriesBy b (closes s t (routeIn stops p) (nextIn stops p)) vehicles (p .filled .rounds) (t .vehicle)) first ∙ ap (λ (b : Bool). entriesBy h b vehicles (p .filled .rounds) (t .vehicle)) now in
+      m .driven ∙ ap (λ (b : Bool). entriesBy b (closes s t (openRoute stops p) (nextIn stops p)) vehicles (p .filled .rounds) (t .vehicle)) first ∙ ap (λ (b : Bool). entriesBy h b vehicles (p .filled .rounds) (t .vehicle)) now in
       let e : p′ ≡ packedBy h c p (demandOf s row) =
       m .packed
-      ∙ ap (λ (b : Bool). packedBy b (closes s t (routeIn stops p) (nextIn stops p)) p (demandOf s (nextIn stops p))) first
+      ∙ ap (λ (b : Bool). packedBy b (closes s t (openRoute stops p) (nextIn stops p)) p (demandOf s (nextIn stops p))) first
       ∙ ap (λ (b : Bool). packedBy h b p (demandOf s (nextIn stops p))) now
       ∙ ap (λ (n : ℕ). packedBy h c p (demandOf s n)) next-is in
       rw (a, b, d, e) (met-stands h c refl)
@@ -290,7 +292,7 @@ nil (x ∷ xs) z = absurd (omega arith)
 -- fewer stops are left
 pub falls : (s : List ℕ) (t : Terms) (total : ℕ) (stops ends vehicles : List ℕ) (p : Packing) (stops′ ends′ vehicles′ : List ℕ) (p′ : Packing) → p .end < p .mid → Met s t total stops ends vehicles p stops′ ends′ vehicles′ p′ → p′ .mid - p′ .end < p .mid - p .end
 falls s t total stops ends vehicles p stops′ ends′ vehicles′ p′ l m =
-    rw (m .packed) (go (hopeless s t (nextIn stops p)) (closes s t (routeIn stops p) (nextIn stops p)) (demandOf s (nextIn stops p)))
+    rw (m .packed) (go (unservable s t (nextIn stops p)) (closes s t (openRoute stops p) (nextIn stops p)) (demandOf s (nextIn stops p)))
   where
     go : (h c : Bool) (d : ℕ) → packedBy h c p d .mid - packedBy h c p d .end < p .mid - p .end
     go true c d = omega arith
@@ -320,7 +322,7 @@ module _ (s : List ℕ) (t : Terms) (stops₀ ends₀ vehicles₀ : List ℕ) (f
   unfolding sweptFrom
   goes-on h stops′ ends′ vehicles′ p′ m = go (g .left) (g .stands) (g .same)
     where
-      go : (left : List ℕ) → Standing s stops₀ ends₀ vehicles₀ f₀ total stops ends vehicles p (g .so) left → sweptFrom s t nothing (part stops₀ (f₀ .routed) total) ≡ sweptFrom s t (g .so) left → Filling s t stops₀ ends₀ vehicles₀ f₀ total stops′ ends′ vehicles′ p′
+      go : (left : List ℕ) → Standing s stops₀ ends₀ vehicles₀ f₀ total stops ends vehicles p (g .so) left → sweptFrom s t nothingSwept (part stops₀ (f₀ .routed) total) ≡ sweptFrom s t (g .so) left → Filling s t stops₀ ends₀ vehicles₀ f₀ total stops′ ends′ vehicles′ p′
       go [] k e = absurd (omega (arith, k .meets-to))
       go (row ∷ rows) k e = record {
         members = g .members;
@@ -352,9 +354,9 @@ module _ (s : List ℕ) (t : Terms) (stops₀ ends₀ vehicles₀ : List ℕ) (f
       no-route = nil (g .so .route) (omega (arith, stands-so .ends-at))
 
       outcome-so : outcome ≡ record { rounds = g .so .closed; aside = g .so .aside }
-      outcome-so = outcome-is ∙ ap (λ (l : List ℕ). record { rounds = g .so .closed ++ last t l; aside = g .so .aside }) no-route ∙ ap (λ (rs : List Round). record { rounds = rs; aside = g .so .aside }) (append-nil (g .so .closed))
+      outcome-so = outcome-is ∙ ap (λ (l : List ℕ). record { rounds = g .so .closed ++ lastRound t l; aside = g .so .aside }) no-route ∙ ap (λ (rs : List Round). record { rounds = rs; aside = g .so .aside }) (append-nil (g .so .closed))
 
-      pub ends-laid : (p .filled ≡ filledBy f₀ (outcome .rounds)) × Laid stops₀ ends₀ vehicles₀ f₀ outcome stops ends vehicles
+      pub ends-laid : (p .filled ≡ filledBy f₀ (outcome .rounds)) × Stored stops₀ ends₀ vehicles₀ f₀ outcome stops ends vehicles
       ends-laid = rw outcome-so (stands-so .count, rw no-route at (stands-so .laid))
 
     -- or the last round is closed
@@ -373,18 +375,18 @@ module _ (s : List ℕ) (t : Terms) (stops₀ ends₀ vehicles₀ : List ℕ) (f
           let a = stands-so .all in
           ((omega (arith, has-some, room-now .rounds, room-now .ended), omega (arith, has-some, room-now .rounds, room-now .driven)), omega (arith, g .members .most))
 
-      outcome-more : outcome ≡ record { rounds = g .so .closed ++ (roundOf t (g .so .route) ∷ []); aside = g .so .aside }
+      outcome-more : outcome ≡ record { rounds = g .so .closed ++ (sweptRound t (g .so .route) ∷ []); aside = g .so .aside }
       outcome-more = outcome-is ∙ ap (λ (rs : List Round). record { rounds = g .so .closed ++ rs; aside = g .so .aside }) (go (g .so .route) has-some)
         where
-          go : (route : List ℕ) → 0 < length route → last t route ≡ roundOf t route ∷ []
+          go : (route : List ℕ) → 0 < length route → lastRound t route ≡ sweptRound t route ∷ []
           go [] l = absurd (omega arith)
           go (i ∷ is) l = refl
 
       pub ends-closed : (ends′ vehicles′ : List ℕ) (f′ : Filled) → f′ ≡ record { rounds = p .filled .rounds + 1; routed = p .end } → ends′ ≡ write ends (p .filled .rounds) (p .end ∷ []) → vehicles′ ≡ write vehicles (p .filled .rounds) (t .vehicle ∷ [])
-          → (f′ ≡ filledBy f₀ (outcome .rounds)) × Laid stops₀ ends₀ vehicles₀ f₀ outcome stops ends′ vehicles′
+          → (f′ ≡ filledBy f₀ (outcome .rounds)) × Stored stops₀ ends₀ vehicles₀ f₀ outcome stops ends′ vehicles′
       ends-closed ends′ vehicles′ f′ u q r =
           let k = stands-so in
-          let v = roundOf t (g .so .route) in
+          let v = sweptRound t (g .so .route) in
           rw outcome-more (
             u ∙ round-counted stops₀ ends₀ vehicles₀ f₀ (g .so .closed) v (g .so .aside) stops ends vehicles (p .filled) (k .laid) (k .count) (p .end) (k .ends-at),
             round-laid stops₀ ends₀ vehicles₀ f₀ (g .so .closed) v (g .so .aside) stops ends vehicles (p .filled) (k .laid) (k .count) (p .end) (k .ends-at) ends′ vehicles′

@@ -14,8 +14,8 @@ use Rattle.constructive.specs.declared.terms.Terms.{Terms}
 use Rattle.constructive.specs.Load.{loadOf}
 use Rattle.constructive.specs.Members.{part, Members}
 use Rattle.sweep.specs.declared.rounds.Packing.{Packing}
-use Rattle.sweep.specs.Sweep.{hopeless, closes}
-use Rattle.sweep.specs.Met.{routeIn, nextIn, Midway, Met}
+use Rattle.sweep.specs.Sweep.{unservable, closes}
+use Rattle.sweep.specs.Met.{openRoute, nextIn, Midway, Met}
 use Rattle.sweep.proofs.Parts.{last-row, routed-part, carried}
 
 -- ---- what the tests ask
@@ -33,31 +33,31 @@ module _ (s stops : List ℕ) (depot : ℕ) (p : Packing) (total : ℕ) (ok : Me
     pub alone-asks : Routed s depot (part stops (p .end) (p .end + 1)) × ((p .end < length stops) × (d ≡ demandOf s (nextIn stops p)))
     alone-asks = (routed-part s depot stops (p .filled .routed) total (p .end) (p .end + 1) ok (w .from) (omega arith) (omega (arith, w .next, w .within)), (inside, u))
 
-    pub closing-asks : Routed s depot (part stops (p .filled .routed) (p .end + 1)) × (((p .filled .routed ≤ p .end) × (p .end < length stops)) × (p .load + d ≡ loadOf s (routeIn stops p) + demandOf s (nextIn stops p)))
+    pub closing-asks : Routed s depot (part stops (p .filled .routed) (p .end + 1)) × (((p .filled .routed ≤ p .end) × (p .end < length stops)) × (p .load + d ≡ loadOf s (openRoute stops p) + demandOf s (nextIn stops p)))
     closing-asks = (longer, ((w .from, inside), omega (arith, w .load, u)))
 
     pub load-fits : p .load + d ≤ 101000000
     load-fits = omega (arith, carried s depot stops (p .filled .routed) (p .end) (w .from) inside longer, w .load, u)
 
 -- ---- what becomes of the stop
-module _ (s : List ℕ) (t : Terms) (total : ℕ) (stops ends vehicles : List ℕ) (p : Packing) (h : Bool) (e : h ≡ hopeless s t (nextIn stops p)) where
+module _ (s : List ℕ) (t : Terms) (total : ℕ) (stops ends vehicles : List ℕ) (p : Packing) (h : Bool) (e : h ≡ unservable s t (nextIn stops p)) where
   pub goes-aside : h ≡ true → (stops′ : List ℕ) → stops′ ≡ write stops (p .end) (part stops (p .end + 1) total ++ (nextIn stops p ∷ []))
       → Met s t total stops ends vehicles p stops′ ends vehicles (record { filled = p .filled; end = p .end; load = p .load; mid = p .mid - 1 })
   goes-aside f stops′ q =
-      let y : hopeless s t (nextIn stops p) ≡ true = sym e ∙ f in
+      let y : unservable s t (nextIn stops p) ≡ true = sym e ∙ f in
       record { packed = rw y; stopped = rw y q; ended = rw y; driven = rw y }
 
-  module _ (f : h ≡ false) (c : Bool) (g : c ≡ closes s t (routeIn stops p) (nextIn stops p)) (d : ℕ) (u : d ≡ demandOf s (nextIn stops p)) where
-    y : hopeless s t (nextIn stops p) ≡ false
+  module _ (f : h ≡ false) (c : Bool) (g : c ≡ closes s t (openRoute stops p) (nextIn stops p)) (d : ℕ) (u : d ≡ demandOf s (nextIn stops p)) where
+    y : unservable s t (nextIn stops p) ≡ false
     y = sym e ∙ f
 
     pub begins-round : c ≡ true → (ends′ vehicles′ : List ℕ) (closed : Filled) → closed ≡ record { rounds = p .filled .rounds + 1; routed = p .end } → ends′ ≡ write ends (p .filled .rounds) (p .end ∷ []) → vehicles′ ≡ write vehicles (p .filled .rounds) (t .vehicle ∷ [])
         → Met s t total stops ends vehicles p stops ends′ vehicles′ (record { filled = closed; end = p .end + 1; load = d; mid = p .mid })
     begins-round x ends′ vehicles′ closed k q r =
-        let z : closes s t (routeIn stops p) (nextIn stops p) ≡ true = sym g ∙ x in
+        let z : closes s t (openRoute stops p) (nextIn stops p) ≡ true = sym g ∙ x in
         record { packed = rw (y, z, k, u); stopped = rw y; ended = rw (y, z) q; driven = rw (y, z) r }
 
     pub joins-round : c ≡ false → Met s t total stops ends vehicles p stops ends vehicles (record { filled = p .filled; end = p .end + 1; load = p .load + d; mid = p .mid })
     joins-round x =
-        let z : closes s t (routeIn stops p) (nextIn stops p) ≡ false = sym g ∙ x in
+        let z : closes s t (openRoute stops p) (nextIn stops p) ≡ false = sym g ∙ x in
         record { packed = rw (y, z, u); stopped = rw y; ended = rw (y, z); driven = rw (y, z) }

@@ -5,14 +5,16 @@ use native.Mathlib.Omega.{arith}
 use mathlib.Core.List.{List, [], _∷_, _++_, append-assoc}
 use lib.ListN.{length, getD, take, drop, length-append, length-drop, take-append-drop}
 use lib.Seq.{length-take-le, take-suc, getD-drop, getD-take, take-take, take-add, drop-at, drop-append-le}
-use Rattle.lists.specs.Every.{Every, every-of}
+use Rattle.lists.specs.Every.{Every}
+use Rattle.lists.specs.Laws.Every.{every-of}
 use Rattle.wire.specs.Bytes.{write}
 use Rattle.sheet.specs.Fields.{rowsOf}
-use Rattle.sheet.specs.Finite.{demand-bounded}
+use Rattle.sheet.specs.Laws.Finite.{demand-bounded}
 use Rattle.sheet.specs.Accepted.{Accepted}
 use Rattle.sheet.specs.Values.{demandOf}
 use Rattle.evaluation.specs.Routed.{Routed}
-use Rattle.constructive.specs.Load.{loadOf, load-append}
+use Rattle.constructive.specs.Load.{loadOf}
+use Rattle.constructive.specs.Laws.Load.{load-append}
 use Rattle.constructive.specs.Members.{part, Members}
 
 pub part-none : (stops : List ℕ) (at : ℕ) → part stops at at ≡ []

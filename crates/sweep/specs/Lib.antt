@@ -1,9 +1,4 @@
 pub mod Angle
-pub mod Products
-pub mod Order
-pub mod Bounds
 pub mod Sweep
 pub mod Met
-pub mod Permutation
-pub mod Feasible
-pub mod Cases
+pub mod Laws

@@ -10,11 +10,11 @@ use Rattle.constructive.specs.declared.terms.Terms.{Terms}
 use Rattle.constructive.specs.Load.{loadOf}
 use Rattle.constructive.specs.Members.{part}
 use Rattle.sweep.specs.declared.rounds.Packing.{Packing}
-use Rattle.sweep.specs.Sweep.{hopeless, closes}
+use Rattle.sweep.specs.Sweep.{unservable, closes}
 
 -- the round that is being filled, and the next stop, right behind it
-abbrev pub routeIn : List ℕ → Packing → List ℕ
-routeIn stops p = part stops (p .filled .routed) (p .end)
+abbrev pub openRoute : List ℕ → Packing → List ℕ
+openRoute stops p = part stops (p .filled .routed) (p .end)
 
 abbrev pub nextIn : List ℕ → Packing → ℕ
 nextIn stops p = getD stops (p .end) 0
@@ -24,7 +24,7 @@ pub record Midway (s stops : List ℕ) (p : Packing) (total : ℕ) : Type 0 wher
   pub from : p .filled .routed ≤ p .end
   pub next : p .end < p .mid
   pub within : p .mid ≤ total
-  pub load : p .load ≡ loadOf s (routeIn stops p)
+  pub load : p .load ≡ loadOf s (openRoute stops p)
 
 -- ---- a stop met, by whether it is set aside, and by whether the round closes before it
 -- it asks d
@@ -46,7 +46,7 @@ entriesBy false false table k x = table
 
 -- the tables before, how far they were packed, the tables after
 pub record Met (s : List ℕ) (t : Terms) (total : ℕ) (stops ends vehicles : List ℕ) (p : Packing) (stops′ ends′ vehicles′ : List ℕ) (p′ : Packing) : Type 0 where
-  pub packed : p′ ≡ packedBy (hopeless s t (nextIn stops p)) (closes s t (routeIn stops p) (nextIn stops p)) p (demandOf s (nextIn stops p))
-  pub stopped : stops′ ≡ stopsBy (hopeless s t (nextIn stops p)) stops (p .end) total
-  pub ended : ends′ ≡ entriesBy (hopeless s t (nextIn stops p)) (closes s t (routeIn stops p) (nextIn stops p)) ends (p .filled .rounds) (p .end)
-  pub driven : vehicles′ ≡ entriesBy (hopeless s t (nextIn stops p)) (closes s t (routeIn stops p) (nextIn stops p)) vehicles (p .filled .rounds) (t .vehicle)
+  pub packed : p′ ≡ packedBy (unservable s t (nextIn stops p)) (closes s t (openRoute stops p) (nextIn stops p)) p (demandOf s (nextIn stops p))
+  pub stopped : stops′ ≡ stopsBy (unservable s t (nextIn stops p)) stops (p .end) total
+  pub ended : ends′ ≡ entriesBy (unservable s t (nextIn stops p)) (closes s t (openRoute stops p) (nextIn stops p)) ends (p .filled .rounds) (p .end)
+  pub driven : vehicles′ ≡ entriesBy (unservable s t (nextIn stops p)) (closes s t (openRoute stops p) (nextIn stops p)) vehicles (p .filled .rounds) (t .vehicle)

@@ -4,7 +4,7 @@ ghost use Prim.Native.Nat.{_<_};
 ghost use lib.IntN.{_-ℤ_};
 ghost use Rattle.sheet.specs.Fields.{rowsOf};
 ghost use Rattle.sheet.specs.Accepted.{Accepted};
-ghost use Rattle.sweep.specs.Angle.{directionOf, Short, partOf, turnsLeft, below, before};
+ghost use Rattle.sweep.specs.Angle.{directionOf, Short, partOf, turnsLeft, below, sweepsBefore};
 
 // From the depot to a stop.
 pub struct Direction {
@@ -76,7 +76,7 @@ fn is_below(a: Direction, b: Direction) -> bool
 pub fn is_before(sheet: &[u8], depot: usize, a: u16, b: u16) -> bool
     requires { ⌜ Accepted (now sheet) ⌝ }
     requires { ⌜ (depot < rowsOf (now sheet)) × ((a < rowsOf (now sheet)) × (b < rowsOf (now sheet))) ⌝ }
-    ensures { λ r. ⌜ r ≡ before (now (sheet .entry)) depot a b ⌝ }
+    ensures { λ r. ⌜ r ≡ sweepsBefore (now (sheet .entry)) depot a b ⌝ }
 {
     is_below(
         direction_to(sheet, depot, a as usize),

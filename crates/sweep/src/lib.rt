@@ -8,7 +8,7 @@ use constructive::terms;
 ghost use mathlib.Core.Path.{_≡_};
 ghost use Prim.Native.Nat.{_<_};
 ghost use Rattle.sheet.specs.Fields.{vehiclesOf};
-ghost use Rattle.constructive.specs.Laid.{Laid, Room, filledBy};
+ghost use Rattle.constructive.specs.Stored.{Stored, Room, filledBy};
 ghost use Rattle.constructive.specs.Members.{part, Members};
 ghost use Rattle.sweep.specs.Sweep.{sweep};
 
@@ -28,11 +28,11 @@ pub fn sweep(
     requires { ⌜ Room (now ends) (now vehicles) filled total ⌝ }
     requires { ⌜ vehicle < vehiclesOf (now sheet) ⌝ }
     ensures { λ r. ⌜ r ≡ filledBy filled (sweep (now (sheet .entry)) depot vehicle (part (now (stops .entry)) (filled .routed) total) .rounds) ⌝ }
-    ensures { λ _. ⌜ Laid (now (stops .entry)) (now (ends .entry)) (now (vehicles .entry)) filled (sweep (now (sheet .entry)) depot vehicle (part (now (stops .entry)) (filled .routed) total)) (now (stops .exit)) (now (ends .exit)) (now (vehicles .exit)) ⌝ }
+    ensures { λ _. ⌜ Stored (now (stops .entry)) (now (ends .entry)) (now (vehicles .entry)) filled (sweep (now (sheet .entry)) depot vehicle (part (now (stops .entry)) (filled .routed) total)) (now (stops .exit)) (now (ends .exit)) (now (vehicles .exit)) ⌝ }
 {
     let start = filled.routed;
     let terms = terms::terms_of(sheet, depot, vehicle, &stops[start..total]);
-    let mut scratch = [0u16; 101];
+    let mut scratch = [0u16; sheet::MOST_ROWS];
     by_angle::sort_by_angle(sheet, depot, &mut stops[start..total], &mut scratch);
     rounds::pack(sheet, terms, stops, ends, vehicles, filled, total)
 }

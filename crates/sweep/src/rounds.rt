@@ -12,9 +12,9 @@ ghost use Rattle.wire.specs.Bytes.{write};
 ghost use Rattle.sheet.specs.Values.{demandOf};
 ghost use Rattle.evaluation.specs.Routed.{Routed};
 ghost use Rattle.constructive.specs.Load.{loadOf};
-ghost use Rattle.constructive.specs.Laid.{Laid, Room, filledBy};
+ghost use Rattle.constructive.specs.Stored.{Stored, Room, filledBy};
 ghost use Rattle.constructive.specs.Members.{part, Members};
-ghost use Rattle.sweep.specs.Sweep.{fits, hopeless, closes, sweptBy};
+ghost use Rattle.sweep.specs.Sweep.{routeFits, unservable, closes, sweptBy};
 ghost use Rattle.sweep.specs.Met.{Midway, Met};
 
 // How far the tables are filled with the rounds closed; where the round that is being filled ends, and its load; where the
@@ -29,7 +29,7 @@ pub struct Packing {
 // Whether a round may stand, but for its load. It is walked only where rounds are checked.
 fn fits(sheet: &[u8], terms: Terms, route: &[u16]) -> bool
     requires { ⌜ Routed (now sheet) (terms .depot) (now route) ⌝ }
-    ensures { λ r. ⌜ r ≡ fits (now (sheet .entry)) terms (now (route .entry)) ⌝ }
+    ensures { λ r. ⌜ r ≡ routeFits (now (sheet .entry)) terms (now (route .entry)) ⌝ }
 {
     if !terms.constrained {
         return true;
@@ -38,11 +38,11 @@ fn fits(sheet: &[u8], terms: Terms, route: &[u16]) -> bool
 }
 
 // Whether no round can take the stop at `at`, even alone.
-fn is_hopeless(sheet: &[u8], terms: Terms, stops: &[u16], at: usize, demand: u32) -> bool
+fn is_unservable(sheet: &[u8], terms: Terms, stops: &[u16], at: usize, demand: u32) -> bool
     requires { ⌜ Routed (now sheet) (terms .depot) (part (now stops) at (at + 1)) ⌝ }
     requires { ⌜ at < length (now stops) ⌝ }
     requires { ⌜ demand ≡ demandOf (now sheet) (getD (now stops) at 0) ⌝ }
-    ensures { λ r. ⌜ r ≡ hopeless (now (sheet .entry)) terms (getD (now (stops .entry)) at 0) ⌝ }
+    ensures { λ r. ⌜ r ≡ unservable (now (sheet .entry)) terms (getD (now (stops .entry)) at 0) ⌝ }
 {
     if terms.capacity < demand {
         return true;
@@ -102,7 +102,7 @@ fn meet(
     let filled = packing.filled;
     let end = packing.end;
     let demand = customer::demand(sheet, stops[end] as usize);
-    if is_hopeless(sheet, terms, stops, end, demand) {
+    if is_unservable(sheet, terms, stops, end, demand) {
         set_aside(stops, end, total);
         return Packing {
             filled,
@@ -142,7 +142,7 @@ pub fn pack(
     requires { ⌜ Members (now sheet) (terms .depot) (now stops) (filled .routed) total ⌝ }
     requires { ⌜ Room (now ends) (now vehicles) filled total ⌝ }
     ensures { λ r. ⌜ r ≡ filledBy filled (sweptBy (now (sheet .entry)) terms (part (now (stops .entry)) (filled .routed) total) .rounds) ⌝ }
-    ensures { λ _. ⌜ Laid (now (stops .entry)) (now (ends .entry)) (now (vehicles .entry)) filled (sweptBy (now (sheet .entry)) terms (part (now (stops .entry)) (filled .routed) total)) (now (stops .exit)) (now (ends .exit)) (now (vehicles .exit)) ⌝ }
+    ensures { λ _. ⌜ Stored (now (stops .entry)) (now (ends .entry)) (now (vehicles .entry)) filled (sweptBy (now (sheet .entry)) terms (part (now (stops .entry)) (filled .routed) total)) (now (stops .exit)) (now (ends .exit)) (now (vehicles .exit)) ⌝ }
 {
     let mut packing = Packing {
         filled,

@@ -5,7 +5,7 @@ use native.Mathlib.Omega.{arith}
 use mathlib.Core.List.{List}
 use lib.ListN.{length}
 use Rattle.wire.specs.Bytes.{bytes, write}
-use Rattle.wire.specs.Laws.{bytes-split, bytes-low, length-bytes, write-write}
+use Rattle.wire.specs.Laws.Bytes.{bytes-split, bytes-low, length-bytes, write-write}
 
 -- s with the low half is t, t with the high half is u
 pub halves : (n : ℕ) (s t u : List ℕ) (at v : ℕ) → at + (n + n) ≤ length s → t ≡ write s at (bytes n (v % 256 ^ n)) → u ≡ write t (at + n) (bytes n (v / 256 ^ n)) → u ≡ write s at (bytes (n + n) v)

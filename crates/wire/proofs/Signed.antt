@@ -12,7 +12,7 @@ use mir.Syntax.{w32}
 use mir.Val.{SFits, toZ, ofZ}
 use mir.ValLaws.{toZ-pos, toZ-ofZ}
 use Rattle.wire.specs.Bytes.{signed, unsigned}
-use Rattle.wire.specs.Laws.{signed-low, signed-high}
+use Rattle.wire.specs.Laws.Bytes.{signed-low, signed-high}
 
 below-minus-one : (k : ℕ) → negsuc 0 -ℤ pos k ≡ negsuc k
 below-minus-one zero = refl

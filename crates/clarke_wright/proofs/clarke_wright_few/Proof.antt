@@ -1,7 +1,7 @@
 -- `clarke_wright::clarke_wright_few` meets its contract. Assumes nothing.
 use native.Mathlib.Omega.{arith}
 use borrow.Author.Needs.{needs}
-use Rattle.clarke_wright_slots.specs.SlotsLaws.{roomy-within}
+use Rattle.clarke_wright_slots.specs.Laws.Slots.{roomy-within}
 use Rattle.clarke_wright.proofs.Tables.{space-within}
 use Rattle.clarke_wright.proofs.clarke_wright_few.Statement.{statement}
 use Rattle.clarke_wright.proofs.clarke_wright_few.Tie as tie

@@ -5,7 +5,7 @@ use native.Mathlib.Omega.{arith}
 use lib.ListN.{length}
 use lib.Seq.{length-take-le}
 use borrow.Author.Needs.{needs}
-use Rattle.clarke_wright_savings.specs.Ranked.{savings-few}
+use Rattle.clarke_wright_savings.specs.Laws.Ranked.{savings-few}
 use Rattle.clarke_wright.proofs.Merges.{ranked-legs, merged-routes}
 use Rattle.clarke_wright.proofs.merge_members.Statement.{statement}
 use Rattle.clarke_wright.proofs.merge_members.Tie as tie

@@ -1,4 +1,4 @@
--- What the limits of a vehicle of the sheet are. Nobody else unfolds them. Assumes nothing.
+-- What the limits of a vehicle of the sheet are. They are unfolded here alone. Assumes nothing.
 use mathlib.Core.Path.{_≡_, refl}
 use Prim.Native.Nat.{ℕ}
 use mathlib.Core.Bool.{_&&_}

@@ -17,16 +17,16 @@ use Rattle.evaluation.specs.declared.label.Label.{Label}
 use Rattle.evaluation.specs.declared.label.Served.the-variants.{Done}
 use Rattle.evaluation.specs.declared.clock.Schedule.{Schedule}
 use Rattle.evaluation.specs.declared.clock.Scheduled.{Scheduled}
-use Rattle.evaluation.specs.declared.clock.Scheduled.the-variants.{Lawful, Unlawful}
+use Rattle.evaluation.specs.declared.clock.Scheduled.the-variants.{Found, NotFound}
 use Rattle.evaluation.specs.declared.limits.RouteLimits.{RouteLimits}
 use Rattle.evaluation.specs.declared.RouteEval.the-variants.{Allowed}
 use Rattle.evaluation.specs.Sums.{_⊕_}
 use Rattle.evaluation.specs.Serve.{leavingAt, pass, serveOf}
-use Rattle.evaluation.specs.Clock.{Clock, stepOf, movedOf, nextOf, homeOf, unrested, returned}
+use Rattle.evaluation.specs.Clock.{Clock, stepOf, movedOf, nextOf, homeSchedule, unrested, returned}
 use Rattle.evaluation.specs.Walk.{Position, startAt, driveTo, walkedOver, homeFrom, scheduledOf}
 use Rattle.evaluation.specs.Limits.{noMaximum, noRest, isUnlimited, withinOf, allowOf}
 use Rattle.evaluation.specs.Checks.{windowed, rowWindowed, someWindowed}
-use Rattle.evaluation.specs.Verdict.{Verdict, allowed, overLimit, noSchedule, heldTo, verdictOf, verdictFrom, verdictOn, isFeasible, evalOf, answerOf}
+use Rattle.evaluation.specs.Verdict.{Verdict, allowed, overLimit, noSchedule, heldTo, verdictOf, verdictFrom, verdictOn, isFeasible, evalOf, placedRest}
 use Rattle.evaluation.specs.Feasible.{routeFeasible, routeEval, isAllowed}
 use Rattle.evaluation.specs.Laws.Walk.{walked-rest, walked-more}
 
@@ -51,26 +51,26 @@ unfolding scheduledOf
 verdict-scheduled s depot limits route = verdict-from s depot limits (walkedOver s (startAt (limits .rest) depot) route)
 
 -- its figures, where it has some
-held-figures : (limits : RouteLimits) (x : Scheduled) (k : Schedule) → evalOf (heldTo limits x) ≡ Allowed k → x ≡ Lawful k
+held-figures : (limits : RouteLimits) (x : Scheduled) (k : Schedule) → evalOf (heldTo limits x) ≡ Allowed k → x ≡ Found k
 unfolding heldTo
-held-figures limits Unlawful k e = cc
-held-figures limits (Lawful x) k e = go (allowOf limits (x .distance) (x .duration)) e
+held-figures limits NotFound k e = cc
+held-figures limits (Found x) k e = go (allowOf limits (x .distance) (x .duration)) e
   where
-    go : (t : Bool) → evalOf (cond t (allowed x) (overLimit x)) ≡ Allowed k → Lawful x ≡ Lawful k
+    go : (t : Bool) → evalOf (cond t (allowed x) (overLimit x)) ≡ Allowed k → Found x ≡ Found k
     go true e = cc
     go false e = cc
 
-pub allowed-figures : (s : List ℕ) (depot : ℕ) (limits : RouteLimits) (route : List ℕ) (k : Schedule) → routeEval s depot limits route ≡ Allowed k → scheduledOf s depot (limits .rest) route ≡ Lawful k
+pub allowed-figures : (s : List ℕ) (depot : ℕ) (limits : RouteLimits) (route : List ℕ) (k : Schedule) → routeEval s depot limits route ≡ Allowed k → scheduledOf s depot (limits .rest) route ≡ Found k
 unfolding routeEval
 allowed-figures s depot limits route k e = held-figures limits (scheduledOf s depot (limits .rest) route) k (sym (ap evalOf (verdict-scheduled s depot limits route)) ∙ e)
 
 -- where there is none
-pub held-none : (limits : RouteLimits) → heldTo limits Unlawful ≡ noSchedule
+pub held-none : (limits : RouteLimits) → heldTo limits NotFound ≡ noSchedule
 unfolding heldTo
 held-none limits = refl
 
 -- a schedule passes where the limits allow its figures
-pub held-passes : (limits : RouteLimits) (k : Schedule) → isFeasible (heldTo limits (Lawful k)) ≡ allowOf limits (k .distance) (k .duration)
+pub held-passes : (limits : RouteLimits) (k : Schedule) → isFeasible (heldTo limits (Found k)) ≡ allowOf limits (k .distance) (k .duration)
 unfolding heldTo
 held-passes limits k = go (allowOf limits (k .distance) (k .duration))
   where
@@ -79,18 +79,18 @@ held-passes limits k = go (allowOf limits (k .distance) (k .duration))
     go false = refl
 
 -- its rest stands where it does, whatever the limits say
-pub held-rest : (limits : RouteLimits) (k : Schedule) → answerOf (heldTo limits (Lawful k)) ≡ k .rest
+pub held-rest : (limits : RouteLimits) (k : Schedule) → placedRest (heldTo limits (Found k)) ≡ k .rest
 unfolding heldTo
 held-rest limits k = go (allowOf limits (k .distance) (k .duration))
   where
-    go : (t : Bool) → answerOf (cond t (allowed k) (overLimit k)) ≡ k .rest
+    go : (t : Bool) → placedRest (cond t (allowed k) (overLimit k)) ≡ k .rest
     go true = refl
     go false = refl
 
 -- ---- without a rest the verdict is on the walk's own figures
 pub plain-passes : (limits : RouteLimits) (c : Clock) (distance back : Float) (l : Label) → c .rest ≡ restless → c .before ≡ Done l → isFeasible (verdictOf limits c distance back) ≡ allowOf limits distance (l .time ⊕ back)
 unfolding verdictOf returned unrested
-plain-passes limits c distance back l r e = rw (r, e) (held-passes limits (homeOf l distance back NoRest))
+plain-passes limits c distance back l r e = rw (r, e) (held-passes limits (homeSchedule l distance back NoRest))
 
 -- of a round whose walk misses no hard window
 pub walk-feasible : (s : List ℕ) (depot : ℕ) (limits : RouteLimits) (route : List ℕ) (p : Position) (l : Label) → limits .rest ≡ restless

@@ -7,7 +7,7 @@ use mathlib.Core.Bool.{false, _||_, true≢false}
 use mathlib.Core.List.{List, [], _∷_, _++_}
 use lib.ListN.{length}
 use lib.Ieee.{Float}
-use Rattle.lists.specs.Fold.{fold-keeps, fold-more}
+use Rattle.lists.specs.Laws.Fold.{fold-keeps, fold-more}
 use Rattle.sheet.specs.Values.{stopOf, distanceOf, timeOf}
 use Rattle.sheet.specs.declared.customer.Stop.{Stop}
 use Rattle.sheet.specs.declared.vehicle.VehicleBreak.{VehicleBreak}
@@ -17,9 +17,9 @@ use Rattle.evaluation.specs.declared.label.RestAnswer.the-variants.{NoRe
 use Rattle.evaluation.specs.declared.label.Served.{Served}
 use Rattle.evaluation.specs.declared.label.Served.the-variants.{Done, Refused}
 use Rattle.evaluation.specs.declared.clock.Schedule.{Schedule}
-use Rattle.evaluation.specs.declared.clock.Scheduled.the-variants.{Lawful, Unlawful}
+use Rattle.evaluation.specs.declared.clock.Scheduled.the-variants.{Found, NotFound}
 use Rattle.evaluation.specs.Sums.{_⊕_}
-use Rattle.evaluation.specs.Clock.{Clock, stepOf, stepRested, earlierOf, takenOf, movedOf, served, aliveOf, nextOf, homeOf, unrested, endOf, homeward, returned, finishOf, clockOf, breakClock}
+use Rattle.evaluation.specs.Clock.{Clock, stepOf, stepRested, earlierOf, takenOf, movedOf, served, aliveOf, nextOf, homeSchedule, unrested, endOf, homeward, returned, finishOf, clockOf, breakClock}
 use Rattle.evaluation.specs.Walk.{Position, startAt, driveTo, walkedOver, homeFrom, scheduledOf}
 
 -- ---- once no label is left none comes back
@@ -40,18 +40,18 @@ unfolding driveTo
 dead-over s p rows e = fold-keeps (driveTo s) (λ (q : Position). aliveOf (q .clock) ≡ false) (λ q row. dead-next s (q .clock) row) p rows e
 
 -- and there is no way home
-none-home : (rest : Rest) (before after : Served) (distance back : Float) → (served before || served after) ≡ false → returned rest before after distance back ≡ Unlawful
+none-home : (rest : Rest) (before after : Served) (distance back : Float) → (served before || served after) ≡ false → returned rest before after distance back ≡ NotFound
 unfolding returned unrested homeward endOf
 none-home rest (Done l) after distance back e = absurd (true≢false e)
 none-home rest Refused (Done l) distance back e = absurd (true≢false e)
 none-home restless Refused Refused distance back e = refl
 none-home (Required b) Refused Refused distance back e = refl
 
-pub dead-finish : (c : Clock) (distance back : Float) → aliveOf c ≡ false → finishOf c distance back ≡ Unlawful
+pub dead-finish : (c : Clock) (distance back : Float) → aliveOf c ≡ false → finishOf c distance back ≡ NotFound
 unfolding aliveOf
 dead-finish c distance back e = none-home (c .rest) (c .before) (c .after) distance back e
 
-pub dead-home : (s : List ℕ) (depot : ℕ) (p : Position) → aliveOf (p .clock) ≡ false → homeFrom s depot p ≡ Unlawful
+pub dead-home : (s : List ℕ) (depot : ℕ) (p : Position) → aliveOf (p .clock) ≡ false → homeFrom s depot p ≡ NotFound
 unfolding homeFrom
 dead-home s depot p e = dead-finish (p .clock) _ _ e
 
@@ -92,13 +92,13 @@ pub clock-kept : (b : VehicleBreak) (c : Clock) → c .rest ≡ Required b → c
 clock-kept b c e = ap (λ (r : Rest). record { rest = r; before = c .before; after = c .after; prev = c .prev; place = c .place }) (sym e)
 
 -- ---- a walk without a rest takes none
-home-unrested : (rest : Rest) (before after : Served) (distance back : Float) (k : Schedule) → rest ≡ restless → returned rest before after distance back ≡ Lawful k → k .rest ≡ NoRest
+home-unrested : (rest : Rest) (before after : Served) (distance back : Float) (k : Schedule) → rest ≡ restless → returned rest before after distance back ≡ Found k → k .rest ≡ NoRest
 unfolding returned unrested
 home-unrested (Required b) before after distance back k r e = let z : _≡_ {A = ℕ} 0 1 = cc in absurd (omega arith)
-home-unrested restless (Done l) after distance back k r e = let same : homeOf l distance back NoRest ≡ k = cc in ap (λ (j : Schedule). j .rest) (sym same)
+home-unrested restless (Done l) after distance back k r e = let same : homeSchedule l distance back NoRest ≡ k = cc in ap (λ (j : Schedule). j .rest) (sym same)
 home-unrested restless Refused after distance back k r e = let z : _≡_ {A = ℕ} 0 1 = cc in absurd (omega arith)
 
-pub unrested-answer : (s : List ℕ) (depot : ℕ) (route : List ℕ) (k : Schedule) → scheduledOf s depot restless route ≡ Lawful k → k .rest ≡ NoRest
+pub unrested-answer : (s : List ℕ) (depot : ℕ) (route : List ℕ) (k : Schedule) → scheduledOf s depot restless route ≡ Found k → k .rest ≡ NoRest
 unfolding scheduledOf homeFrom
 unrested-answer s depot route k e =
     let c = walkedOver s (startAt restless depot) route .clock in

@@ -4,7 +4,7 @@ use mathlib.Core.Bool.{not, _||_}
 use mathlib.Core.Logic.{⊎-elim}
 use lib.Ieee.{nanBits, ofBits}
 use borrow.Author.Needs.{needs}
-use Rattle.fleet_cheapest.specs.Asked.{termsAt}
+use Rattle.fleet_cheapest.specs.Contracts.{termsAt}
 use Rattle.fleet_cheapest.proofs.terms_at.Statement.{statement}
 use Rattle.fleet_cheapest.proofs.terms_at.Tie as tie
 

@@ -4,7 +4,7 @@ use lib.Ieee.{nanBits, ofBits}
 use borrow.Author.Needs.{needs}
 use borrow.Author.Tests.{not-true}
 use Rattle.insertion.proofs.Trying.{trial-long, written}
-use Rattle.fleet_cheapest.specs.Asked.{termsAt}
+use Rattle.fleet_cheapest.specs.Contracts.{termsAt}
 use Rattle.fleet_cheapest.proofs.Judged.{handed, prices-so, summed, over, barred, taken, free}
 use Rattle.fleet_cheapest.proofs.try_walks.Statement.{statement}
 use Rattle.fleet_cheapest.proofs.try_walks.Tie as tie

@@ -19,8 +19,8 @@ slice-aggregate-windows-in c = sym (length-take-le _ (c .before .before .before 
 windows-in-requires : tie.Need-windows-in-requires
 windows-in-requires c κs = stops-walked _ _ _ _ _ _ _ _ (c .before .before .before .before .before .before .before .pre .1) (omega (arith, c .before .if1 .left))
 
-lessen-requires : tie.Need-lessen-requires
-lessen-requires c κs = let l = c .before .before .before .before .before .before .before .before .before .before .before .before .pre .1 in let h = c .before .before .before .before .before .before .if1 .left in (l .tables, (triable _ _ _ _ _ _ _ _ l _ (c .before .before .before .before .windows-in .ensures) (omega (arith, h)), few-stops _ _ _ _ _ _ _ _ l (omega (arith, h))))
+drop-rounds-requires : tie.Need-drop-rounds-requires
+drop-rounds-requires c κs = let l = c .before .before .before .before .before .before .before .before .before .before .before .before .pre .1 in let h = c .before .before .before .before .before .before .if1 .left in (l .tables, (triable _ _ _ _ _ _ _ _ l _ (c .before .before .before .before .windows-in .ensures) (omega (arith, h)), few-stops _ _ _ _ _ _ _ _ l (omega (arith, h))))
 
 same-length : tie.Need-same-length
 same-length c = search needs
@@ -35,7 +35,7 @@ same-length-4 : tie.Need-same-length-4
 same-length-4 c = search needs
 
 returns-2 : tie.Need-returns-2
-returns-2 c = read-so _ _ _ _ _ _ _ _ (c .before .before .before .before .before .before .before .before .before .before .before .before .before .before .before .before .before .before .before .before .before .pre .1) _ (c .before .before .before .before .before .before .before .before .before .before .before .before .before .windows-in .ensures) _ _ _ _ _ (c .before .before .before .before .before .before .before .before .lessen .ensures)
+returns-2 c = read-so _ _ _ _ _ _ _ _ (c .before .before .before .before .before .before .before .before .before .before .before .before .before .before .before .before .before .before .before .before .before .pre .1) _ (c .before .before .before .before .before .before .before .before .before .before .before .before .before .windows-in .ensures) _ _ _ _ _ (c .before .before .before .before .before .before .before .before .drop-rounds .ensures)
 
 pub limit-spec : {M : Type 1} → statement M
 limit-spec =
@@ -45,7 +45,7 @@ limit-spec =
     slice-reshare-prefix-windows-in
     slice-aggregate-windows-in
     windows-in-requires
-    lessen-requires
+    drop-rounds-requires
     same-length
     same-length-2
     same-length-3

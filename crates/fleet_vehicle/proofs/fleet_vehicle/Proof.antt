@@ -47,25 +47,25 @@ use denote.Triple.Walked.{says, needs, Stays, stay-none-slice, stay-none, walkOf
 use Rattle.sheet.specs.declared.vehicle.Vehicle.{Vehicle}
 use Rattle.sheet.proofs.vehicle.Vehicle as Veh
 use Rattle.sheet.proofs.vehicle.Vehicle.Laws as Veh′
-use Rattle.fleet_vehicle.specs.Find.{withId, nobody, fleetVehicle}
+use Rattle.fleet_vehicle.specs.Find.{withId, noVehicle, fleetVehicle}
 use Rattle.fleet_vehicle.proofs.fleet_vehicle.Key.{name as key}
 use Rattle.fleet_vehicle.proofs.fleet_vehicle as f
 use Rattle.fleet_vehicle.proofs.fleet_vehicle.Statement as stated
 use Rattle.fleet_vehicle.proofs.fleet_vehicle.Code as code
 
 -- ---- the search, on lists
-begun : (id : ℕ) (ys : List Vehicle) → fleetVehicle id ys ≡ withId id (getD ys 0 nobody) ys
+begun : (id : ℕ) (ys : List Vehicle) → fleetVehicle id ys ≡ withId id (getD ys 0 noVehicle) ys
 unfolding fleetVehicle
 begun id ys = refl
 
 module _ (id : ℕ) (fallback : Vehicle) (ys : List Vehicle) (i : ℕ) where
-  passed : i < length ys → eqb (getD ys i nobody .id) id ≡ false → withId id fallback (drop i ys) ≡ withId id fallback (drop (i + 1) ys)
+  passed : i < length ys → eqb (getD ys i noVehicle .id) id ≡ false → withId id fallback (drop i ys) ≡ withId id fallback (drop (i + 1) ys)
   unfolding withId
-  passed h e = rw (add-one, drop-cons ys i nobody, e)
+  passed h e = rw (add-one, drop-cons ys i noVehicle, e)
 
-  hit : i < length ys → eqb (getD ys i nobody .id) id ≡ true → withId id fallback (drop i ys) ≡ getD ys i nobody
+  hit : i < length ys → eqb (getD ys i noVehicle .id) id ≡ true → withId id fallback (drop i ys) ≡ getD ys i noVehicle
   unfolding withId
-  hit h e = rw (drop-cons ys i nobody, e)
+  hit h e = rw (drop-cons ys i noVehicle, e)
 
   missed : i ≡ length ys → withId id fallback (drop i ys) ≡ fallback
   unfolding withId
@@ -137,7 +137,7 @@ module _ {M : Type 1} (𝓤 : URA M) (H : Heap 𝓤) (A : Atoms 𝓤) (W : Given
 
   -- what is left to search from a place
   abbrev Upto : Type 0
-  Upto = (i : ℕ) × ((i ≤ length ys) × (fleetVehicle id ys ≡ withId id (getD ys 0 nobody) (drop i ys)))
+  Upto = (i : ℕ) × ((i ≤ length ys) × (fleetVehicle id ys ≡ withId id (getD ys 0 noVehicle) (drop i ys)))
 
   abbrev Nearer : Upto → Upto → Type 0
   Nearer j i = length ys - j .0 < length ys - i .0
@@ -179,20 +179,20 @@ module _ {M : Type 1} (𝓤 : URA M) (H : Heap 𝓤) (A : Atoms 𝓤) (W : Given
         rewrite ! 8 (λ (p : ℕ). ‵ (fat fullShare tyPtr l₇ 0 (vptr b p))) (sym (place-is 96 o (i .0))) refl $
         move ! (1 ∷ []) $ fsplit ! $ move ! (1 ∷ []) $ fsplit ! $ move ! (1 ∷ 3 ∷ []) $
         looks-slice ! tt Veh.the-row (Is Veh.the-row) (shows 𝓤 H A Veh.the-row) vals (LL.tells Veh.the-type Veh′.the-laws) (LL.copy Veh.the-type Veh′.the-copy 𝓤 H A W) ys b o (λ q′.
-        elem-out ! Veh.the-row (Is Veh.the-row) (shows 𝓤 H A Veh.the-row) vals (LL.tells Veh.the-type Veh′.the-laws) q′ ys (i .0) nobody b o l (λ is.
+        elem-out ! Veh.the-row (Is Veh.the-row) (shows 𝓤 H A Veh.the-row) vals (LL.tells Veh.the-type Veh′.the-laws) q′ ys (i .0) noVehicle b o l (λ is.
         -- [the vehicle; what it owns; the others; what shuts; the fractured borrow; res; the slice's fact; _10; …; .. _0; …]
-        assigns ! (of-opd ! (load ! (from ! (hop ! (look ! 13 refl) (stop !))) (look-raw ! 0 refl))) (from ! (stop !)) (init ! 11 refl (typed (getD ys (i .0) nobody) is)) $
-        elem-back ! Veh.the-row q′ ys (i .0) nobody (vals (getD ys (i .0) nobody)) b o l $ shuts-slice ! tt Veh.the-row q′ ys b o $
+        assigns ! (of-opd ! (load ! (from ! (hop ! (look ! 13 refl) (stop !))) (look-raw ! 0 refl))) (from ! (stop !)) (init ! 11 refl (typed (getD ys (i .0) noVehicle) is)) $
+        elem-back ! Veh.the-row q′ ys (i .0) noVehicle (vals (getD ys (i .0) noVehicle)) b o l $ shuts-slice ! tt Veh.the-row q′ ys b o $
         move ! (2 ∷ 1 ∷ []) $ fjoin ! $ move ! (2 ∷ 0 ∷ []) $ fjoin ! $ move ! (1 ∷ 0 ∷ []) $
-        assigns ! (of-opd ! (load ! (from ! (stop !)) (look ! 6 refl))) (from ! (stop !)) (init ! 14 refl (typed (getD ys (i .0) nobody) is)) $
+        assigns ! (of-opd ! (load ! (from ! (stop !)) (look ! 6 refl))) (from ! (stop !)) (init ! 14 refl (typed (getD ys (i .0) noVehicle) is)) $
         assigns ! (bin ! (load ! (from ! (fld ! refl (stop !))) (look-in ! 14 (sub ! 0 refl (whole !)))) (load ! (from ! (stop !)) (look ! 18 refl)) tt) (from ! (stop !)) (store ! 10 refl (tt, tt)) $
         first ! $ branches ! (load ! (from ! (stop !)) (look ! 10 refl))
         (λ same.
-        assigns ! (of-opd ! (load ! (from ! (stop !)) (look ! 14 refl))) (from ! (stop !)) (init ! 22 refl (typed (getD ys (i .0) nobody) is)) $
+        assigns ! (of-opd ! (load ! (from ! (stop !)) (look ! 14 refl))) (from ! (stop !)) (init ! 22 refl (typed (getD ys (i .0) noVehicle) is)) $
         returns-within ! Post refl (look ! 22 refl) $ forget ! 6 refl $ forget ! 8 refl $ forget ! 10 refl $ forget ! 12 refl $ forget ! 14 refl $ forget ! 16 refl $ forget ! 18 refl $ forget ! 20 refl $ forget ! 22 refl $
         move ! (22 ∷ 23 ∷ []) $ free1 ! $ move ! (20 ∷ 21 ∷ []) $ free1 ! $ move ! (18 ∷ 19 ∷ []) $ free1 ! $ move ! (16 ∷ 17 ∷ []) $ free1 ! $ move ! (14 ∷ 15 ∷ []) $ free1 ! $ move ! (12 ∷ 13 ∷ []) $ free1 ! $
         move ! (10 ∷ 11 ∷ []) $ free1 ! $ move ! (8 ∷ 9 ∷ []) $ free1 ! $ move ! (6 ∷ 7 ∷ []) $ free1 ! $ move ! (4 ∷ 5 ∷ []) $ free1 ! $ move ! (2 ∷ 3 ∷ []) $ free1 ! $ free0 ! $
-        by ! (exits (getD ys (i .0) nobody) is (sym (i .1 .1 ∙ hit id (getD ys 0 nobody) ys (i .0) l (is-true _ same)))))
+        by ! (exits (getD ys (i .0) noVehicle) is (sym (i .1 .1 ∙ hit id (getD ys 0 noVehicle) ys (i .0) l (is-true _ same)))))
         (λ differ.
         skips ! $ exec ! C Λ En more (anyQ (Turned i)) $
         assigns-last ! (bin ! (load ! (from ! (stop !)) (look ! 16 refl)) (lit ! tt) (record { fits = fits (next l differ) })) (from ! (stop !)) (store ! 16 refl (tt, record { fits = fits (next l differ) })) $
@@ -202,21 +202,21 @@ module _ {M : Type 1} (𝓤 : URA M) (H : Heap 𝓤) (A : Atoms 𝓤) (W : Given
         rewrite ! 4 (λ (p : ℕ). ‵ (fat fullShare tyPtr l₉ 0 (vptr b p))) (zero-add o) refl $
         move ! (1 ∷ []) $ fsplit ! $ move ! (1 ∷ []) $ fsplit ! $ move ! (1 ∷ 3 ∷ []) $
         looks-slice ! tt Veh.the-row (Is Veh.the-row) (shows 𝓤 H A Veh.the-row) vals (LL.tells Veh.the-type Veh′.the-laws) (LL.copy Veh.the-type Veh′.the-copy 𝓤 H A W) ys b o (λ q′.
-        elem-out ! Veh.the-row (Is Veh.the-row) (shows 𝓤 H A Veh.the-row) vals (LL.tells Veh.the-type Veh′.the-laws) q′ ys 0 nobody b o some (λ is.
-        assigns ! (of-opd ! (load ! (from ! (hop ! (look ! 9 refl) (stop !))) (look-raw ! 0 refl))) (from ! (stop !)) (init ! 7 refl (typed (getD ys 0 nobody) is)) $
-        elem-back ! Veh.the-row q′ ys 0 nobody (vals (getD ys 0 nobody)) b o some $ shuts-slice ! tt Veh.the-row q′ ys b o $
+        elem-out ! Veh.the-row (Is Veh.the-row) (shows 𝓤 H A Veh.the-row) vals (LL.tells Veh.the-type Veh′.the-laws) q′ ys 0 noVehicle b o some (λ is.
+        assigns ! (of-opd ! (load ! (from ! (hop ! (look ! 9 refl) (stop !))) (look-raw ! 0 refl))) (from ! (stop !)) (init ! 7 refl (typed (getD ys 0 noVehicle) is)) $
+        elem-back ! Veh.the-row q′ ys 0 noVehicle (vals (getD ys 0 noVehicle)) b o some $ shuts-slice ! tt Veh.the-row q′ ys b o $
         move ! (2 ∷ 1 ∷ []) $ fjoin ! $ move ! (2 ∷ 0 ∷ []) $ fjoin ! $ move ! (1 ∷ 0 ∷ []) $
-        assigns ! (of-opd ! (load ! (from ! (stop !)) (look ! 2 refl))) (from ! (stop !)) (init ! 22 refl (typed (getD ys 0 nobody) is)) $
+        assigns ! (of-opd ! (load ! (from ! (stop !)) (look ! 2 refl))) (from ! (stop !)) (init ! 22 refl (typed (getD ys 0 noVehicle) is)) $
         returns ! (look ! 22 refl) $ forget ! 2 refl $ forget ! 4 refl $ forget ! 10 refl $ forget ! 12 refl $ forget ! 16 refl $ forget ! 18 refl $ forget ! 20 refl $ forget ! 22 refl $
         move ! (22 ∷ 23 ∷ []) $ free1 ! $ move ! (20 ∷ 21 ∷ []) $ free1 ! $ move ! (18 ∷ 19 ∷ []) $ free1 ! $ move ! (16 ∷ 17 ∷ []) $ free1 ! $ move ! (14 ∷ 15 ∷ []) $ free1 ! $ move ! (12 ∷ 13 ∷ []) $ free1 ! $
         move ! (10 ∷ 11 ∷ []) $ free1 ! $ move ! (8 ∷ 9 ∷ []) $ free1 ! $ move ! (6 ∷ 7 ∷ []) $ free1 ! $ move ! (4 ∷ 5 ∷ []) $ free1 ! $ move ! (2 ∷ 3 ∷ []) $ free1 ! $ free0 ! $
-        by ! (exits (getD ys 0 nobody) is (sym (i .1 .1 ∙ missed id (getD ys 0 nobody) ys (i .0) (le-antisymm (i .1 .0) (nltb→le (i .0) (length ys) over))))))))
+        by ! (exits (getD ys 0 noVehicle) is (sym (i .1 .1 ∙ missed id (getD ys 0 noVehicle) ys (i .0) (le-antisymm (i .1 .0) (nltb→le (i .0) (length ys) over))))))))
       where
         fits : (j : Upto) → j .0 < 2 ^ 64
         fits j = lt-of-le-of-lt (j .1 .0) (gn .0)
 
-        next : i .0 < length ys → Holds (not (eqb (getD ys (i .0) nobody .id) id)) → Upto
-        next l differ = (i .0 + 1, (add-one-le l, i .1 .1 ∙ passed id (getD ys 0 nobody) ys (i .0) l (is-false _ differ)))
+        next : i .0 < length ys → Holds (not (eqb (getD ys (i .0) noVehicle .id) id)) → Upto
+        next l differ = (i .0 + 1, (add-one-le l, i .1 .1 ∙ passed id (getD ys 0 noVehicle) ys (i .0) l (is-false _ differ)))
 
   walk : (𝓣 : Tables 𝓤 H) → ent 𝓤 (onEntry 𝓤 H A f.signature (κ, tt) (q, tt) x at) (WpFn 𝓤 H (𝓣 .C) (𝓣 .Λ) code.function (sliceVal (b, o) (length ys) ∷ vint w32 id ∷ []) Post)
   walk 𝓣 =

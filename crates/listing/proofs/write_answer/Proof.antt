@@ -7,8 +7,9 @@ use lib.Seq.{length-take-le}
 use Rattle.sheet.specs.Fields.{rowsOf, planLength}
 use Rattle.sheet.specs.Refusal.{refusalOf}
 use Rattle.planner.specs.Answer.{planFor}
-use Rattle.listing_text.specs.Laws.{not-early, early-stands, told-stands}
-use Rattle.listing.specs.Answer.{answer-refused, listedText}
+use Rattle.listing_text.specs.Laws.Listing.{not-early, early-stands, told-stands}
+use Rattle.listing.specs.Laws.Answer.{answer-refused}
+use Rattle.listing.specs.Answer.{listedText}
 use borrow.Author.Needs.{needs}
 use Rattle.listing.proofs.write_answer.Statement.{statement}
 use Rattle.listing.proofs.write_answer.Tie as tie

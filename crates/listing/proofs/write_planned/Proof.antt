@@ -1,8 +1,8 @@
 -- `listing::write_planned` meets its contract. Assumes nothing.
 use mathlib.Core.Path.{sym, _∙_}
-use Rattle.sheet.specs.Accepted.{accepted}
-use Rattle.planner.specs.Promised.{number-is, bytes-are}
-use Rattle.listing.specs.Answer.{answer-listed, answer-refused}
+use Rattle.sheet.specs.Laws.Accepted.{accepted}
+use Rattle.planner.specs.Laws.Promised.{number-is, bytes-are}
+use Rattle.listing.specs.Laws.Answer.{answer-listed, answer-refused}
 use borrow.Author.Needs.{needs}
 use Rattle.listing.proofs.write_planned.Statement.{statement}
 use Rattle.listing.proofs.write_planned.Tie as tie

@@ -2,7 +2,7 @@
 use lib.Dec.{T}
 use borrow.Author.Tests.{not-false, not-true, le-leb, lt-leb}
 use Rattle.sheet.specs.Refusal.{headerRight}
-use Rattle.sheet.specs.Accepted.{header-of}
+use Rattle.sheet.specs.Laws.Accepted.{header-of}
 use Rattle.listing_text.specs.Listing.{listingRefusal}
 use borrow.Author.Needs.{needs}
 use Rattle.listing_text.proofs.early_refusal.Statement.{statement}

@@ -3,14 +3,14 @@ use mathlib.Core.Path.{_∙_}
 use native.Mathlib.Omega.{arith}
 use Rattle.sheet.specs.Fields.{rowsOf}
 use Rattle.plan.specs.Read.{nextAt, chainOf}
-use Rattle.listing_text.specs.Text.{joined}
+use Rattle.listing_text.specs.Text.{concatenated}
 use Rattle.listing_text.specs.Listing.{stopLines}
 use Rattle.listing_text.proofs.Following.{Following, starts, done, row-in, line-fits, last, goes-on}
 use Rattle.listing_text.proofs.put_chain.Statement.{statement}
 use Rattle.listing_text.proofs.put_chain.Tie as tie
 
 abbrev Inv-loop : tie.InvT-loop
-Inv-loop out₀ at sheet plan first end₀ row₀ links₀ out end row links = Following plan (rowsOf sheet) out₀ out at end (joined (stopLines plan (rowsOf sheet) (chainOf sheet plan first))) links row
+Inv-loop out₀ at sheet plan first end₀ row₀ links₀ out end row links = Following plan (rowsOf sheet) out₀ out at end (concatenated (stopLines plan (rowsOf sheet) (chainOf sheet plan first))) links row
 
 abbrev μ-loop : tie.MeasureT-loop
 μ-loop out₀ at sheet plan first end₀ row₀ links₀ out end row links = links

@@ -3,7 +3,7 @@ use mathlib.Core.Path.{_≡_}
 use Prim.Native.Nat.{_-_, _<_}
 use native.Mathlib.Omega.{arith}
 use Rattle.plan.specs.Read.{roundsAt, asideAt, chainOf, readPlan}
-use Rattle.listing_text.specs.Listable.{few-rounds, stops}
+use Rattle.listing_text.specs.Laws.Listable.{few-rounds, stops}
 use Rattle.listing_text.proofs.Counting.{Counting, starts, done, chain-in, round-fits, goes-on}
 use Rattle.listing_text.proofs.put_rounds.Statement.{statement}
 use Rattle.listing_text.proofs.put_rounds.Tie as tie

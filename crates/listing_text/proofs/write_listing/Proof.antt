@@ -5,8 +5,9 @@ use mathlib.Core.List.{List}
 use lib.ListN.{length, getD}
 use Rattle.plan.specs.Read.{asideAt, readPlan}
 use Rattle.listing_text.specs.Listing.{listingParts, listingOf}
-use Rattle.listing_text.specs.Listable.{Listable, aside-stops}
-use Rattle.listing_text.specs.Short.{listing-short}
+use Rattle.listing_text.specs.Listable.{Listable}
+use Rattle.listing_text.specs.Laws.Listable.{aside-stops}
+use Rattle.listing_text.specs.Laws.Length.{listing-short}
 use Rattle.listing_text.proofs.Putting.{Left, begins, fits, next, ends}
 use borrow.Author.Needs.{needs}
 use Rattle.listing_text.proofs.write_listing.Statement.{statement}

@@ -1,6 +1,6 @@
 -- `listing_text::write_refused` meets its contract. Assumes nothing.
 use native.Mathlib.Omega.{arith}
-use Rattle.listing_text.specs.Short.{refused-short}
+use Rattle.listing_text.specs.Laws.Length.{refused-short}
 use borrow.Author.Needs.{needs}
 use Rattle.listing_text.proofs.write_refused.Statement.{statement}
 use Rattle.listing_text.proofs.write_refused.Tie as tie

@@ -7,8 +7,8 @@ use lib.Seq.{length-take-le}
 use borrow.Author.Tests.{not-true}
 use borrow.Author.Needs.{needs}
 use Rattle.sheet.specs.Fields.{rowsOf}
-use Rattle.multi_depot_offers.specs.ByDepot.{planned, byDepot}
-use Rattle.multi_depot_offers.specs.Asked.{Lent, Planned}
+use Rattle.multi_depot_offers.specs.ByDepot.{plannedAt, byDepot}
+use Rattle.multi_depot_offers.specs.Contracts.{PlanningTables, Planned}
 use Rattle.multi_depot.proofs.Settling.{planned-still, room-aside, gathered-held}
 use Rattle.multi_depot.proofs.by_depot.Statement.{statement}
 use Rattle.multi_depot.proofs.by_depot.Tie as tie
@@ -21,7 +21,7 @@ first-at-requires c κs = search needs
 
 plan-depots-requires : tie.Need-plan-depots-requires
 plan-depots-requires c κs = let p = c .before .before .before .before .before .before .before .before .before .before .before .before .before .before .before .before .before .before .pre in
-    (record { sheet = p .0 .sheet; rows = c .before .before .before .before .before .before .before .before .first-at .kept .1 .1 .0 ∙ p .0 .rows; manned = p .0 .manned; stopped = p .0 .stopped; ended = p .0 .ended; driven = p .0 .driven }, (c .before .before .before .before .before .before .before .before .before .before .depots .ensures, p .1))
+    (record { sheet = p .0 .sheet; rows = c .before .before .before .before .before .before .before .before .first-at .kept .1 .1 .0 ∙ p .0 .rows; fleet-long = p .0 .fleet-long; stopped = p .0 .stopped; ended = p .0 .ended; driven = p .0 .driven }, (c .before .before .before .before .before .before .before .before .before .before .depots .ensures, p .1))
 
 sub-settle : tie.Need-sub-settle
 sub-settle c = search needs
@@ -38,7 +38,7 @@ settle-requires c κs = let p = c .before .before .before .before .before .befor
       record {
         sheet = p .sheet;
         rows = c .before .before .before .before .before .before .before .before .before .before .before .before .before .before .before .before .before .before .before .before .before .before .before .before .before .before .first-at .kept .1 .1 .0 ∙ p .rows;
-        manned = omega (arith, p .manned, w .kept .1 .1 .1 .1 .0);
+        fleet-long = omega (arith, p .fleet-long, w .kept .1 .1 .1 .1 .0);
         stopped = omega (arith, p .stopped, w .kept .1 .1 .1 .1 .1 .0);
         ended = omega (arith, p .ended, w .kept .1 .1 .1 .1 .1 .1 .0);
         driven = omega (arith, p .driven, w .kept .1 .1 .1 .1 .1 .1 .1 .0);
@@ -66,11 +66,11 @@ module _ (c : tie.After-settle) where
   vehicles-long : length (c .settle .last .1 .1 .1 .1 .1 .1 .1 .1 .0) ≡ length (c .before .before .before .before .before .before .before .before .before .before .before .before .before .before .before .before .before .before .before .before .before .before .before .before .before .before .before .before .before .before .before .before .before .before .before .before .before .args .vehicles .now)
   vehicles-long = c .settle .kept .1 .1 .1 .1 .1 .1 .1 .1 .0 ∙ c .before .before .before .before .before .before .before .before .before .before .before .before .before .before .before .before .before .before .plan-depots .kept .1 .1 .1 .1 .1 .1 .1 .0
 
-  lent : Lent (c .before .before .before .before .before .before .before .before .before .before .before .before .before .before .before .before .before .before .before .before .before .before .before .before .before .before .before .before .before .before .before .before .before .before .before .before .before .args .sheet .now) (c .settle .last .1 .1 .1 .0) (c .settle .last .1 .1 .1 .1 .1 .0) (c .settle .last .1 .1 .1 .1 .1 .1 .0) (c .settle .last .1 .1 .1 .1 .1 .1 .1 .0) (c .settle .last .1 .1 .1 .1 .1 .1 .1 .1 .0)
+  lent : PlanningTables (c .before .before .before .before .before .before .before .before .before .before .before .before .before .before .before .before .before .before .before .before .before .before .before .before .before .before .before .before .before .before .before .before .before .before .before .before .before .args .sheet .now) (c .settle .last .1 .1 .1 .0) (c .settle .last .1 .1 .1 .1 .1 .0) (c .settle .last .1 .1 .1 .1 .1 .1 .0) (c .settle .last .1 .1 .1 .1 .1 .1 .1 .0) (c .settle .last .1 .1 .1 .1 .1 .1 .1 .1 .0)
   lent = let p = c .before .before .before .before .before .before .before .before .before .before .before .before .before .before .before .before .before .before .before .before .before .before .before .before .before .before .before .before .before .before .before .before .before .before .before .before .before .pre .0 in record {
     sheet = p .sheet;
     rows = at-long ∙ p .rows;
-    manned = omega (arith, p .manned, fleet-long);
+    fleet-long = omega (arith, p .fleet-long, fleet-long);
     stopped = omega (arith, p .stopped, stops-long);
     ended = omega (arith, p .ended, ends-long);
     driven = omega (arith, p .driven, vehicles-long);
@@ -81,7 +81,7 @@ module _ (c : tie.After-settle) where
 
 -- without a stop that has moved the tables hold what was planned at first
 module _ (c : tie.Then1) where
-  still : Planned (c .before .before .before .before .before .before .before .before .before .before .before .before .before .before .before .before .before .before .before .before .before .before .before .before .before .before .before .before .before .before .before .before .before .before .before .before .before .before .before .before .before .before .before .before .before .before .before .before .before .before .before .args .sheet .now) (c .before .before .before .before .before .before .before .before .before .before .before .before .before .before .settle .last .1 .1 .1 .1 .0) (c .before .before .before .before .before .before .before .before .before .before .before .before .before .before .settle .last .1 .1 .1 .1 .1 .1 .0) (c .before .before .before .before .before .before .before .before .before .before .before .before .before .before .settle .last .1 .1 .1 .1 .1 .1 .1 .0) (c .before .before .before .before .before .before .before .before .before .before .before .before .before .before .settle .last .1 .1 .1 .1 .1 .1 .1 .1 .0) (c .before .before .before .before .before .before .before .before .before .before .before .before .before .before .before .before .before .before .before .before .before .before .before .before .before .before .before .before .before .before .before .before .plan-depots .result) (planned (c .before .before .before .before .before .before .before .before .before .before .before .before .before .before .before .before .before .before .before .before .before .before .before .before .before .before .before .before .before .before .before .before .before .before .before .before .before .before .before .before .before .before .before .before .before .before .before .before .before .before .before .args .sheet .now) (c .before .before .before .before .before .before .before .before .before .before .before .before .before .before .settle .last .1 .1 .1 .0))
+  still : Planned (c .before .before .before .before .before .before .before .before .before .before .before .before .before .before .before .before .before .before .before .before .before .before .before .before .before .before .before .before .before .before .before .before .before .before .before .before .before .before .before .before .before .before .before .before .before .before .before .before .before .before .before .args .sheet .now) (c .before .before .before .before .before .before .before .before .before .before .before .before .before .before .settle .last .1 .1 .1 .1 .0) (c .before .before .before .before .before .before .before .before .before .before .before .before .before .before .settle .last .1 .1 .1 .1 .1 .1 .0) (c .before .before .before .before .before .before .before .before .before .before .before .before .before .before .settle .last .1 .1 .1 .1 .1 .1 .1 .0) (c .before .before .before .before .before .before .before .before .before .before .before .before .before .before .settle .last .1 .1 .1 .1 .1 .1 .1 .1 .0) (c .before .before .before .before .before .before .before .before .before .before .before .before .before .before .before .before .before .before .before .before .before .before .before .before .before .before .before .before .before .before .before .before .plan-depots .result) (plannedAt (c .before .before .before .before .before .before .before .before .before .before .before .before .before .before .before .before .before .before .before .before .before .before .before .before .before .before .before .before .before .before .before .before .before .before .before .before .before .before .before .before .before .before .before .before .before .before .before .before .before .before .before .args .sheet .now) (c .before .before .before .before .before .before .before .before .before .before .before .before .before .before .settle .last .1 .1 .1 .0))
   still = planned-still (c .before .before .before .before .before .before .before .before .before .before .before .before .before .before .settle .ensures .1 (not-true _ (c .if1 .taken))) (c .before .before .before .before .before .before .before .before .before .before .before .before .before .before .before .before .before .before .before .before .before .before .before .before .before .before .before .before .before .before .before .before .plan-depots .ensures)
 
 lay-aside-requires : tie.Need-lay-aside-requires

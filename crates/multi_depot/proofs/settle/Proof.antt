@@ -8,17 +8,17 @@ use lib.ListN.{length}
 use borrow.Author.Tests.{not-true, not-false}
 use Rattle.sheet.specs.Fields.{rowsOf}
 use Rattle.constructive.specs.Marks.{Marks}
-use Rattle.multi_depot_offers.specs.ByDepot.{planned, offered, moved}
-use Rattle.multi_depot_offers.specs.Settled.{attemptsLeft, length-offered}
+use Rattle.multi_depot_offers.specs.ByDepot.{plannedAt, afterOffers, moved}
+use Rattle.multi_depot_offers.specs.Laws.Settled.{attemptsLeft, length-offered}
 use Rattle.multi_depot_planning.proofs.Plans.{Kept, lent-still}
-use Rattle.multi_depot.specs.Asked.{Untouched}
+use Rattle.multi_depot.specs.Contracts.{Untouched}
 use Rattle.multi_depot.proofs.Settling.{Settling, begins, copied, falls, goes-on, stays, ends}
 use Rattle.multi_depot.proofs.settle.Statement.{statement}
 use Rattle.multi_depot.proofs.settle.Tie as tie
 
 abbrev Inv-offers : tie.InvT-offers
 Inv-offers sheet depots before₀ at₀ marks₀ fleet₀ stops₀ ends₀ vehicles₀ any₀ before at marks fleet stops ends vehicles any =
-    Kept marks₀ fleet₀ stops₀ ends₀ vehicles₀ marks fleet stops ends vehicles × (Settling sheet at × (Marks sheet marks (planned sheet at .aside) × ((length before ≡ rowsOf sheet) × (any ≡ false → Untouched at₀ marks₀ stops₀ ends₀ vehicles₀ at marks stops ends vehicles))))
+    Kept marks₀ fleet₀ stops₀ ends₀ vehicles₀ marks fleet stops ends vehicles × (Settling sheet at × (Marks sheet marks (plannedAt sheet at .aside) × ((length before ≡ rowsOf sheet) × (any ≡ false → Untouched at₀ marks₀ stops₀ ends₀ vehicles₀ at marks stops ends vehicles))))
 
 abbrev μ-offers : tie.MeasureT-offers
 μ-offers sheet depots before₀ at₀ marks₀ fleet₀ stops₀ ends₀ vehicles₀ any₀ before at marks fleet stops ends vehicles any =
@@ -26,7 +26,7 @@ abbrev μ-offers : tie.MeasureT-offers
 
 offers-holds : tie.Need-offers-holds Inv-offers μ-offers
 offers-holds c = let p = c .before .before .before .before .before .before .before .before .pre in
-    (record { marked = refl; manned = refl; stopped = refl; ended = refl; driven = refl }, (begins _ _ (p .1 .1 .0), (p .1 .1 .1, (p .1 .0 .1, λ e. record { stayed = refl; marked = refl; stopped = refl; ended = refl; driven = refl }))))
+    (record { marked = refl; fleet-long = refl; stopped = refl; ended = refl; driven = refl }, (begins _ _ (p .1 .1 .0), (p .1 .1 .1, (p .1 .0 .1, λ e. record { stayed = refl; marked = refl; stopped = refl; ended = refl; driven = refl }))))
 
 copy-requires : tie.Need-copy-requires Inv-offers μ-offers
 copy-requires c κs = let i = c .before .before .offers .inv in omega (arith, i .1 .1 .1 .0, i .1 .0 .long)
@@ -36,13 +36,13 @@ offer-requires c κs = let p = c .before .before .before .before .before .before
     let i = c .before .before .before .before .before .before .before .offers .inv in
     (record { sheet = p .0 .sheet; count = p .1 .0 .0; rows = i .1 .0 .long }, i .1 .1 .0)
 
-remark-changed-requires : tie.Need-remark-changed-requires Inv-offers μ-offers
-remark-changed-requires c κs = let s = c .before .before .before .before .before .before .before .before .before .before .before .before .before .before .before .before .before .before .before .before .before .before .before .before .before .before .before .args .sheet .now in
+update-changed-requires : tie.Need-update-changed-requires Inv-offers μ-offers
+update-changed-requires c κs = let s = c .before .before .before .before .before .before .before .before .before .before .before .before .before .before .before .before .before .before .before .before .before .before .before .before .before .before .before .args .sheet .now in
     let p = c .before .before .before .before .before .before .before .before .before .before .before .before .before .before .before .before .before .before .before .before .before .before .before .before .before .before .before .pre in
     let l = c .before .before .before .before .before .before .before .before .before .before .before .before .before .before .before .before .before .before .offers in
     let e = copied (l .before) (l .at) (l .inv .1 .1 .1 .0 ∙ sym (l .inv .1 .0 .long)) (c .before .before .before .before .before .before .before .before .before .before .before .before .before .before .before .copy .ensures) in
     let o = c .before .before .before .before .before .before .before .before .before .before .offer .ensures .1 in
-    (lent-still (p .0) (l .inv .0) (ap length o ∙ length-offered s (l .at) ∙ l .inv .1 .0 .long), ((p .1 .0 .0, o ∙ ap (offered s) (sym e)), subst (λ (before : List ℕ). Marks s (l .marks) (planned s before .aside)) (sym e) (l .inv .1 .1 .0)))
+    (lent-still (p .0) (l .inv .0) (ap length o ∙ length-offered s (l .at) ∙ l .inv .1 .0 .long), ((p .1 .0 .0, o ∙ ap (afterOffers s) (sym e)), subst (λ (before : List ℕ). Marks s (l .marks) (plannedAt s before .aside)) (sym e) (l .inv .1 .1 .0)))
 
 offers-less : tie.Need-offers-less Inv-offers μ-offers
 offers-less c = let o = c .before .before .before .before .before .before .before .before .before .before .before .before .before .before .before .before .before .before .before .before .before .offer .ensures in
@@ -51,10 +51,10 @@ offers-less c = let o = c .before .before .before .before .before .before .befor
 offers-again : tie.Need-offers-again Inv-offers μ-offers
 offers-again c = let i = c .before .before .before .before .before .before .before .before .before .before .before .before .before .before .before .before .before .before .before .before .before .before .before .before .before .before .before .before .before .offers .inv in
     let o = c .before .before .before .before .before .before .before .before .before .before .before .before .before .before .before .before .before .before .before .before .before .offer .ensures in
-    let w = c .before .before .before .before .before .before .before .before .before .before .remark-changed in (
+    let w = c .before .before .before .before .before .before .before .before .before .before .update-changed in (
       record {
         marked = w .kept .1 .1 .1 .1 .0 ∙ i .0 .marked;
-        manned = w .kept .1 .1 .1 .1 .1 .0 ∙ i .0 .manned;
+        fleet-long = w .kept .1 .1 .1 .1 .1 .0 ∙ i .0 .fleet-long;
         stopped = w .kept .1 .1 .1 .1 .1 .1 .0 ∙ i .0 .stopped;
         ended = w .kept .1 .1 .1 .1 .1 .1 .1 .0 ∙ i .0 .ended;
         driven = w .kept .1 .1 .1 .1 .1 .1 .1 .1 .0 ∙ i .0 .driven;
@@ -67,7 +67,7 @@ offers-again c = let i = c .before .before .before .before .before .before .befo
 
 -- once no stop has moved
 module _ (c : tie.Then1 Inv-offers μ-offers) where
-  unmoving : moved (c .before .before .before .before .before .before .before .before .before .before .before .offers .at) (offered (c .before .before .before .before .before .before .before .before .before .before .before .before .before .before .before .before .before .before .before .before .args .sheet .now) (c .before .before .before .before .before .before .before .before .before .before .before .offers .at)) ≡ false
+  unmoving : moved (c .before .before .before .before .before .before .before .before .before .before .before .offers .at) (afterOffers (c .before .before .before .before .before .before .before .before .before .before .before .before .before .before .before .before .before .before .before .before .args .sheet .now) (c .before .before .before .before .before .before .before .before .before .before .before .offers .at)) ≡ false
   unmoving = sym (c .before .before .before .offer .ensures .0) ∙ not-true _ (c .if1 .taken)
 
   same-at : c .before .before .before .offer .last .1 .1 .0 ≡ c .before .before .before .before .before .before .before .before .before .before .before .offers .at
@@ -83,7 +83,7 @@ same-length-3 : tie.Need-same-length-3 Inv-offers μ-offers
 same-length-3 c = c .before .before .before .before .before .before .before .before .before .before .before .offers .inv .0 .marked
 
 same-length-4 : tie.Need-same-length-4 Inv-offers μ-offers
-same-length-4 c = c .before .before .before .before .before .before .before .before .before .before .before .offers .inv .0 .manned
+same-length-4 c = c .before .before .before .before .before .before .before .before .before .before .before .offers .inv .0 .fleet-long
 
 same-length-5 : tie.Need-same-length-5 Inv-offers μ-offers
 same-length-5 c = c .before .before .before .before .before .before .before .before .before .before .before .offers .inv .0 .stopped
@@ -109,7 +109,7 @@ settle-spec =
     offers-holds
     copy-requires
     offer-requires
-    remark-changed-requires
+    update-changed-requires
     offers-less
     offers-again
     same-length

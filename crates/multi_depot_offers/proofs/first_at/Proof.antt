@@ -3,7 +3,7 @@ use mathlib.Core.Path.{_≡_, sym, _∙_}
 use Prim.Native.Nat.{_-_}
 use native.Mathlib.Omega.{arith}
 use Rattle.sheet.specs.Fields.{rowsOf}
-use Rattle.sheet.specs.Depots.{depots-few}
+use Rattle.sheet.specs.Laws.Depots.{depots-few}
 use Rattle.multi_depot_offers.proofs.Asking.{next-upto}
 use Rattle.multi_depot_offers.proofs.Firsts.{Firsts, begins, goes-on, ends}
 use Rattle.multi_depot_offers.proofs.first_at.Statement.{statement}

@@ -5,9 +5,9 @@ use native.Mathlib.Omega.{arith}
 use mathlib.Core.Bool.{Bool}
 use lib.ListN.{length, getD}
 use Rattle.lists.specs.Count.{isIn}
-use Rattle.sheet.specs.Depots.{depots-few}
-use Rattle.constructive.specs.Marks.{turned}
-use Rattle.multi_depot_offers.specs.ByDepot.{planned, movesTo}
+use Rattle.sheet.specs.Laws.Depots.{depots-few}
+use Rattle.constructive.specs.Laws.Marks.{marked-aside}
+use Rattle.multi_depot_offers.specs.ByDepot.{plannedAt, movesTo}
 use Rattle.multi_depot_offers.proofs.Asking.{moves-upto}
 use Rattle.multi_depot_offers.proofs.Moving.{Moving, begins, stays, moves, moved-to, any-moved}
 use Rattle.multi_depot_offers.proofs.offer.Statement.{statement}
@@ -47,12 +47,12 @@ loop-less : tie.Need-loop-less Inv-loop μ-loop
 loop-less c = omega arith
 
 -- where the row goes
-goes-to : (c : tie.After-moves-to Inv-loop μ-loop) → movesTo (c .before .before .before .before .before .before .before .before .args .sheet .now) (isIn (c .before .before .before .before .loop .row) (planned (c .before .before .before .before .before .before .before .before .args .sheet .now) (c .before .before .before .before .before .before .before .before .args .at .now) .aside)) (c .before .before .before .before .loop .row) (getD (c .before .before .before .before .loop .at) (c .before .before .before .before .loop .row) 0) ≡ c .moves-to .result
+goes-to : (c : tie.After-moves-to Inv-loop μ-loop) → movesTo (c .before .before .before .before .before .before .before .before .args .sheet .now) (isIn (c .before .before .before .before .loop .row) (plannedAt (c .before .before .before .before .before .before .before .before .args .sheet .now) (c .before .before .before .before .before .before .before .before .args .at .now) .aside)) (c .before .before .before .before .loop .row) (getD (c .before .before .before .before .loop .at) (c .before .before .before .before .loop .row) 0) ≡ c .moves-to .result
 goes-to c =
     let a = c .before .before .before .before .before .before .before .before .args in
     let p = c .before .before .before .before .before .before .before .before .pre in
     let l = c .before .before .before .before .loop in
-    ap (λ (b : Bool). movesTo (a .sheet .now) b (l .row) (getD (l .at) (l .row) 0)) (sym (turned (a .sheet .now) (a .marks .now) (planned (a .sheet .now) (a .at .now) .aside) (p .1) (l .row) (omega (arith, l .inv .0, p .0 .rows))))
+    ap (λ (b : Bool). movesTo (a .sheet .now) b (l .row) (getD (l .at) (l .row) 0)) (sym (marked-aside (a .sheet .now) (a .marks .now) (plannedAt (a .sheet .now) (a .at .now) .aside) (p .1) (l .row) (omega (arith, l .inv .0, p .0 .rows))))
     ∙ sym (c .moves-to .ensures)
 
 loop-again : tie.Need-loop-again Inv-loop μ-loop

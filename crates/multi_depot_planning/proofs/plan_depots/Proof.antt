@@ -4,7 +4,7 @@ use Prim.Native.Nat.{_-_, _≤_}
 use native.Mathlib.Omega.{arith}
 use Rattle.sheet.specs.Depots.{depotsOf}
 use Rattle.multi_depot_offers.specs.ByDepot.{plannedUpto}
-use Rattle.multi_depot_offers.specs.Asked.{Planned}
+use Rattle.multi_depot_offers.specs.Contracts.{Planned}
 use Rattle.multi_depot_planning.proofs.Plans.{next-there, planned-more, planned-none, Kept, lent-still}
 use Rattle.multi_depot_planning.proofs.plan_depots.Statement.{statement}
 use Rattle.multi_depot_planning.proofs.plan_depots.Tie as tie
@@ -24,7 +24,7 @@ loop-holds : tie.Need-loop-holds Inv-loop μ-loop
 loop-holds c = let a = c .before .before .before .before .before .before .before .before .before .before .before .args in
     let p = c .before .before .before .before .before .before .before .before .before .before .before .pre in
     let l = c .before .before .fill in
-    (omega arith, (record { marked = refl; manned = refl; stopped = refl; ended = refl; driven = refl }, rw (l .ensures) (planned-none (a .sheet .now) (a .at .now) (a .marks .now) (a .stops .now) (a .ends .now) (a .vehicles .now) (p .1 .1))))
+    (omega arith, (record { marked = refl; fleet-long = refl; stopped = refl; ended = refl; driven = refl }, rw (l .ensures) (planned-none (a .sheet .now) (a .at .now) (a .marks .now) (a .stops .now) (a .ends .now) (a .vehicles .now) (p .1 .1))))
 
 plan-depot-requires : tie.Need-plan-depot-requires Inv-loop μ-loop
 plan-depot-requires c κs = let p = c .before .before .before .before .before .before .before .before .before .before .before .before .before .before .before .before .before .before .pre in
@@ -45,7 +45,7 @@ loop-again c = let l = c .before .before .before .before .before .before .before
       (
         record {
           marked = w .kept .1 .1 .0 ∙ k .marked;
-          manned = w .kept .1 .1 .1 .0 ∙ k .manned;
+          fleet-long = w .kept .1 .1 .1 .0 ∙ k .fleet-long;
           stopped = w .kept .1 .1 .1 .1 .0 ∙ k .stopped;
           ended = w .kept .1 .1 .1 .1 .1 .0 ∙ k .ended;
           driven = w .kept .1 .1 .1 .1 .1 .1 .0 ∙ k .driven;
@@ -58,7 +58,7 @@ same-length : tie.Need-same-length Inv-loop μ-loop
 same-length c = c .before .loop .inv .1 .0 .marked ∙ c .before .before .before .before .fill .kept .0
 
 same-length-2 : tie.Need-same-length-2 Inv-loop μ-loop
-same-length-2 c = c .before .loop .inv .1 .0 .manned
+same-length-2 c = c .before .loop .inv .1 .0 .fleet-long
 
 same-length-3 : tie.Need-same-length-3 Inv-loop μ-loop
 same-length-3 c = c .before .loop .inv .1 .0 .stopped

@@ -1,7 +1,7 @@
 -- `numbers::in_range` meets its contract: the comparison of the pattern is that of the sign and the NaNs. Assumes nothing.
 use mathlib.Core.Path.{sym}
 use native.Mathlib.Omega.{arith}
-use Rattle.numbers.specs.Range.{in-range-above, in-range-below, number-up-to-infinity}
+use Rattle.numbers.specs.Laws.Range.{in-range-above, in-range-below, number-up-to-infinity}
 use Rattle.numbers.proofs.in_range.Statement.{statement}
 use Rattle.numbers.proofs.in_range.Tie as tie
 

@@ -5,7 +5,7 @@ use native.Mathlib.Omega.{arith}
 use lib.ListN.{length, getD}
 use borrow.Author.Needs.{needs}
 use Rattle.constructive.proofs.InTables.{part, round-of}
-use Rattle.plan.specs.Written.{writable}
+use Rattle.plan.specs.Laws.Written.{writable}
 use Rattle.plan.proofs.Counting.{Counting, begins, goes-on, ends-plan, ends-price}
 use Rattle.plan.proofs.write_rounds.Statement.{statement}
 use Rattle.plan.proofs.write_rounds.Tie as tie

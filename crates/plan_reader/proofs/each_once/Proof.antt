@@ -1,8 +1,8 @@
 -- `plan_reader::each_once` meets its contract. Assumes nothing.
 use native.Mathlib.Omega.{arith}
 use borrow.Author.Needs.{needs}
-use Rattle.plan_reader.specs.Links.{links-at}
-use Rattle.plan_reader.specs.Tally.{too-few, as-many}
+use Rattle.plan_reader.specs.Laws.Links.{links-at}
+use Rattle.plan_reader.specs.Laws.Tally.{too-few, as-many}
 use Rattle.plan_reader.proofs.each_once.Statement.{statement}
 use Rattle.plan_reader.proofs.each_once.Tie as tie
 

@@ -3,7 +3,7 @@ use mathlib.Core.Path.{refl}
 use Prim.Native.Nat.{_-_}
 use native.Mathlib.Omega.{arith}
 use borrow.Author.Needs.{needs}
-use Rattle.plan_reader.specs.Reading.{stopsIn}
+use Rattle.plan_reader.specs.Reading.{stopCount}
 use Rattle.plan_reader.proofs.Following.{Following, begins, no-stop, no-room, goes-on, ends}
 use Rattle.plan_reader.proofs.follow.Statement.{statement}
 use Rattle.plan_reader.proofs.follow.Tie as tie
@@ -12,7 +12,7 @@ abbrev Inv-loop : tie.InvT-loop
 Inv-loop sheet plan depots first stops₀ from rows link₀ at₀ stops link at = Following sheet plan first stops₀ from stops link at
 
 abbrev μ-loop : tie.MeasureT-loop
-μ-loop sheet plan depots first stops₀ from rows link₀ at₀ stops link at = stopsIn sheet - at
+μ-loop sheet plan depots first stops₀ from rows link₀ at₀ stops link at = stopCount sheet - at
 
 rows-requires : tie.Need-rows-requires Inv-loop μ-loop
 rows-requires c κs = search needs

@@ -3,7 +3,7 @@ use mathlib.Core.Path.{ap, _∙_}
 use native.Mathlib.Omega.{arith}
 use borrow.Author.Needs.{needs}
 use Rattle.sheet.specs.Fleet.{indexOf}
-use Rattle.plan.specs.Read.{idAt, firstAt}
+use Rattle.plan.specs.Read.{idAt, firstStopAt}
 use Rattle.plan_reader.proofs.Rounding.{told, unknown, broken, goes-on}
 use Rattle.plan_reader.proofs.read_round.Statement.{statement}
 use Rattle.plan_reader.proofs.read_round.Tie as tie
@@ -60,14 +60,14 @@ same-length : tie.Need-same-length
 same-length c = search needs
 
 returns-2 : tie.Need-returns-2
-unfolding firstAt
+unfolding firstStopAt
 returns-2 c =
     let a = c .before .before .before .before .before .before .before .before .before .before .before .before .before .before .before .before .args in
     let p = c .before .before .before .before .before .before .before .before .before .before .before .before .before .before .before .before .pre in
     broken (a .sheet .now) (a .plan .now) (a .stops .now) (a .ends .now) (a .vehicles .now) (a .k) (a .at) (p .1 .1 .1) (p .1 .1 .0 .0) (told (a .sheet .now) (a .plan .now) (a .stops .now) (c .before .before .before .before .follow .last .1 .1 .1 .1 .0) (a .at) (c .before .before .before .before .before .before .u16-at .ensures) (c .enum-told .given .1) (c .before .before .before .before .follow .ensures))
 
 cast-ends : tie.Need-cast-ends
-unfolding firstAt
+unfolding firstStopAt
 cast-ends c =
     let a = c .before .before .before .before .before .before .before .before .before .before .before .before .before .before .before .before .before .args in
     let f = told (a .sheet .now) (a .plan .now) (a .stops .now) (c .before .before .before .before .before .follow .last .1 .1 .1 .1 .0) (a .at) (c .before .before .before .before .before .before .before .u16-at .ensures) (c .before .end .given .1) (c .before .before .before .before .before .follow .ensures) in
@@ -98,7 +98,7 @@ same-length-4 : tie.Need-same-length-4
 same-length-4 c = search needs
 
 returns-3 : tie.Need-returns-3
-unfolding idAt firstAt
+unfolding idAt firstStopAt
 returns-3 c =
     let a = c .before .before .before .before .before .before .before .before .before .before .before .before .before .before .before .before .before .args in
     let p = c .before .before .before .before .before .before .before .before .before .before .before .before .before .before .before .before .before .pre in

@@ -23,7 +23,7 @@ slice-aggregate-fill-by-6 : tie.Need-slice-aggregate-fill-by-6
 slice-aggregate-fill-by-6 c = search needs
 
 fill-by-requires : tie.Need-fill-by-requires
-fill-by-requires c κs = (c .before .before .before .before .before .before .before .before .before .pre .0, (c .before .before .before .before .before .before .before .before .before .pre .1, record { placed = omega arith; marked = omega arith; manned = omega arith; stopped = omega arith; ended = omega arith; driven = omega arith }))
+fill-by-requires c κs = (c .before .before .before .before .before .before .before .before .before .pre .0, (c .before .before .before .before .before .before .before .before .before .pre .1, record { placed = omega arith; marked = omega arith; fleet-long = omega arith; stopped = omega arith; ended = omega arith; driven = omega arith }))
 
 same-length : tie.Need-same-length
 same-length c = search needs

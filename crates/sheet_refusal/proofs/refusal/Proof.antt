@@ -2,7 +2,7 @@
 use borrow.Author.Tests.{not-false, not-true}
 use borrow.Author.Needs.{needs}
 use Rattle.sheet.specs.Refusal.{contents, refusalOf}
-use Rattle.sheet.specs.Accepted.{counts-of, header-of, sized}
+use Rattle.sheet.specs.Laws.Accepted.{counts-of, header-of, sized}
 use Rattle.sheet_refusal.proofs.Fields.{passed}
 use Rattle.sheet_refusal.proofs.refusal.Statement.{statement}
 use Rattle.sheet_refusal.proofs.refusal.Tie as tie

@@ -1,6 +1,6 @@
 -- `wire::pattern` meets its contract: the branches are the two cases of two's complement. Assumes nothing.
 use native.Mathlib.Omega.{arith}
-use Rattle.wire.specs.Laws.{unsigned-lt}
+use Rattle.wire.specs.Laws.Bytes.{unsigned-lt}
 use Rattle.wire.proofs.Signed.{not-negative, flipped-fits, flipped-back, unsigned-negative}
 use Rattle.wire.proofs.pattern.Statement.{statement}
 use Rattle.wire.proofs.pattern.Tie as tie

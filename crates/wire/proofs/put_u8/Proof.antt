@@ -1,7 +1,7 @@
 -- `wire::put_u8` meets its contract. Assumes nothing.
 use native.Mathlib.Nat.{mod-eq-of-lt}
 use Rattle.wire.specs.Bytes.{bytes}
-use Rattle.wire.specs.Laws.{write-byte}
+use Rattle.wire.specs.Laws.Bytes.{write-byte}
 use borrow.Author.Needs.{needs}
 use Rattle.wire.proofs.put_u8.Statement.{statement}
 use Rattle.wire.proofs.put_u8.Tie as tie

@@ -1,6 +1,6 @@
 -- `wire::u32_at` meets its contract: a number of four bytes is two of two. Assumes nothing.
 use native.Mathlib.Omega.{arith}
-use Rattle.wire.specs.Laws.{le-split}
+use Rattle.wire.specs.Laws.Bytes.{le-split}
 use borrow.Author.Needs.{needs}
 use Rattle.wire.proofs.u32_at.Statement.{statement}
 use Rattle.wire.proofs.u32_at.Tie as tie

@@ -1,6 +1,6 @@
 -- `wire::u64_at` meets its contract: a number of eight bytes is two of four. Assumes nothing.
 use native.Mathlib.Omega.{arith}
-use Rattle.wire.specs.Laws.{le-split}
+use Rattle.wire.specs.Laws.Bytes.{le-split}
 use borrow.Author.Needs.{needs}
 use Rattle.wire.proofs.u64_at.Statement.{statement}
 use Rattle.wire.proofs.u64_at.Tie as tie

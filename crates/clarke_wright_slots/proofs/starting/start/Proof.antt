@@ -3,8 +3,8 @@ use mathlib.Core.Path.{sym, ap, _∙_}
 use lib.ListN.{length, length-replicate}
 use Prim.Native.Nat.{_-_}
 use native.Mathlib.Omega.{arith}
-use Rattle.clarke_wright_slots.specs.SlotsLaws.{roomy-within}
-use Rattle.clarke_wright_slots.proofs.Seating.{Starting, begins, few, row-known, seats, sets-aside, ends-many, ends-left, ends-same, ends-slotted}
+use Rattle.clarke_wright_slots.specs.Laws.Slots.{roomy-within}
+use Rattle.clarke_wright_slots.proofs.StartingRoutes.{Starting, begins, few, row-known, seats, sets-aside, ends-many, ends-left, ends-same, ends-slotted}
 use Rattle.clarke_wright_slots.proofs.starting.start.Statement.{statement}
 use Rattle.clarke_wright_slots.proofs.starting.start.Tie as tie
 
@@ -30,11 +30,11 @@ mul-row c = omega (arith, c .before .loop .inv .room .most)
 shared-slice-read-row : tie.Need-shared-slice-read-row Inv-loop μ-loop
 shared-slice-read-row c = omega (arith, c .before .before .loop .inv .all)
 
-goes-alone-requires : tie.Need-goes-alone-requires Inv-loop μ-loop
-goes-alone-requires c κs = (c .before .before .loop .inv .routed .sheet, (c .before .before .loop .inv .routed .home, row-known (c .before .before .loop .inv) (c .before .loop-test .taken)))
+starts-alone-requires : tie.Need-starts-alone-requires Inv-loop μ-loop
+starts-alone-requires c κs = (c .before .before .loop .inv .routed .sheet, (c .before .before .loop .inv .routed .home, row-known (c .before .before .loop .inv) (c .before .loop-test .taken)))
 
-seat-requires : tie.Need-seat-requires Inv-loop μ-loop
-seat-requires c κs = (c .before .before .before .before .before .before .before .before .loop .inv .routed .sheet, (row-known (c .before .before .before .before .before .before .before .before .loop .inv) (c .before .before .before .before .before .before .before .loop-test .taken), roomy-within (omega (arith, c .before .before .before .before .before .before .before .loop-test .taken)) (c .before .before .before .before .before .before .before .before .loop .inv .room)))
+start-route-requires : tie.Need-start-route-requires Inv-loop μ-loop
+start-route-requires c κs = (c .before .before .before .before .before .before .before .before .loop .inv .routed .sheet, (row-known (c .before .before .before .before .before .before .before .before .loop .inv) (c .before .before .before .before .before .before .before .loop-test .taken), roomy-within (omega (arith, c .before .before .before .before .before .before .before .loop-test .taken)) (c .before .before .before .before .before .before .before .before .loop .inv .room)))
 
 add-k : tie.Need-add-k Inv-loop μ-loop
 add-k c = omega (arith, c .before .before .before .before .before .before .before .before .before .before .before .before .before .before .before .before .before .loop .inv .room .most)
@@ -43,7 +43,7 @@ loop-less : tie.Need-loop-less Inv-loop μ-loop
 loop-less c = omega (arith, c .before .before .before .before .before .before .before .before .before .before .before .before .before .before .before .before .loop-test .taken)
 
 loop-again : tie.Need-loop-again Inv-loop μ-loop
-loop-again c = seats (c .before .before .before .before .before .before .before .before .before .before .before .before .before .before .before .before .before .loop .inv) (c .before .before .before .before .before .before .before .before .before .before .before .before .before .before .before .before .loop-test .taken) (sym (c .before .before .before .before .before .before .before .before .before .before .before .before .before .before .goes-alone .ensures) ∙ c .before .before .before .before .before .before .before .before .before .before .before .before .before .if1 .taken) _ _ _ _ (c .before .before .before .before .before .before .before .before .seat .ensures)
+loop-again c = seats (c .before .before .before .before .before .before .before .before .before .before .before .before .before .before .before .before .before .loop .inv) (c .before .before .before .before .before .before .before .before .before .before .before .before .before .before .before .before .loop-test .taken) (sym (c .before .before .before .before .before .before .before .before .before .before .before .before .before .before .starts-alone .ensures) ∙ c .before .before .before .before .before .before .before .before .before .before .before .before .before .if1 .taken) _ _ _ _ (c .before .before .before .before .before .before .before .before .start-route .ensures)
 
 mul-lens : tie.Need-mul-lens Inv-loop μ-loop
 mul-lens c = omega (arith, c .before .before .before .before .loop .inv .room .most)
@@ -73,7 +73,7 @@ loop-less-2 : tie.Need-loop-less-2 Inv-loop μ-loop
 loop-less-2 c = omega (arith, c .before .before .before .loop-test .taken)
 
 loop-again-2 : tie.Need-loop-again-2 Inv-loop μ-loop
-loop-again-2 c = sets-aside (c .before .before .before .before .loop .inv) (c .before .before .before .loop-test .taken) (sym (c .before .goes-alone .ensures) ∙ c .if1 .left)
+loop-again-2 c = sets-aside (c .before .before .before .before .loop .inv) (c .before .before .before .loop-test .taken) (sym (c .before .starts-alone .ensures) ∙ c .if1 .left)
 
 same-length : tie.Need-same-length Inv-loop μ-loop
 same-length c = c .before .loop .inv .cells-long
@@ -104,8 +104,8 @@ start-spec =
     loop-holds
     mul-row
     shared-slice-read-row
-    goes-alone-requires
-    seat-requires
+    starts-alone-requires
+    start-route-requires
     add-k
     loop-less
     loop-again

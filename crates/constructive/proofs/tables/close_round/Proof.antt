@@ -1,7 +1,7 @@
 -- `constructive::tables::close_round` meets its contract. Assumes nothing.
 use borrow.Author.Needs.{needs}
 use mathlib.Core.Path.{refl}
-use Rattle.wire.specs.Laws.{write-byte}
+use Rattle.wire.specs.Laws.Bytes.{write-byte}
 use Rattle.constructive.proofs.tables.close_round.Statement.{statement}
 use Rattle.constructive.proofs.tables.close_round.Tie as tie
 

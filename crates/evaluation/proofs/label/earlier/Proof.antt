@@ -28,15 +28,15 @@ leaving-requires-2 c κs = search needs
 enum-known-here-2 : tie.Need-enum-known-here-2
 enum-known-here-2 c = search needs
 
-ahead-requires : tie.Need-ahead-requires
-ahead-requires c κs = search needs
+wins-over-requires : tie.Need-wins-over-requires
+wins-over-requires c κs = search needs
 
 leaving-requires-3 : tie.Need-leaving-requires-3
 leaving-requires-3 c κs = search needs
 
 returns : tie.Need-returns
 unfolding earlierOf
-returns c = rw (c .before .before .before .before .before .before .before .carried .given .1, c .before .before .before .before .here2 .given .1, ← c .before .before .ahead .ensures, c .before .if1 .taken, c .leaving3 .ensures)
+returns c = rw (c .before .before .before .before .before .before .before .carried .given .1, c .before .before .before .before .here2 .given .1, ← c .before .before .wins-over .ensures, c .before .if1 .taken, c .leaving3 .ensures)
 
 leaving-requires-4 : tie.Need-leaving-requires-4
 leaving-requires-4 c κs = search needs
@@ -55,7 +55,7 @@ returns-4 c = rw (c .before .before .before .before .carried .given .1, c .befor
 
 returns-5 : tie.Need-returns-5
 unfolding earlierOf
-returns-5 c = rw (c .before .before .before .before .before .before .before .carried .given .1, c .before .before .before .before .here2 .given .1, ← c .before .before .ahead .ensures, c .before .if1 .left, c .leaving4 .ensures)
+returns-5 c = rw (c .before .before .before .before .before .before .before .carried .given .1, c .before .before .before .before .here2 .given .1, ← c .before .before .wins-over .ensures, c .before .if1 .left, c .leaving4 .ensures)
 
 pub earlier-spec : {M : Type 1} → statement M
 earlier-spec =
@@ -69,7 +69,7 @@ earlier-spec =
     enum-told-3
     leaving-requires-2
     enum-known-here-2
-    ahead-requires
+    wins-over-requires
     leaving-requires-3
     returns
     leaving-requires-4

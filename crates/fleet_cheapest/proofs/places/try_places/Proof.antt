@@ -3,7 +3,7 @@ use borrow.Author.Needs.{needs}
 use mathlib.Core.Path.{sym, _∙_}
 use Prim.Native.Nat.{_-_, _≤_}
 use native.Mathlib.Omega.{arith}
-use Rattle.evaluation_ahead.specs.Ahead.{Behind}
+use Rattle.evaluation_prefix.specs.Prefix.{WalkedBefore}
 use Rattle.insertion.proofs.Trying.{trial-long}
 use Rattle.insertion.proofs.Placing.{Placing, placing, places, placed}
 use Rattle.fleet_cheapest.proofs.Prefix.{at-start}
@@ -12,7 +12,7 @@ use Rattle.fleet_cheapest.proofs.places.try_places.Tie as tie
 
 abbrev Inv-loop : tie.InvT-loop
 Inv-loop sheet terms prices route row trial₀ j done₀ k₀ k-end trial done k =
-    Placing sheet terms route j row (done₀ .tried) (done .tried) trial k k-end × (Behind sheet (terms .depot) (terms .limits) route (done .walk) × (done .walk .stops ≤ k))
+    Placing sheet terms route j row (done₀ .tried) (done .tried) trial k k-end × (WalkedBefore sheet (terms .depot) (terms .limits) route (done .walk) × (done .walk .stops ≤ k))
 
 abbrev μ-loop : tie.MeasureT-loop
 μ-loop sheet terms prices route row trial₀ j done₀ k₀ k-end trial done k = k-end - k

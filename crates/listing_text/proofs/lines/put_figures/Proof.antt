@@ -1,5 +1,5 @@
 -- `listing_text::lines::put_figures` meets its contract. Assumes nothing.
-use Rattle.listing_text.specs.Listing.{figures, figureParts}
+use Rattle.listing_text.specs.Listing.{figuresText, figureParts}
 use Rattle.listing_text.proofs.Putting.{begins, fits, next, ends}
 use borrow.Author.Needs.{needs}
 use Rattle.listing_text.proofs.lines.put_figures.Statement.{statement}
@@ -9,7 +9,7 @@ u64-at-requires : tie.Need-u64-at-requires
 u64-at-requires c κs = search needs
 
 put-word-requires : tie.Need-put-word-requires
-unfolding figures
+unfolding figuresText
 put-word-requires c κs = let a = c .before .before .before .before .args in
     rw (c .u64-at .ensures) (fits (begins (a .out .now) (a .at) (figureParts (a .plan .now) (a .place)) (c .before .before .before .before .pre .1)))
 
@@ -20,13 +20,13 @@ u64-at-requires-2 : tie.Need-u64-at-requires-2
 u64-at-requires-2 c κs = search needs
 
 put-word-requires-2 : tie.Need-put-word-requires-2
-unfolding figures
+unfolding figuresText
 put-word-requires-2 c κs = let a = c .before .before .before .before .before .before .before .before .before .args in
     let l = next (begins (a .out .now) (a .at) (figureParts (a .plan .now) (a .place)) (c .before .before .before .before .before .before .before .before .before .pre .1)) (rw (c .before .before .before .before .before .u64-at .ensures) at (c .before .before .before .before .put-word .ensures)) in
     rw (c .u64-at2 .ensures) (fits l)
 
 put-byte-requires : tie.Need-put-byte-requires
-unfolding figures
+unfolding figuresText
 put-byte-requires c κs = let a = c .before .before .before .before .before .before .before .before .before .before .before .before .before .args in
     let l = next (begins (a .out .now) (a .at) (figureParts (a .plan .now) (a .place)) (c .before .before .before .before .before .before .before .before .before .before .before .before .before .pre .1)) (rw (c .before .before .before .before .before .before .before .before .before .u64-at .ensures) at (c .before .before .before .before .before .before .before .before .put-word .ensures)) in
     fits (next l (rw (c .before .before .before .before .u64-at2 .ensures) at (c .before .before .before .put-word2 .ensures)))
@@ -35,7 +35,7 @@ same-length : tie.Need-same-length
 same-length c = search needs
 
 returns : tie.Need-returns
-unfolding figures
+unfolding figuresText
 returns c = let a = c .before .before .before .before .before .before .before .before .before .before .before .before .before .before .before .before .args in
     let l = next (begins (a .out .now) (a .at) (figureParts (a .plan .now) (a .place)) (c .before .before .before .before .before .before .before .before .before .before .before .before .before .before .before .before .pre .1)) (rw (c .before .before .before .before .before .before .before .before .before .before .before .before .u64-at .ensures) at (c .before .before .before .before .before .before .before .before .before .before .before .put-word .ensures)) in
     ends (next (next l (rw (c .before .before .before .before .before .before .before .u64-at2 .ensures) at (c .before .before .before .before .before .before .put-word2 .ensures))) (c .before .before .put-byte .ensures))

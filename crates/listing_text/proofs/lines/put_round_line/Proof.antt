@@ -1,6 +1,6 @@
 -- `listing_text::lines::put_round_line` meets its contract. Assumes nothing.
 use native.Mathlib.Omega.{arith}
-use Rattle.plan.specs.Read.{idAt, firstAt}
+use Rattle.plan.specs.Read.{idAt, firstStopAt}
 use Rattle.listing_text.specs.Listing.{roundLine, roundParts}
 use Rattle.listing_text.proofs.Putting.{begins, fits, next, ends}
 use borrow.Author.Needs.{needs}
@@ -17,7 +17,7 @@ slice-aggregate-put-u32-field : tie.Need-slice-aggregate-put-u32-field
 slice-aggregate-put-u32-field c = search needs
 
 put-u32-field-requires : tie.Need-put-u32-field-requires
-unfolding roundLine idAt firstAt
+unfolding roundLine idAt firstStopAt
 put-u32-field-requires c κs = let a = c .before .before .before .before .args in
     (omega (arith, c .before .before .before .before .pre .0), fits (begins (a .out .now) (a .at) (roundParts (a .plan .now) (a .k)) (c .before .before .before .before .pre .1)))
 
@@ -28,7 +28,7 @@ add-put-u16-field : tie.Need-add-put-u16-field
 add-put-u16-field c = search needs
 
 put-u16-field-requires : tie.Need-put-u16-field-requires
-unfolding roundLine idAt firstAt
+unfolding roundLine idAt firstStopAt
 put-u16-field-requires c κs = let a = c .before .before .before .before .before .before .before .before .before .args in
     (omega (arith, c .before .before .before .before .before .before .before .before .before .pre .0), fits (next (begins (a .out .now) (a .at) (roundParts (a .plan .now) (a .k)) (c .before .before .before .before .before .before .before .before .before .pre .1)) (c .before .before .before .before .put-u32-field .ensures)))
 
@@ -39,7 +39,7 @@ add-put-u32-field : tie.Need-add-put-u32-field
 add-put-u32-field c = search needs
 
 put-u32-field-requires-2 : tie.Need-put-u32-field-requires-2
-unfolding roundLine idAt firstAt
+unfolding roundLine idAt firstStopAt
 put-u32-field-requires-2 c κs = let a = c .before .before .before .before .before .before .before .before .before .before .before .before .before .before .args in
     (omega (arith, c .before .before .before .before .before .before .before .before .before .before .before .before .before .before .pre .0), fits (next (next (begins (a .out .now) (a .at) (roundParts (a .plan .now) (a .k)) (c .before .before .before .before .before .before .before .before .before .before .before .before .before .before .pre .1)) (c .before .before .before .before .before .before .before .before .before .put-u32-field .ensures)) (c .before .before .before .before .put-u16-field .ensures)))
 
@@ -50,7 +50,7 @@ add-put-u16-field-2 : tie.Need-add-put-u16-field-2
 add-put-u16-field-2 c = search needs
 
 put-u16-field-requires-2 : tie.Need-put-u16-field-requires-2
-unfolding roundLine idAt firstAt
+unfolding roundLine idAt firstStopAt
 put-u16-field-requires-2 c κs = let a = c .before .before .before .before .before .before .before .before .before .before .before .before .before .before .before .before .before .before .before .args in
     (omega (arith, c .before .before .before .before .before .before .before .before .before .before .before .before .before .before .before .before .before .before .before .pre .0), fits (next (next (next (begins (a .out .now) (a .at) (roundParts (a .plan .now) (a .k)) (c .before .before .before .before .before .before .before .before .before .before .before .before .before .before .before .before .before .before .before .pre .1)) (c .before .before .before .before .before .before .before .before .before .before .before .before .before .before .put-u32-field .ensures)) (c .before .before .before .before .before .before .before .before .before .put-u16-field .ensures)) (c .before .before .before .before .put-u32-field2 .ensures)))
 
@@ -58,7 +58,7 @@ add-put-figures : tie.Need-add-put-figures
 add-put-figures c = search needs
 
 put-figures-requires : tie.Need-put-figures-requires
-unfolding roundLine idAt firstAt
+unfolding roundLine idAt firstStopAt
 put-figures-requires c κs = let a = c .before .before .before .before .before .before .before .before .before .before .before .before .before .before .before .before .before .before .before .before .before .before .before .args in
     (omega (arith, c .before .before .before .before .before .before .before .before .before .before .before .before .before .before .before .before .before .before .before .before .before .before .before .pre .0), fits (next (next (next (next (begins (a .out .now) (a .at) (roundParts (a .plan .now) (a .k)) (c .before .before .before .before .before .before .before .before .before .before .before .before .before .before .before .before .before .before .before .before .before .before .before .pre .1)) (c .before .before .before .before .before .before .before .before .before .before .before .before .before .before .before .before .before .before .put-u32-field .ensures)) (c .before .before .before .before .before .before .before .before .before .before .before .before .before .put-u16-field .ensures)) (c .before .before .before .before .before .before .before .before .put-u32-field2 .ensures)) (c .before .before .before .put-u16-field2 .ensures)))
 
@@ -66,7 +66,7 @@ same-length : tie.Need-same-length
 same-length c = search needs
 
 returns : tie.Need-returns
-unfolding roundLine idAt firstAt
+unfolding roundLine idAt firstStopAt
 returns c = let a = c .before .before .before .before .before .before .before .before .before .before .before .before .before .before .before .before .before .before .before .before .before .before .before .before .before .before .args in
     ends (next (next (next (next (next (begins (a .out .now) (a .at) (roundParts (a .plan .now) (a .k)) (c .before .before .before .before .before .before .before .before .before .before .before .before .before .before .before .before .before .before .before .before .before .before .before .before .before .before .pre .1)) (c .before .before .before .before .before .before .before .before .before .before .before .before .before .before .before .before .before .before .before .before .before .put-u32-field .ensures)) (c .before .before .before .before .before .before .before .before .before .before .before .before .before .before .before .before .put-u16-field .ensures)) (c .before .before .before .before .before .before .before .before .before .before .before .put-u32-field2 .ensures)) (c .before .before .before .before .before .before .put-u16-field2 .ensures)) (c .before .before .put-figures .ensures))
 

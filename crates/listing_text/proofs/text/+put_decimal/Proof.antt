@@ -3,7 +3,7 @@ use mathlib.Core.Path.{_∙_}
 use Prim.Native.Nat.{ℕ, _/_, _%_, _<_}
 use native.Mathlib.Omega.{arith}
 use Rattle.listing_text.specs.Text.{digitOf, decimal}
-use Rattle.listing_text.specs.Laws.{decimal-low, decimal-high}
+use Rattle.listing_text.specs.Laws.Listing.{decimal-low, decimal-high}
 use Rattle.listing_text.proofs.Digits.{front-fits, last-fits, number}
 use borrow.Fn.Kinds.{In}
 use borrow.Fn.PlainCycle.{Measures, is, falls, and}

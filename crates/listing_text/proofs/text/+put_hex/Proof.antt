@@ -3,7 +3,7 @@ use mathlib.Core.Path.{_∙_}
 use Prim.Native.Nat.{ℕ, _-_, _/_, _%_, _<_}
 use native.Mathlib.Omega.{arith}
 use Rattle.listing_text.specs.Text.{digitOf, hexIn}
-use Rattle.listing_text.specs.Laws.{hex-none, hex-more}
+use Rattle.listing_text.specs.Laws.Listing.{hex-none, hex-more}
 use Rattle.listing_text.proofs.Putting.{nothing}
 use Rattle.listing_text.proofs.Digits.{front-fits, last-fits, number}
 use borrow.Fn.Kinds.{In}

@@ -2,7 +2,7 @@
 use mathlib.Core.Path.{refl}
 use native.Mathlib.Omega.{arith}
 use lib.ListN.{length-set}
-use Rattle.wire.specs.Laws.{write-byte}
+use Rattle.wire.specs.Laws.Bytes.{write-byte}
 use borrow.Author.Needs.{needs}
 use Rattle.listing_text.proofs.text.put_byte.Statement.{statement}
 use Rattle.listing_text.proofs.text.put_byte.Tie as tie

@@ -1,7 +1,7 @@
 -- `multi_depot_offers::depots::nearer` meets its contract. Assumes nothing.
 use borrow.Author.Needs.{needs}
 use borrow.Author.Tests.{not-true, not-false}
-use Rattle.multi_depot_offers.specs.Settled.{and-false}
+use Rattle.multi_depot_offers.specs.Laws.Settled.{and-false}
 use Rattle.multi_depot_offers.proofs.depots.nearer.Statement.{statement}
 use Rattle.multi_depot_offers.proofs.depots.nearer.Tie as tie
 

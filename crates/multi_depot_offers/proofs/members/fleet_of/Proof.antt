@@ -8,7 +8,7 @@ use lib.Dec.{eqb}
 use lib.ListN.{length}
 use borrow.Author.Needs.{needs}
 use borrow.Author.Tests.{eq-eqb, ne-eqb}
-use Rattle.lists.specs.Those.{those-few}
+use Rattle.lists.specs.Laws.Filter.{those-few}
 use Rattle.sheet.specs.Fields.{vehiclesOf}
 use Rattle.sheet.specs.Values.{vehicleOf}
 use Rattle.sheet.specs.Fleet.{fleetOf}

@@ -9,13 +9,13 @@ use borrow.Author.Tests.{not-true, not-false}
 use Rattle.sheet.specs.Fields.{rowsOf}
 use Rattle.sheet.specs.Depots.{depotsOf}
 use Rattle.constructive.proofs.Gathering.{Gathering, begins, length-gathered, passes, within, keeps, gathered}
-use Rattle.multi_depot_offers.specs.ByDepot.{isNobody}
-use Rattle.multi_depot_offers.specs.Asked.{setAside}
+use Rattle.multi_depot_offers.specs.ByDepot.{isNoDepot}
+use Rattle.multi_depot_offers.specs.Contracts.{asideByMarks}
 use Rattle.multi_depot_offers.proofs.members.lay_aside.Statement.{statement}
 use Rattle.multi_depot_offers.proofs.members.lay_aside.Tie as tie
 
 abbrev Inv-loop : tie.InvT-loop
-Inv-loop sheet at marks stops₀ from depots end₀ stop₀ stop-end stops end stop = (stop-end ≡ rowsOf sheet) × Gathering (λ c. isNobody sheet (getD at c 0) || eqb (getD marks c 0) 1) (rowsOf sheet - depotsOf sheet) (depotsOf sheet) stops₀ from stops end stop
+Inv-loop sheet at marks stops₀ from depots end₀ stop₀ stop-end stops end stop = (stop-end ≡ rowsOf sheet) × Gathering (λ c. isNoDepot sheet (getD at c 0) || eqb (getD marks c 0) 1) (rowsOf sheet - depotsOf sheet) (depotsOf sheet) stops₀ from stops end stop
 
 abbrev μ-loop : tie.MeasureT-loop
 μ-loop sheet at marks stops₀ from depots end₀ stop₀ stop-end stops end stop = stop-end - stop
@@ -24,7 +24,7 @@ depots-requires : tie.Need-depots-requires Inv-loop μ-loop
 depots-requires c κs = c .before .before .before .before .pre .0 .sheet .sized
 
 loop-holds : tie.Need-loop-holds Inv-loop μ-loop
-unfolding setAside
+unfolding asideByMarks
 loop-holds c = let a = c .before .before .before .before .before .args in
     (c .before .before .before .before .before .pre .0 .rows, rw (c .depots .ensures) (begins _ _ (depotsOf (a .sheet .now)) (a .stops .now) (a .from) (c .before .before .before .before .before .pre .1 .1)))
 
@@ -57,7 +57,7 @@ cast-stops : tie.Need-cast-stops Inv-loop μ-loop
 cast-stops c = omega (arith, c .before .before .before .before .before .loop .inv .0, c .before .before .before .before .before .before .before .before .before .before .before .pre .0 .sheet .sized .rows)
 
 -- the stop is set aside, and there is room for it
-kept-here : (c : tie.Else1 Inv-loop μ-loop) → (isNobody (c .before .before .before .before .before .before .before .before .before .before .before .args .sheet .now) (getD (c .before .before .before .before .before .before .before .before .before .before .before .args .at .now) (c .before .before .before .before .before .loop .stop) 0) || eqb (getD (c .before .before .before .before .before .before .before .before .before .before .before .args .marks .now) (c .before .before .before .before .before .loop .stop) 0) 1) ≡ true
+kept-here : (c : tie.Else1 Inv-loop μ-loop) → (isNoDepot (c .before .before .before .before .before .before .before .before .before .before .before .args .sheet .now) (getD (c .before .before .before .before .before .before .before .before .before .before .before .args .at .now) (c .before .before .before .before .before .loop .stop) 0) || eqb (getD (c .before .before .before .before .before .before .before .before .before .before .before .args .marks .now) (c .before .before .before .before .before .loop .stop) 0) 1) ≡ true
 kept-here c = rw (← c .before .before .before .before .before .before .depots .ensures) (sym (c .before .is-aside .ensures) ∙ not-false _ (c .if1 .left))
 
 room-here : (c : tie.Else1 Inv-loop μ-loop) → c .before .before .before .before .before .loop .end < length (c .before .before .before .before .before .loop .stops)
@@ -86,7 +86,7 @@ same-length : tie.Need-same-length Inv-loop μ-loop
 same-length c = length-gathered _ _ _ _ _ _ _ _ (c .before .loop .inv .1)
 
 returns : tie.Need-returns Inv-loop μ-loop
-unfolding setAside
+unfolding asideByMarks
 returns c = let l = c .before .loop in
     let s = c .before .before .before .before .before .before .before .args .sheet .now in
     let h : depotsOf s + (rowsOf s - depotsOf s) ≤ l .stop = omega (arith, l .inv .0, l .inv .1 .least) in

@@ -1,6 +1,6 @@
 -- `nearest_neighbor::greedy::clock_at` meets its contract. Assumes nothing.
 use borrow.Author.Needs.{needs}
-use Rattle.nearest_neighbor.specs.Ride.{ridden, onwardBy}
+use Rattle.nearest_neighbor.specs.Partial.{partialWith, onwardBy}
 use Rattle.nearest_neighbor.proofs.greedy.clock_at.Statement.{statement}
 use Rattle.nearest_neighbor.proofs.greedy.clock_at.Tie as tie
 
@@ -17,11 +17,11 @@ clock-at-requires-2 : tie.Need-clock-at-requires-2
 clock-at-requires-2 c κs = search needs
 
 returns : tie.Need-returns
-unfolding onwardBy ridden
+unfolding onwardBy partialWith
 returns c = rw (c .before .enum-told .given .1, c .clock-at .ensures)
 
 returns-2 : tie.Need-returns-2
-unfolding onwardBy ridden
+unfolding onwardBy partialWith
 returns-2 c = rw (c .before .enum-told2 .given .1, c .clock-at2 .ensures)
 
 pub clock-at-spec : {M : Type 1} → statement M

@@ -1,7 +1,7 @@
 -- `nearest_neighbor::greedy::drive_on` meets its contract. Assumes nothing.
 use borrow.Author.Needs.{needs}
 use native.Mathlib.Omega.{arith}
-use Rattle.nearest_neighbor.specs.Ride.{ridden}
+use Rattle.nearest_neighbor.specs.Partial.{partialWith}
 use Rattle.nearest_neighbor.proofs.Judging.{loaded}
 use Rattle.nearest_neighbor.proofs.Keeping.{stepped}
 use Rattle.nearest_neighbor.proofs.greedy.drive_on.Statement.{statement}
@@ -20,13 +20,13 @@ demand-requires : tie.Need-demand-requires
 demand-requires c κs = search needs
 
 add-t10 : tie.Need-add-t10
-add-t10 c = record { fits = omega (arith, loaded (c .before .before .before .before .before .before .args .sheet .now) (c .before .before .before .before .before .before .args .ride) (c .before .before .before .before .before .before .args .row) _ (c .before .before .before .before .before .before .pre .0) (c .before .before .before .before .before .before .pre .1) (c .before .demand .ensures), c .before .before .before .before .before .before .pre .0 .few) }
+add-t10 c = record { fits = omega (arith, loaded (c .before .before .before .before .before .before .args .sheet .now) (c .before .before .before .before .before .before .args .partial) (c .before .before .before .before .before .before .args .row) _ (c .before .before .before .before .before .before .pre .0) (c .before .before .before .before .before .before .pre .1) (c .before .demand .ensures), c .before .before .before .before .before .before .pre .0 .few) }
 
 distance-requires : tie.Need-distance-requires
 distance-requires c κs = search needs
 
 returns : tie.Need-returns
-unfolding ridden
+unfolding partialWith
 returns c = rw (c .before .distance .ensures, c .before .before .before .demand .ensures, c .before .before .before .before .before .pushed-by .ensures) (stepped _ _ _ _ _ (c .before .before .before .before .before .before .clock-at .ensures))
 
 pub drive-on-spec : {M : Type 1} → statement M

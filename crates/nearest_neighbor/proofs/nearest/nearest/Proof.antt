@@ -2,16 +2,16 @@
 use mathlib.Core.Path.{refl}
 use Prim.Native.Nat.{_-_}
 use native.Mathlib.Omega.{arith}
-use Rattle.nearest_neighbor.specs.Ride.{nearestBy}
+use Rattle.nearest_neighbor.specs.Partial.{nearestBy}
 use Rattle.nearest_neighbor.proofs.Judging.{Choosing, goes-on, ends}
 use Rattle.nearest_neighbor.proofs.nearest.nearest.Statement.{statement}
 use Rattle.nearest_neighbor.proofs.nearest.nearest.Tie as tie
 
 abbrev Inv-loop : tie.InvT-loop
-Inv-loop sheet depot vehicle limits ride left best₀ j₀ j-end best j = Choosing (nearestBy sheet depot vehicle limits ride) left best j j-end
+Inv-loop sheet depot vehicle limits partial left best₀ j₀ j-end best j = Choosing (nearestBy sheet depot vehicle limits partial) left best j j-end
 
 abbrev μ-loop : tie.MeasureT-loop
-μ-loop sheet depot vehicle limits ride left best₀ j₀ j-end best j = j-end - j
+μ-loop sheet depot vehicle limits partial left best₀ j₀ j-end best j = j-end - j
 
 loop-holds : tie.Need-loop-holds Inv-loop μ-loop
 loop-holds c = record { last = refl; within = omega arith; same = refl }

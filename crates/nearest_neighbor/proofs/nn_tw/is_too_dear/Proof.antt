@@ -28,7 +28,7 @@ added-requires : tie.Need-added-requires
 added-requires c κs = (c .before .before .before .before .before .before .before .before .pre .0, (c .before .before .before .before .before .before .before .before .pre .1 .0 .row 0 (omega (arith, c .before .before .before .before .before .before .before .before .pre .1 .1)), c .before .before .before .before .before .before .before .before .pre .1 .0 .home))
 
 returns-3 : tie.Need-returns-3
-returns-3 c = rw (not-false (c .before .before .before .before .before .before .before .before .before .args .soft) (c .before .before .before .before .before .before .if1 .left), ne-eqb (c .before .before .before .before .before .before .before .before .before .args .ride .served) 0 (c .before .before .before .before .if2 .left), c .added .ensures, c .before .before .fixed-cost-in-distance .ensures, c .before .before .before .effective-cost .ensures, ← single (c .before .before .before .before .before .before .before .before .before .args .alone .now) (c .before .before .before .before .before .before .before .before .before .pre .1 .1))
+returns-3 c = rw (not-false (c .before .before .before .before .before .before .before .before .before .args .soft) (c .before .before .before .before .before .before .if1 .left), ne-eqb (c .before .before .before .before .before .before .before .before .before .args .partial .served) 0 (c .before .before .before .before .if2 .left), c .added .ensures, c .before .before .fixed-cost-in-distance .ensures, c .before .before .before .effective-cost .ensures, ← single (c .before .before .before .before .before .before .before .before .before .args .alone .now) (c .before .before .before .before .before .before .before .before .before .pre .1 .1))
 
 pub is-too-dear-spec : {M : Type 1} → statement M
 is-too-dear-spec =

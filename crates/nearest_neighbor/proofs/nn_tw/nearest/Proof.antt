@@ -3,16 +3,16 @@ use mathlib.Core.Path.{refl}
 use Prim.Native.Nat.{_-_, _<_}
 use lib.ListN.{length}
 use native.Mathlib.Omega.{arith}
-use Rattle.nearest_neighbor.specs.Ride.{windowBy}
+use Rattle.nearest_neighbor.specs.Partial.{windowBy}
 use Rattle.nearest_neighbor.proofs.Judging.{Choosing, goes-on, ends, alone-long, alone-row, alone-routed}
 use Rattle.nearest_neighbor.proofs.nn_tw.nearest.Statement.{statement}
 use Rattle.nearest_neighbor.proofs.nn_tw.nearest.Tie as tie
 
 abbrev Inv-loop : tie.InvT-loop
-Inv-loop sheet depot vehicle limits soft ride left best₀ j₀ j-end best j = Choosing (windowBy sheet depot vehicle limits soft ride) left best j j-end
+Inv-loop sheet depot vehicle limits soft partial left best₀ j₀ j-end best j = Choosing (windowBy sheet depot vehicle limits soft partial) left best j j-end
 
 abbrev μ-loop : tie.MeasureT-loop
-μ-loop sheet depot vehicle limits soft ride left best₀ j₀ j-end best j = j-end - j
+μ-loop sheet depot vehicle limits soft partial left best₀ j₀ j-end best j = j-end - j
 
 loop-holds : tie.Need-loop-holds Inv-loop μ-loop
 loop-holds c = record { last = refl; within = omega arith; same = refl }

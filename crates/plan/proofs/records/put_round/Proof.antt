@@ -1,7 +1,7 @@
 -- `plan::records::put_round` meets its contract. Assumes nothing.
 use native.Mathlib.Omega.{arith}
 use Rattle.plan.specs.Plan.{roundBytes}
-use Rattle.plan.specs.Laws.{counts-long, figures-long}
+use Rattle.plan.specs.Laws.Plan.{counts-long, figures-long}
 use Rattle.plan.proofs.Run.{then}
 use borrow.Author.Needs.{needs}
 use Rattle.plan.proofs.records.put_round.Statement.{statement}

@@ -1,7 +1,7 @@
 -- `planner::limit::unread_refusal` meets its contract. Assumes nothing.
 use mathlib.Core.Path.{sym, _∙_}
 use borrow.Author.Needs.{needs}
-use Rattle.sheet.specs.Accepted.{accepted}
+use Rattle.sheet.specs.Laws.Accepted.{accepted}
 use Rattle.planner.proofs.Limiting.{early-told, other-told, contents-told, several-told, one-told}
 use Rattle.planner.proofs.limit.unread_refusal.Statement.{statement}
 use Rattle.planner.proofs.limit.unread_refusal.Tie as tie

@@ -3,7 +3,7 @@ use mathlib.Core.Path.{sym}
 use Prim.Native.Nat.{ℕ}
 use native.Mathlib.Omega.{arith}
 use borrow.Author.Needs.{needs}
-use Rattle.probe.specs.Asked.{acceptedOf}
+use Rattle.probe.specs.Contracts.{acceptedOf}
 use Rattle.probe.proofs.Right.{rows-fit, too-short}
 use Rattle.probe.proofs.asked.accepted.Statement.{statement}
 use Rattle.probe.proofs.asked.accepted.Tie as tie

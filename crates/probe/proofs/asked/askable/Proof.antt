@@ -1,7 +1,7 @@
 -- `probe::asked::askable` meets its contract. Assumes nothing.
 use borrow.Author.Needs.{needs}
 use borrow.Author.Tests.{le-ltb, lt-ltb, not-false, not-true}
-use Rattle.probe.specs.Asked.{askable}
+use Rattle.probe.specs.Contracts.{askable}
 use Rattle.probe.proofs.Right.{accepted-of, headed, passed}
 use Rattle.probe.proofs.asked.askable.Statement.{statement}
 use Rattle.probe.proofs.asked.askable.Tie as tie

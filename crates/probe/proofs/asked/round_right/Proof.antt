@@ -1,7 +1,7 @@
 -- `probe::asked::round_right` meets its contract. Assumes nothing.
 use borrow.Author.Tests.{le-leb, lt-leb}
 use borrow.Author.Needs.{needs}
-use Rattle.probe.specs.Asked.{roundRight}
+use Rattle.probe.specs.Contracts.{roundRight}
 use Rattle.probe.proofs.asked.round_right.Statement.{statement}
 use Rattle.probe.proofs.asked.round_right.Tie as tie
 

@@ -1,7 +1,7 @@
 -- `probe::asked::rounds_right` meets its contract. Assumes nothing.
 use borrow.Author.Tests.{eq-eqb, le-leb, le-ltb, lt-leb, lt-ltb, ne-eqb}
 use borrow.Author.Needs.{needs}
-use Rattle.probe.specs.Asked.{roundsRight}
+use Rattle.probe.specs.Contracts.{roundsRight}
 use Rattle.probe.proofs.asked.rounds_right.Statement.{statement}
 use Rattle.probe.proofs.asked.rounds_right.Tie as tie
 

@@ -7,7 +7,7 @@ use lib.Dec.{ltb}
 use lib.ListN.{getD, length}
 use borrow.Author.Needs.{needs}
 use Rattle.numbers.specs.All.{all}
-use Rattle.probe.specs.Asked.{rowsRight}
+use Rattle.probe.specs.Contracts.{rowsRight}
 use Rattle.probe.proofs.asked.rows_right.Statement.{statement}
 use Rattle.probe.proofs.asked.rows_right.Tie as tie
 

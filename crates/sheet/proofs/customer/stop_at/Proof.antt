@@ -3,7 +3,7 @@ use native.Mathlib.Omega.{arith}
 use mir.ValLaws.{toZ-ofZ}
 use mir.Syntax.{w32}
 use borrow.Author.Needs.{needs}
-use Rattle.sheet.specs.Finite.{row-numbers}
+use Rattle.sheet.specs.Laws.Finite.{row-numbers}
 use Rattle.sheet.specs.Values.{stopOf}
 use Rattle.sheet.proofs.customer.stop_at.Statement.{statement}
 use Rattle.sheet.proofs.customer.stop_at.Tie as tie

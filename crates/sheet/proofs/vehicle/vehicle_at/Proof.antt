@@ -2,7 +2,7 @@
 use native.Mathlib.Omega.{arith}
 use borrow.Author.Needs.{needs}
 use Rattle.sheet.specs.Values.{vehicleOf}
-use Rattle.sheet.specs.Finite.{vehicle-numbers}
+use Rattle.sheet.specs.Laws.Finite.{vehicle-numbers}
 use Rattle.sheet.specs.Fields.{depotField, idField}
 use Rattle.sheet.proofs.vehicle.vehicle_at.Statement.{statement}
 use Rattle.sheet.proofs.vehicle.vehicle_at.Tie as tie

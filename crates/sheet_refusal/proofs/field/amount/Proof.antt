@@ -1,6 +1,6 @@
 -- `sheet_refusal::field::amount` meets its contract. Assumes nothing.
 use borrow.Author.Needs.{needs}
-use Rattle.numbers.specs.Range.{billion}
+use Rattle.numbers.specs.Laws.Range.{billion}
 use Rattle.sheet.specs.Ranges.{amount}
 use Rattle.sheet_refusal.proofs.field.amount.Statement.{statement}
 use Rattle.sheet_refusal.proofs.field.amount.Tie as tie

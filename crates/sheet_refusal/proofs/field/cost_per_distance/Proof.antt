@@ -3,7 +3,7 @@ use lib.Ieee.{binary64, ofBits}
 use borrow.Author.Tests.{eq-eqb, ne-eqb, not-false, not-true}
 use borrow.Author.Needs.{needs}
 use Rattle.wire.specs.Bytes.{f64At}
-use Rattle.numbers.specs.Range.{in-range-number, million, thousandth}
+use Rattle.numbers.specs.Laws.Range.{in-range-number, million, thousandth}
 use Rattle.sheet.specs.Ranges.{costPerDistance, zeroBits}
 use Rattle.sheet_refusal.proofs.Fields.{passed}
 use Rattle.sheet_refusal.proofs.field.cost_per_distance.Statement.{statement}

@@ -1,7 +1,7 @@
 -- `sheet_refusal::record::maxima_in_range` meets its contract. Assumes nothing.
 use borrow.Author.Tests.{not-false, not-true}
 use borrow.Author.Needs.{needs}
-use Rattle.numbers.specs.Range.{trillion}
+use Rattle.numbers.specs.Laws.Range.{trillion}
 use Rattle.sheet.specs.Ranges.{maximaInRange, optional}
 use Rattle.sheet.specs.Fields.{vehicleMarks}
 use Rattle.sheet_refusal.proofs.record.maxima_in_range.Statement.{statement}

@@ -1,7 +1,7 @@
 -- `sheet_refusal::record::rest_in_range` meets its contract. Assumes nothing.
 use borrow.Author.Tests.{not-false, not-true}
 use borrow.Author.Needs.{needs}
-use Rattle.numbers.specs.Range.{billion}
+use Rattle.numbers.specs.Laws.Range.{billion}
 use Rattle.sheet.specs.Ranges.{interval, optional, restInRange}
 use Rattle.sheet.specs.Fields.{vehicleMarks}
 use Rattle.sheet_refusal.proofs.record.rest_in_range.Statement.{statement}

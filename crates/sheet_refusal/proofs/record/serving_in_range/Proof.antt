@@ -1,7 +1,7 @@
 -- `sheet_refusal::record::serving_in_range` meets its contract. Assumes nothing.
 use borrow.Author.Tests.{not-false, not-true}
 use borrow.Author.Needs.{needs}
-use Rattle.numbers.specs.Range.{million}
+use Rattle.numbers.specs.Laws.Range.{million}
 use Rattle.sheet.specs.Ranges.{amount, interval, optional, servingInRange}
 use Rattle.sheet.specs.Fields.{rowMarks}
 use Rattle.sheet_refusal.proofs.record.serving_in_range.Statement.{statement}

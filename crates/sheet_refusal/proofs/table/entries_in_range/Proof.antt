@@ -6,7 +6,8 @@ use native.Mathlib.Numerals.{add-one}
 use native.Mathlib.Omega.{arith}
 use borrow.Author.Needs.{needs}
 use borrow.Author.Tests.{not-false, not-true}
-use Rattle.numbers.specs.All.{all, all-broken, all-more, all-none}
+use Rattle.numbers.specs.All.{all}
+use Rattle.numbers.specs.Laws.All.{all-broken, all-more, all-none}
 use Rattle.sheet.specs.Ranges.{amount, entriesInRange}
 use Rattle.sheet.specs.Fields.{entryAt, timesOf}
 use Rattle.sheet_refusal.proofs.table.entries_in_range.Statement.{statement}

@@ -4,7 +4,8 @@ use mathlib.Core.Path.{_∙_, _≡_, ap, sym}
 use Prim.Native.Nat.{_-_, _≤_, ℕ}
 use native.Mathlib.Numerals.{add-one}
 use native.Mathlib.Omega.{arith}
-use Rattle.numbers.specs.All.{all, all-broken, all-more, all-none}
+use Rattle.numbers.specs.All.{all}
+use Rattle.numbers.specs.Laws.All.{all-broken, all-more, all-none}
 use Rattle.sheet.specs.Ranges.{newId, sameId}
 use Rattle.sheet_refusal.proofs.table.new_id.Statement.{statement}
 use Rattle.sheet_refusal.proofs.table.new_id.Tie as tie

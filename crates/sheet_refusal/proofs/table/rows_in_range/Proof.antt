@@ -5,7 +5,8 @@ use Prim.Native.Nat.{_-_, _≤_, ℕ}
 use native.Mathlib.Numerals.{add-one}
 use native.Mathlib.Omega.{arith}
 use borrow.Author.Tests.{not-false, not-true}
-use Rattle.numbers.specs.All.{all, all-broken, all-more, all-none}
+use Rattle.numbers.specs.All.{all}
+use Rattle.numbers.specs.Laws.All.{all-broken, all-more, all-none}
 use Rattle.sheet.specs.Ranges.{rowInRange, rowsInRange}
 use Rattle.sheet.specs.Fields.{rowAt}
 use Rattle.sheet_refusal.proofs.table.rows_in_range.Statement.{statement}

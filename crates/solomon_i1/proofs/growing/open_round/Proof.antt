@@ -4,7 +4,7 @@ use native.Mathlib.Omega.{arith}
 use lib.ListN.{length}
 use borrow.Author.Needs.{needs}
 use Rattle.solomon_i1.specs.Insertion.{Growth, routeIn}
-use Rattle.solomon_i1.specs.Tabled.{stopsIn}
+use Rattle.solomon_i1.specs.Tabled.{growthStops}
 use Rattle.solomon_i1.proofs.Grows.{opened, opens}
 use Rattle.solomon_i1.proofs.growing.open_round.Statement.{statement}
 use Rattle.solomon_i1.proofs.growing.open_round.Tie as tie
@@ -22,7 +22,7 @@ same-length-2 : tie.Need-same-length-2
 same-length-2 c = search needs
 
 returns : tie.Need-returns
-returns c = let e = opened (c .before .before .before .before .before .before .before .before .before .before .before .before .before .before .args .sheet .now) (c .before .before .before .before .before .before .before .before .before .before .before .before .before .before .args .terms) (c .before .before .before .before .before .before .before .before .before .before .before .before .before .before .args .left .now) (c .before .before .before .before .before .before .before .before .before .before .before .before .before .before .args .seed) (c .before .before .before .before .before .before .before .before .before .before .before .before .before .before .pre .1 .0) (c .before .before .before .before .before .before .before .before .before .bring .last .0) (c .before .before .before .before .before .before .before .before .before .bring .ensures) in (c .before .before .before .before .grow-round .ensures .0 ∙ ap (λ (g : Growth). length (routeIn g)) e, c .before .before .before .before .grow-round .ensures .1 ∙ ap stopsIn e)
+returns c = let e = opened (c .before .before .before .before .before .before .before .before .before .before .before .before .before .before .args .sheet .now) (c .before .before .before .before .before .before .before .before .before .before .before .before .before .before .args .terms) (c .before .before .before .before .before .before .before .before .before .before .before .before .before .before .args .left .now) (c .before .before .before .before .before .before .before .before .before .before .before .before .before .before .args .seed) (c .before .before .before .before .before .before .before .before .before .before .before .before .before .before .pre .1 .0) (c .before .before .before .before .before .before .before .before .before .bring .last .0) (c .before .before .before .before .before .before .before .before .before .bring .ensures) in (c .before .before .before .before .grow-round .ensures .0 ∙ ap (λ (g : Growth). length (routeIn g)) e, c .before .before .before .before .grow-round .ensures .1 ∙ ap growthStops e)
 
 pub open-round-spec : {M : Type 1} → statement M
 open-round-spec =

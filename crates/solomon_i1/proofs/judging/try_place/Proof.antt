@@ -3,7 +3,7 @@ use borrow.Author.Needs.{needs}
 use mathlib.Core.Path.{ap, _∙_}
 use native.Mathlib.Omega.{arith}
 use borrow.Author.Tests.{not-true, not-false}
-use Rattle.insertion.specs.Place.{better}
+use Rattle.insertion.specs.Place.{betterPlace}
 use Rattle.insertion.proofs.Trying.{trial-long, slides, routed}
 use Rattle.insertion.proofs.Judged.{soft-told}
 use Rattle.solomon_i1.proofs.judging.try_place.Statement.{statement}
@@ -28,7 +28,7 @@ same-length-2 : tie.Need-same-length-2
 same-length-2 c = search needs
 
 returns-2 : tie.Need-returns-2
-returns-2 c = let o = c .before .before .before .before .before .before .before .before .before .before .before in let a = o .args in let g = slides _ _ _ _ (o .pre .1 .0) _ _ (o .pre .1 .1 .1) (c .before .before .before .before .slide .ensures) in (c .weigh .ensures ∙ ap (better (a .tried .choice) (a .j) (a .k)) (soft-told _ _ (a .route .now) (a .row) (a .k) _ _ (not-false _ (c .before .before .before .before .before .before .if1 .left)) (o .pre .1 .1 .0) (g .holds)), g)
+returns-2 c = let o = c .before .before .before .before .before .before .before .before .before .before .before in let a = o .args in let g = slides _ _ _ _ (o .pre .1 .0) _ _ (o .pre .1 .1 .1) (c .before .before .before .before .slide .ensures) in (c .weigh .ensures ∙ ap (betterPlace (a .tried .choice) (a .j) (a .k)) (soft-told _ _ (a .route .now) (a .row) (a .k) _ _ (not-false _ (c .before .before .before .before .before .before .if1 .left)) (o .pre .1 .1 .0) (g .holds)), g)
 
 pub try-place-spec : {M : Type 1} → statement M
 try-place-spec =

@@ -17,8 +17,8 @@ cast-demand c = let s = c .before .before .before .before .before .before in ome
 demand-requires : tie.Need-demand-requires
 demand-requires c κs = let s = c .before .before .before .before .before .before in (s .pre .0 .routed .sheet, next-row (s .args .sheet .now) (s .args .stops .now) (s .args .terms .depot) (s .args .packing) (s .args .total) (s .pre .0) (s .pre .1 .1))
 
-is-hopeless-requires : tie.Need-is-hopeless-requires
-is-hopeless-requires c κs = let s = c .before .before .before .before .before .before .before .before in alone-asks (s .args .sheet .now) (s .args .stops .now) (s .args .terms .depot) (s .args .packing) (s .args .total) (s .pre .0) (s .pre .1 .1) _ (c .before .demand .ensures)
+is-unservable-requires : tie.Need-is-unservable-requires
+is-unservable-requires c κs = let s = c .before .before .before .before .before .before .before .before in alone-asks (s .args .sheet .now) (s .args .stops .now) (s .args .terms .depot) (s .args .packing) (s .args .total) (s .pre .0) (s .pre .1 .1) _ (c .before .demand .ensures)
 
 set-aside-requires : tie.Need-set-aside-requires
 set-aside-requires c κs = search needs
@@ -30,7 +30,7 @@ same-length : tie.Need-same-length
 same-length c = search needs
 
 returns : tie.Need-returns
-returns c = let s = c .before .before .before .before .before .before .before .before .before .before .before .before .before .before .before in goes-aside (s .args .sheet .now) (s .args .terms) (s .args .total) (s .args .stops .now) (s .args .ends .now) (s .args .vehicles .now) (s .args .packing) _ (c .before .before .before .before .before .before .is-hopeless .ensures) (c .before .before .before .before .before .if1 .taken) _ (c .before .before .before .set-aside .ensures)
+returns c = let s = c .before .before .before .before .before .before .before .before .before .before .before .before .before .before .before in goes-aside (s .args .sheet .now) (s .args .terms) (s .args .total) (s .args .stops .now) (s .args .ends .now) (s .args .vehicles .now) (s .args .packing) _ (c .before .before .before .before .before .before .is-unservable .ensures) (c .before .before .before .before .before .if1 .taken) _ (c .before .before .before .set-aside .ensures)
 
 add-load : tie.Need-add-load
 add-load c = let s = c .before .before .before .before .before .before .before .before .before .before .before in record { fits = omega (arith, load-fits (s .args .sheet .now) (s .args .stops .now) (s .args .terms .depot) (s .args .packing) (s .args .total) (s .pre .0) (s .pre .1 .1) _ (c .before .before .before .before .demand .ensures)) }
@@ -54,7 +54,7 @@ same-length-4 : tie.Need-same-length-4
 same-length-4 c = search needs
 
 returns-2 : tie.Need-returns-2
-returns-2 c = let s = c .before .before .before .before .before .before .before .before .before .before .before .before .before .before .before .before .before .before .before .before .before in begins-round (s .args .sheet .now) (s .args .terms) (s .args .total) (s .args .stops .now) (s .args .ends .now) (s .args .vehicles .now) (s .args .packing) _ (c .before .before .before .before .before .before .before .before .before .before .before .before .is-hopeless .ensures) (c .before .before .before .before .before .before .before .before .before .before .before .if1 .left) _ (c .before .before .before .before .before .before .before .before .is-closing .ensures) _ (c .before .before .before .before .before .before .before .before .before .before .before .before .before .before .demand .ensures) (c .before .before .before .before .before .before .before .if2 .taken) _ _ _ (c .before .before .before .before .close-round .ensures .0) (c .before .before .before .before .close-round .ensures .1 .0) (c .before .before .before .before .close-round .ensures .1 .1)
+returns-2 c = let s = c .before .before .before .before .before .before .before .before .before .before .before .before .before .before .before .before .before .before .before .before .before in begins-round (s .args .sheet .now) (s .args .terms) (s .args .total) (s .args .stops .now) (s .args .ends .now) (s .args .vehicles .now) (s .args .packing) _ (c .before .before .before .before .before .before .before .before .before .before .before .before .is-unservable .ensures) (c .before .before .before .before .before .before .before .before .before .before .before .if1 .left) _ (c .before .before .before .before .before .before .before .before .is-closing .ensures) _ (c .before .before .before .before .before .before .before .before .before .before .before .before .before .before .demand .ensures) (c .before .before .before .before .before .before .before .if2 .taken) _ _ _ (c .before .before .before .before .close-round .ensures .0) (c .before .before .before .before .close-round .ensures .1 .0) (c .before .before .before .before .close-round .ensures .1 .1)
 
 add-t13 : tie.Need-add-t13
 add-t13 c = search needs
@@ -63,7 +63,7 @@ same-length-5 : tie.Need-same-length-5
 same-length-5 c = search needs
 
 returns-3 : tie.Need-returns-3
-returns-3 c = let s = c .before .before .before .before .before .before .before .before .before .before .before .before .before .before in joins-round (s .args .sheet .now) (s .args .terms) (s .args .total) (s .args .stops .now) (s .args .ends .now) (s .args .vehicles .now) (s .args .packing) _ (c .before .before .before .before .before .is-hopeless .ensures) (c .before .before .before .before .if1 .left) _ (c .before .is-closing .ensures) _ (c .before .before .before .before .before .before .before .demand .ensures) (c .if2 .left)
+returns-3 c = let s = c .before .before .before .before .before .before .before .before .before .before .before .before .before .before in joins-round (s .args .sheet .now) (s .args .terms) (s .args .total) (s .args .stops .now) (s .args .ends .now) (s .args .vehicles .now) (s .args .packing) _ (c .before .before .before .before .before .is-unservable .ensures) (c .before .before .before .before .if1 .left) _ (c .before .is-closing .ensures) _ (c .before .before .before .before .before .before .before .demand .ensures) (c .if2 .left)
 
 pub meet-spec : {M : Type 1} → statement M
 meet-spec =
@@ -73,7 +73,7 @@ meet-spec =
     slice-read-demand
     cast-demand
     demand-requires
-    is-hopeless-requires
+    is-unservable-requires
     set-aside-requires
     sub-t23
     same-length

@@ -1,0 +1,5 @@
+pub mod Ranked
+pub mod Joined
+pub mod Permutation
+pub mod Feasible
+pub mod Cases

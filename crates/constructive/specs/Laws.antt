@@ -1,0 +1,12 @@
+pub mod Load
+pub mod Marks
+pub mod Stored
+pub mod Entered
+pub mod Closing
+pub mod Right
+pub mod Rounds
+pub mod TableContents
+pub mod TableStops
+pub mod Terms
+pub mod Unchecked
+pub mod Checked

@@ -1,0 +1,204 @@
+-- On an accepted sheet every figure of a round is finite, not negative and no NaN, so that it can be compared and written. Assumes nothing.
+use mathlib.Core.Path.{sym, subst}
+use Prim.Native.Nat.{ℕ, suc, _+_, _*_, _^_, _≤_, _<_, suc-le-suc}
+use native.Mathlib.Nat.{zero-lt-suc}
+use native.Mathlib.Omega.{arith}
+use mathlib.Core.Bool.{Bool, true, false, not, cond}
+use mathlib.Core.List.{List, [], _∷_}
+use lib.Dec.{T}
+use lib.ListN.{length, getD}
+use lib.Ieee.{Float, le, isNan}
+use Rattle.numbers.specs.Laws.Upto.{Upto, widen, exact-scaled, add-upto, add-units, no-nan}
+use Rattle.numbers.specs.Laws.Range.{zero-upto}
+use Rattle.sheet.specs.Fields.{rowsOf}
+use Rattle.sheet.specs.Accepted.{Accepted}
+use Rattle.sheet.specs.Laws.Finite.{StopBounded, BreakBounded, RestBounded, stop-bounded, distance-bounded, time-bounded}
+use Rattle.sheet.specs.Values.{stopOf, distanceOf, timeOf}
+use Rattle.sheet.specs.declared.customer.Stop.{Stop}
+use Rattle.sheet.specs.declared.vehicle.VehicleBreak.{VehicleBreak}
+use Rattle.sheet.specs.declared.vehicle.Rest.{Rest}
+use Rattle.sheet.specs.declared.vehicle.Rest.the-variants.{NoRest as restless, Required}
+use Rattle.evaluation.specs.declared.label.RestAnswer.{RestAnswer}
+use Rattle.evaluation.specs.declared.label.RestAnswer.the-variants.{NoRest, Before}
+use Rattle.evaluation.specs.declared.label.Label.{Label}
+use Rattle.evaluation.specs.declared.label.Served.{Served}
+use Rattle.evaluation.specs.declared.label.Served.the-variants.{Done, Refused}
+use Rattle.evaluation.specs.declared.clock.Schedule.{Schedule}
+use Rattle.evaluation.specs.declared.clock.Scheduled.{Scheduled}
+use Rattle.evaluation.specs.declared.clock.Scheduled.the-variants.{Found, NotFound}
+use Rattle.evaluation.specs.declared.limits.RouteLimits.{RouteLimits}
+use Rattle.evaluation.specs.declared.RouteEval.{RouteEval}
+use Rattle.evaluation.specs.declared.RouteEval.the-variants.{Allowed, NotAllowed}
+use Rattle.evaluation.specs.Sums.{_⊕_}
+use Rattle.evaluation.specs.Routed.{Routed}
+use Rattle.evaluation.specs.Serve.{restStart, atDepot}
+use Rattle.evaluation.specs.Clock.{Clock, stepOf, stepRested, winsOver, earlierOf, takenOf, movedOf, homeSchedule, unrested, endOf, homeward, returned}
+use Rattle.evaluation.specs.Walk.{Position, startAt, driveTo, walkedOver, homeFrom, scheduledOf}
+use Rattle.evaluation.specs.Limits.{allowOf}
+use Rattle.evaluation.specs.Verdict.{Verdict, allowed, overLimit, heldTo, evalOf}
+use Rattle.evaluation.specs.Feasible.{routeEval, pricedDistance, costOf, effectiveCost}
+use Rattle.evaluation.specs.Laws.Verdict.{verdict-scheduled}
+use Rattle.evaluation.specs.Laws.Bounds.{Times, one-time, AnswerBounded, LabelBounded, ServedBounded, serve-bounded, rested-bounded}
+
+-- ---- one stop of the clock
+pub step-bounded : (a b : ℕ) (x : Served) (travel : Float) (s : Stop) → a ≤ 996 → b + 1000 < 2 ^ 40 → ServedBounded a b x → Times 1 travel → StopBounded s → ServedBounded (a + 4) (b + 1000) (stepOf x travel s)
+unfolding stepOf
+step-bounded a b (Done l) travel s h k ok leg sok = serve-bounded a b l travel s h k ok leg sok
+step-bounded a b Refused travel s h k ok leg sok = tt
+
+step-rested-bounded : (a b : ℕ) (x : Served) (travel : Float) (s : Stop) (place : ℕ) (r : VehicleBreak) → a ≤ 996 → b + 1000 < 2 ^ 40 → ServedBounded a b x → Times 1 travel → StopBounded s → BreakBounded r
+    → ServedBounded (a + 4) (b + 1000) (stepRested x travel s place r)
+unfolding stepRested
+step-rested-bounded a b (Done l) travel s place r h k ok leg sok rok = rested-bounded a b l travel s h k ok leg sok place r rok
+step-rested-bounded a b Refused travel s place r h k ok leg sok rok = tt
+
+earlier-bounded : (a b : ℕ) (x y : Served) → ServedBounded a b x → ServedBounded a b y → ServedBounded a b (earlierOf x y)
+unfolding earlierOf
+earlier-bounded a b Refused y u v = v
+earlier-bounded a b (Done x) Refused u v = u
+earlier-bounded a b (Done x) (Done y) u v = go (winsOver y x)
+  where
+    go : (t : Bool) → ServedBounded a b (cond t (Done y) (Done x))
+    go true = v
+    go false = u
+
+taken-bounded : (a b : ℕ) (r : Rest) (x y : Served) (travel : Float) (s : Stop) (place : ℕ) → a ≤ 996 → b + 1000 < 2 ^ 40 → RestBounded r → ServedBounded a b x → ServedBounded a b y → Times 1 travel → StopBounded s
+    → ServedBounded (a + 4) (b + 1000) (takenOf r x y travel s place)
+unfolding takenOf
+taken-bounded a b restless x y travel s place h k rok u v leg sok = tt
+taken-bounded a b (Required r) x y travel s place h k rok u v leg sok =
+    earlier-bounded (a + 4) (b + 1000) (stepOf y travel s) (stepRested x travel s place r)
+    (step-bounded a b y travel s h k v leg sok) (step-rested-bounded a b x travel s place r h k u leg sok rok)
+
+pub record ClockBounded (a b : ℕ) (c : Clock) : Type 0 where
+  pub rest : RestBounded (c .rest)
+  pub before : ServedBounded a b (c .before)
+  pub after : ServedBounded a b (c .after)
+
+pub moved-bounded : (a b : ℕ) (c : Clock) (travel : Float) (s : Stop) (row : ℕ) → a ≤ 996 → b + 1000 < 2 ^ 40 → ClockBounded a b c → Times 1 travel → StopBounded s → ClockBounded (a + 4) (b + 1000) (movedOf c travel s row)
+unfolding movedOf
+moved-bounded a b c travel s row h k ok leg sok = record {
+  rest = ok .rest;
+  before = step-bounded a b (c .before) travel s h k (ok .before) leg sok;
+  after = taken-bounded a b (c .rest) (c .before) (c .after) travel s (c .place) h k (ok .rest) (ok .before) (ok .after) leg sok;
+}
+
+-- ---- what a round comes to
+pub record ScheduleBounded (k : Schedule) : Type 0 where
+  pub distance : Upto (2 ^ 40) (k .distance)
+  pub duration : Upto (2 ^ 40) (k .duration)
+  pub lateness : Upto (2 ^ 47) (k .lateness)
+  pub cost : Upto (2 ^ 67) (k .«lateness_cost»)
+  pub rest : Upto (2 ^ 40) (restStart (k .rest))
+
+abbrev pub ScheduledBounded : Scheduled → Type 0
+ScheduledBounded (Found k) = ScheduleBounded k
+ScheduledBounded NotFound = Unit
+
+-- at most 101 stops: fewer than a thousand times, and late by fewer than 2 ^ 17 of them
+module _ (a b n : ℕ) (distance back : Float) (h : a < 1000) (k : b ≤ 2 ^ 17) (m : n ≤ 1000) (far : Times n distance) (leg : Times 1 back) where
+  start-upto : (r : RestAnswer) → AnswerBounded a r → Upto (2 ^ 40) (restStart r)
+  start-upto NoRest u = zero-upto (2 ^ 40)
+  start-upto (Before place x) u = widen (a * 2 ^ 30) (2 ^ 40) x (omega arith) u
+
+  home-bounded : (l : Label) (r : RestAnswer) → LabelBounded a b l → AnswerBounded a r → ScheduleBounded (homeSchedule l distance back r)
+  home-bounded l r ok rok = record {
+    distance = widen (n * 2 ^ 30) (2 ^ 40) distance (omega arith) far;
+    duration = widen ((a + 1) * 2 ^ 30) (2 ^ 40) (l .time ⊕ back) (omega arith) (add-units 30 a 1 (l .time) back (omega arith) (omega arith) (ok .time) leg);
+    lateness = widen (b * 2 ^ 30) (2 ^ 47) (l .lateness) (omega arith) (ok .lateness);
+    cost = widen (b * 2 ^ 50) (2 ^ 67) (l .«lateness_cost») (omega arith) (ok .cost);
+    rest = start-upto r rok;
+  }
+
+  unrested-bounded : (x : Served) → ServedBounded a b x → ScheduledBounded (unrested x distance back)
+  unfolding unrested
+  unrested-bounded (Done l) ok = home-bounded l NoRest ok tt
+  unrested-bounded Refused ok = tt
+
+  end-bounded : (x : Served) → ServedBounded a b x → ScheduledBounded (endOf x distance back)
+  unfolding endOf
+  end-bounded (Done l) ok = home-bounded l (l .rest) ok (ok .rest)
+  end-bounded Refused ok = tt
+
+  homeward-bounded : (r : VehicleBreak) (x y : Served) → ServedBounded a b x → ServedBounded a b y → ScheduledBounded (homeward r x y distance back)
+  unfolding homeward
+  homeward-bounded r Refused y u v = end-bounded y v
+  homeward-bounded r (Done l) y u v = go (le (l .time ⊕ back) (r .earliest))
+    where
+      go : (t : Bool) → ScheduledBounded (cond t (Found (homeSchedule l distance back NoRest)) (endOf y distance back))
+      go true = home-bounded l NoRest u tt
+      go false = end-bounded y v
+
+  returned-bounded : (r : Rest) (x y : Served) → ServedBounded a b x → ServedBounded a b y → ScheduledBounded (returned r x y distance back)
+  unfolding returned
+  returned-bounded restless x y u v = unrested-bounded x u
+  returned-bounded (Required r) x y u v = homeward-bounded r x y u v
+
+pub start-bounded : LabelBounded 0 0 atDepot
+start-bounded = record { time = zero-upto (0 * 2 ^ 30); lateness = zero-upto (0 * 2 ^ 30); cost = zero-upto (0 * 2 ^ 50); rest = tt }
+
+-- ---- the walk
+module _ (s : List ℕ) (depot : ℕ) (fine : Accepted s) (D : depot < rowsOf s) where
+  leg-time : (i j : ℕ) → i < rowsOf s → j < rowsOf s → Times 1 (timeOf s i j)
+  leg-time i j h k = one-time (timeOf s i j) (time-bounded s fine i j h k)
+
+  -- one leg further
+  further : (n : ℕ) (distance : Float) (i j : ℕ) → n < 1000 → i < rowsOf s → j < rowsOf s → Times n distance → Times (n + 1) (distance ⊕ distanceOf s i j)
+  further n distance i j l h k u = add-units 30 n 1 distance (distanceOf s i j) (omega arith) (omega arith) u (one-time (distanceOf s i j) (distance-bounded s fine i j h k))
+
+  walked-bounded : (rows : List ℕ) (a b n : ℕ) (p : Position) → a + 4 * length rows < 1000 → b + 1000 * length rows ≤ 2 ^ 17 → n + length rows < 1000
+      → ((k : ℕ) → k < length rows → getD rows k 0 < rowsOf s) → p .clock .prev < rowsOf s → ClockBounded a b (p .clock) → Times n (p .distance)
+      → ScheduledBounded (homeFrom s depot (walkedOver s p rows))
+  unfolding homeFrom driveTo movedOf
+  walked-bounded [] a b n p h k m inside from ok far =
+      let prev = p .clock .prev in
+      returned-bounded a b (n + 1) (p .distance ⊕ distanceOf s prev depot) (timeOf s prev depot) (omega arith) (omega arith) (omega arith)
+      (further n (p .distance) prev depot (omega arith) from D far) (leg-time prev depot from D) (p .clock .rest) (p .clock .before) (p .clock .after) (ok .before) (ok .after)
+  walked-bounded (row ∷ rows) a b n p h k m inside from ok far =
+      let prev = p .clock .prev in
+      let here = inside 0 (zero-lt-suc (length rows)) in
+      walked-bounded rows (a + 4) (b + 1000) (n + 1) (driveTo s p row) (omega arith) (omega arith) (omega arith)
+      (λ i l. inside (suc i) (suc-le-suc l)) here
+      (moved-bounded a b (p .clock) (timeOf s prev row) (stopOf s row) row (omega arith) (omega arith) ok (leg-time prev row from here) (stop-bounded s fine row here))
+      (further n (p .distance) prev row (omega arith) from here far)
+
+abbrev pub EvalBounded : RouteEval → Type 0
+EvalBounded (Allowed k) = ScheduleBounded k
+EvalBounded NotAllowed = Unit
+
+pub priced-bounded : (k : Schedule) → ScheduleBounded k → Upto (2 ^ 68) (pricedDistance k)
+priced-bounded k ok =
+    add-upto (2 ^ 40) (2 ^ 67) (2 ^ 68) (k .distance) (k .«lateness_cost») (ok .distance) (ok .cost) (omega arith) (exact-scaled 1 68 (omega arith) (omega arith))
+
+cost-of-number : (e : RouteEval) → EvalBounded e → T (not (isNan (costOf e)))
+unfolding costOf isNan
+cost-of-number (Allowed k) ok = no-nan (2 ^ 68) (pricedDistance k) (priced-bounded k ok)
+cost-of-number NotAllowed ok = tt
+
+-- ---- a round of an accepted sheet, for a vehicle whose rest is in range, as `vehicle-bounded` has it
+module _ (s : List ℕ) (depot : ℕ) (route : List ℕ) (ok : Routed s depot route) where
+  pub scheduled-bounded : (rest : Rest) → RestBounded rest → ScheduledBounded (scheduledOf s depot rest route)
+  unfolding scheduledOf
+  scheduled-bounded rest u =
+      walked-bounded s depot (ok .sheet) (ok .home) route 0 0 0 (startAt rest depot) (omega (arith, ok .few)) (omega (arith, ok .few)) (omega (arith, ok .few)) (ok .row) (ok .home)
+      (record { rest = u; before = start-bounded; after = tt }) (zero-upto (0 * 2 ^ 30))
+
+  held-bounded : (limits : RouteLimits) (x : Scheduled) → ScheduledBounded x → EvalBounded (evalOf (heldTo limits x))
+  unfolding heldTo
+  held-bounded limits NotFound u = tt
+  held-bounded limits (Found k) u = go (allowOf limits (k .distance) (k .duration))
+    where
+      go : (t : Bool) → EvalBounded (evalOf (cond t (allowed k) (overLimit k)))
+      go true = u
+      go false = tt
+
+  pub eval-bounded : (limits : RouteLimits) → RestBounded (limits .rest) → EvalBounded (routeEval s depot limits route)
+  unfolding routeEval
+  eval-bounded limits u =
+      subst (λ (v : Verdict). EvalBounded (evalOf v)) (sym (verdict-scheduled s depot limits route))
+      (held-bounded limits (scheduledOf s depot (limits .rest) route) (scheduled-bounded (limits .rest) u))
+
+  -- an effective cost can be compared: it is a number, or the infinity of a round that is not allowed
+  pub cost-number : (limits : RouteLimits) → RestBounded (limits .rest) → T (not (isNan (effectiveCost s depot limits route)))
+  unfolding effectiveCost
+  cost-number limits u = cost-of-number (routeEval s depot limits route) (eval-bounded limits u)

@@ -1,0 +1,2 @@
+pub mod Lawful
+pub mod Judging

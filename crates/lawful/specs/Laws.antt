@@ -1,0 +1,9 @@
+pub mod Order
+pub mod Places
+pub mod Decides
+pub mod Whole
+pub mod Amounts
+pub mod Windows
+pub mod Stops
+pub mod Rounds
+pub mod Meaning

@@ -1,0 +1,4 @@
+pub mod Sooner
+pub mod Settled
+pub mod Once
+pub mod Rounds

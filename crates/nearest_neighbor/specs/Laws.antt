@@ -1,0 +1,4 @@
+pub mod Chosen
+pub mod Permutation
+pub mod Feasible
+pub mod Cases

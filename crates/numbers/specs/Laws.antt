@@ -1,0 +1,5 @@
+pub mod All
+pub mod Upto
+pub mod Range
+pub mod Thousandth
+pub mod Differ

@@ -1,0 +1,3 @@
+pub mod Links
+pub mod Tally
+pub mod Right

@@ -1,0 +1,3 @@
+pub mod Promised
+pub mod Insertion
+pub mod LimitPromised

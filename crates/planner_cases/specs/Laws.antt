@@ -1,0 +1,4 @@
+pub mod Refusals
+pub mod LimitRefusals
+pub mod Table
+pub mod Wrong

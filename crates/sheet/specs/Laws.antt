@@ -1,0 +1,4 @@
+pub mod Depots
+pub mod Accepted
+pub mod Finite
+pub mod Stops

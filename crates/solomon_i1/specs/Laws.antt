@@ -1,0 +1,10 @@
+pub mod Cases
+pub mod Free
+pub mod Chosen
+pub mod Grown
+pub mod Planned
+pub mod Permutation
+pub mod Feasible
+pub mod Alone
+pub mod First
+pub mod Closed

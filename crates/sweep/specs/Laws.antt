@@ -1,0 +1,6 @@
+pub mod Products
+pub mod Order
+pub mod Bounds
+pub mod Permutation
+pub mod Feasible
+pub mod Cases
