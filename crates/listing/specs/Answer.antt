@@ -6,6 +6,10 @@ use Rattle.sheet.specs.Refusal.{refusalOf}
 use Rattle.planner.specs.Answer.{planFor}
 use Rattle.listing_text.specs.Listing.{listingOf, refusedText, listingRefusal}
 
+-- as much of its input as the program reads: one byte more than the longest sheet that it lists
+abbrev pub listingRoom : ℕ
+listingRoom = 40337
+
 -- "prints `refused N` or", where nothing is refused, the listing of the sheet's plan
 unfoldable pub answerText : ℕ → List ℕ → List ℕ → List ℕ
 answerText zero s plan = listingOf s plan

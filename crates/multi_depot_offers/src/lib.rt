@@ -34,7 +34,8 @@ pub fn clear(at: &[u16], marks: &mut [u16], depot: usize)
     }
 }
 
-// Whether a row has left a depot or come to it.
+// Whether a row has left a depot or come to it. The contract says what `false` means and leaves `true` open: a depot that is
+// planned again though its members are the same has the same outcome.
 pub fn is_changed(before: &[u16], at: &[u16], depot: usize) -> bool
     requires { ⌜ length (now before) ≡ length (now at) ⌝ }
     ensures { λ r. ⌜ (r ≡ false → Alike (now (before .entry)) (now (at .entry)) depot) ⌝ }

@@ -134,7 +134,8 @@ pub fn construct(
     with_vehicle(sheet, depot, fleet[0], stops, ends, vehicles, filled, total)
 }
 
-// Whether savings are asked of more members than `construct` takes them of.
+// Whether savings are asked of more members than `construct` takes them of. The contract leaves the choice for fewer members
+// open: either way the outcome is the same.
 pub fn saves_many(sheet: &[u8], members: usize) -> bool
     requires { ⌜ 16 ≤ length (now sheet) ⌝ }
     ensures { λ r. ⌜ (r ≡ true → methodOf (now (sheet .entry)) ≡ 0) ⌝ }

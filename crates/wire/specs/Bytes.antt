@@ -33,17 +33,13 @@ u32At s at = le 4 s at
 abbrev pub u64At : List ℕ → ℕ → ℕ
 u64At s at = le 8 s at
 
--- two's complement at 32 bits, and back
+-- two's complement at 32 bits
 unfoldable pub signed : ℕ → ℤ
 signed n = pick (ltb n 0x8000_0000) n
   where
     pick : Bool → ℕ → ℤ
     pick true n = pos n
     pick false n = negsuc (0xffff_ffff - n)
-
-abbrev pub unsigned : ℤ → ℕ
-unsigned (pos n) = n
-unsigned (negsuc n) = 0xffff_ffff - n
 
 abbrev pub i32At : List ℕ → ℕ → ℤ
 i32At s at = signed (u32At s at)

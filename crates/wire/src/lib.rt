@@ -5,7 +5,7 @@ ghost use mathlib.Core.Bool.{not};
 ghost use lib.Dec.{T};
 ghost use lib.ListN.{length};
 ghost use lib.Ieee.{binary64, isNan, toBits};
-ghost use Rattle.wire.specs.Bytes.{bytes, write, u16At, u32At, u64At, unsigned, i32At, f64At, isNumber};
+ghost use Rattle.wire.specs.Bytes.{bytes, write, u16At, u32At, u64At, i32At, f64At, isNumber};
 
 fn glue(low: u8, high: u8) -> u16
     ensures { λ r. ⌜ r ≡ low + 0x100 * high ⌝ }
@@ -83,24 +83,6 @@ pub fn put_u64(s: &mut [u8], at: usize, v: u64)
 {
     put_u32(s, at, (v % 0x1_0000_0000) as u32);
     put_u32(s, at + 4, (v / 0x1_0000_0000) as u32);
-}
-
-// Two's complement, without a cast that loses the sign.
-fn pattern(v: i32) -> u32
-    ensures { λ r. ⌜ r ≡ unsigned v ⌝ }
-{
-    if v >= 0 {
-        v as u32
-    } else {
-        0xffff_ffff - ((-1 - v) as u32)
-    }
-}
-
-pub fn put_i32(s: &mut [u8], at: usize, v: i32)
-    requires { ⌜ at + 4 ≤ length (now s) ⌝ }
-    ensures { λ _. ⌜ now (s .exit) ≡ write (now (s .entry)) at (bytes 4 (unsigned v)) ⌝ }
-{
-    put_u32(s, at, pattern(v));
 }
 
 pub fn put_f64(s: &mut [u8], at: usize, v: f64)

@@ -48,6 +48,7 @@ mod limit_calls;
 mod limiting;
 mod limits;
 mod listing;
+mod listings;
 mod plan;
 mod plan_damage;
 mod planner;
@@ -80,7 +81,7 @@ use bench_plans::Planning;
 
 const USAGE: &str = "usage: compare selftest | refusals COUNT SEED | rounds COUNT SEED | \
                      plans COUNT SEED | plan NUMBER SEED | checked COUNT SEED | \
-                     limits COUNT SEED | limit NUMBER SEED | \
+                     limits COUNT SEED | limit NUMBER SEED | listings PROGRAM COUNT SEED | \
                      bench [plans | limits] [instructions | SIDE CASE RUNS] | freeze SEED DIR | example DIR | \
                      slowest METHOD SECONDS SEED FILE";
 
@@ -99,6 +100,9 @@ fn main() -> ExitCode {
         ["plan", number, seed] => numbers(number, seed).map(|(n, s)| plans::show(n, s)),
         ["limits", count, seed] => numbers(count, seed).map(|(c, s)| limits::run(c, s)),
         ["limit", number, seed] => numbers(number, seed).map(|(n, s)| limits::show(n, s)),
+        ["listings", program, count, seed] => {
+            numbers(count, seed).map(|(c, s)| listings::run(program, c, s))
+        }
         ["checked", count, seed] => numbers(count, seed).map(|(c, s)| checked::run(c, s)),
         ["freeze", seed, folder] => {
             seed.parse().ok().map(|s| written(folder, |to| freeze::run(s, to)))

@@ -5,17 +5,15 @@ use native.Mathlib.Nat.{add-zero, zero-add, suc-add, add-assoc, one-mul, mul-add
 use native.Mathlib.Numerals.{add-one}
 use native.Mathlib.Omega.{arith}
 use mathlib.Core.List.{List, [], _∷_, _++_, append-assoc}
-use mathlib.Core.Bool.{Bool, true, false}
-use lib.Dec.{T, ltb}
+use lib.Dec.{T}
 use lib.Arith.{mod-mul}
 use lib.ListN.{length, getD, take, drop, set, length-append, length-take, length-drop, List·getD-append}
 use lib.Seq.{length-take-le, take-at, drop-at, drop-append-add, getD-append-add, getD-drop, getD-take, set-split, drop-drop}
-use lib.IntN.{ℤ, pos, negsuc}
-use lib.Signed.{mag}
-use borrow.Author.Tests.{lt-ltb, le-ltb, ltb-true, ltb-false}
+use lib.IntN.{pos, negsuc}
+use borrow.Author.Tests.{lt-ltb, le-ltb}
 use lib.Ieee.{Float, binary64, fits, ofBits, toBits}
 use lib.Ieee.Bits.{ofBits-toBits, toBits-lt}
-use Rattle.wire.specs.Bytes.{le, bytes, write, signed, unsigned, i32At, f64At}
+use Rattle.wire.specs.Bytes.{le, bytes, write, signed, f64At}
 
 -- ---- a number of a + b bytes is one of a bytes and one of b bytes
 pub le-split : (a b : ℕ) (s : List ℕ) (at : ℕ) → le (a + b) s at ≡ le a s at + 256 ^ a * le b s (at + a)
@@ -159,27 +157,6 @@ signed-low n h = rw (lt-ltb n 0x8000_0000 h)
 pub signed-high : (n : ℕ) → 0x8000_0000 ≤ n → signed n ≡ negsuc (0xffff_ffff - n)
 unfolding signed
 signed-high n h = rw (le-ltb n 0x8000_0000 h)
-
-flip-flip : (n : ℕ) → n < 0x1_0000_0000 → 0xffff_ffff - (0xffff_ffff - n) ≡ n
-flip-flip n h = omega arith
-
-pub signed-unsigned : (z : ℤ) → mag z < 0x8000_0000 → signed (unsigned z) ≡ z
-signed-unsigned (pos n) h = signed-low n h
-signed-unsigned (negsuc n) h = signed-high (0xffff_ffff - n) (omega arith) ∙ ap negsuc (flip-flip n (omega arith))
-
-pub unsigned-signed : (n : ℕ) → n < 0x1_0000_0000 → unsigned (signed n) ≡ n
-unsigned-signed n h = go (ltb n 0x8000_0000) refl
-  where
-    go : (b : Bool) → ltb n 0x8000_0000 ≡ b → unsigned (signed n) ≡ n
-    go true e = ap unsigned (signed-low n (ltb-true n 0x8000_0000 e))
-    go false e = ap unsigned (signed-high n (ltb-false n 0x8000_0000 e)) ∙ flip-flip n (omega arith)
-
-pub unsigned-lt : (z : ℤ) → mag z < 0x8000_0000 → unsigned z < 0x1_0000_0000
-unsigned-lt (pos n) h = omega arith
-unsigned-lt (negsuc n) h = omega arith
-
-pub i32-back : (s : List ℕ) (at : ℕ) (z : ℤ) → mag z < 0x8000_0000 → at + 4 ≤ length s → i32At (write s at (bytes 4 (unsigned z))) at ≡ z
-i32-back s at z h k = ap signed (le-back 4 s at (unsigned z) (unsigned-lt z h) k) ∙ signed-unsigned z h
 
 pub f64-back : (s : List ℕ) (at : ℕ) (v : Float) → T (fits binary64 v) → at + 8 ≤ length s → f64At (write s at (bytes 8 (toBits binary64 v))) at ≡ v
 unfolding f64At
