@@ -1,4 +1,5 @@
 pub mod Refusals
 pub mod LimitRefusals
 pub mod Table
+pub mod WrongPlans
 pub mod Laws

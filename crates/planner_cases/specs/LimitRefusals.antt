@@ -4,8 +4,10 @@ use mathlib.Core.Path.{_≡_}
 use mathlib.Core.List.{List, [], _∷_, _++_}
 use lib.ListN.{replicate}
 use Rattle.wire.specs.Bytes.{bytes}
-use Rattle.sheet.specs.SheetA.{sheetHeader, rowBytes, noTimes, stopRows, vehicleBytes, tableBytes, sheetA}
+use Rattle.sheet.specs.SheetA.{f10, sheetHeader, rowBytes, noTimes, stopRows, vehicleBytes, tableBytes, sheetA, sheetCarrying}
+use Rattle.solomon_i1.specs.Laws.Cases.{due}
 use Rattle.planner.specs.Limited.{limitRefusal}
+use Rattle.planner_cases.specs.Table.{oneAndTwo, twoAlone, bothAside}
 
 -- a plan of so many rounds: the first is vehicle 7's from stop 1 on, with what stops 1 and 2 link to
 abbrev pub planWith : ℕ → ℕ → ℕ → List ℕ
@@ -41,4 +43,10 @@ limitCases =
     ∷ record { sheet = sheetA 1; plan = planWith 4 2 0; room = 256; answer = 10 }
     -- "unknown id": the second round's is 0
     ∷ record { sheet = sheetA 1; plan = planWith 2 2 0; room = 256; answer = 10 }
+    -- the plans in that wrong plans out are held against
+    ∷ record { sheet = sheetA 1; plan = oneAndTwo; room = 256; answer = 0 }
+    ∷ record { sheet = sheetCarrying 1; plan = oneAndTwo; room = 256; answer = 0 }
+    ∷ record { sheet = due f10; plan = oneAndTwo; room = 256; answer = 0 }
+    ∷ record { sheet = sheetA 1; plan = twoAlone; room = 256; answer = 0 }
+    ∷ record { sheet = sheetA 1; plan = bothAside; room = 256; answer = 0 }
     ∷ []

@@ -17,70 +17,89 @@ use Rattle.solomon_i1.specs.Laws.Cases.{due}
 use Rattle.planner.specs.Answer.{planned, answerOf}
 
 -- ---- numbers as f64
-abbrev five : ℕ
+abbrev pub five : ℕ
 five = 0x4014_0000_0000_0000
 
-abbrev nine : ℕ
+abbrev pub nine : ℕ
 nine = 0x4022_0000_0000_0000
 
-abbrev twelve : ℕ
+abbrev pub twelve : ℕ
 twelve = 0x4028_0000_0000_0000
 
-abbrev fourteen : ℕ
+abbrev pub fourteen : ℕ
 fourteen = 0x402c_0000_0000_0000
 
-abbrev nineteen : ℕ
+abbrev pub seventeen : ℕ
+seventeen = 0x4031_0000_0000_0000
+
+abbrev pub nineteen : ℕ
 nineteen = 0x4033_0000_0000_0000
 
-abbrev twenty : ℕ
+abbrev pub twenty : ℕ
 twenty = 0x4034_0000_0000_0000
 
-abbrev twentyThree : ℕ
+abbrev pub twentyOne : ℕ
+twentyOne = 0x4035_0000_0000_0000
+
+abbrev pub twentyThree : ℕ
 twentyThree = 0x4037_0000_0000_0000
 
-abbrev twentyFour : ℕ
+abbrev pub twentyFour : ℕ
 twentyFour = 0x4038_0000_0000_0000
 
-abbrev thirtyOne : ℕ
+abbrev pub thirtyOne : ℕ
 thirtyOne = 0x403f_0000_0000_0000
 
-abbrev forty : ℕ
+abbrev pub forty : ℕ
 forty = 0x4044_0000_0000_0000
 
 -- a plan without rounds costs -0, the sum of nothing
-abbrev noCost : ℕ
+abbrev pub noCost : ℕ
 noCost = 0x8000_0000_0000_0000
 
 -- ---- plans of three rows
 -- the header: rounds, first set-aside stop, cost
-abbrev planHeader : ℕ → ℕ → ℕ → List ℕ
+abbrev pub planHeader : ℕ → ℕ → ℕ → List ℕ
 planHeader rounds aside cost = bytes 2 rounds ++ (bytes 2 aside ++ (bytes 2 3 ++ (bytes 2 0 ++ bytes 8 cost)))
 
--- a round of vehicle 7 without rest, whose distance is its duration: load, first stop, distance
-abbrev roundRecord : ℕ → ℕ → ℕ → List ℕ
-roundRecord load first distance = bytes 4 7 ++ (bytes 4 load ++ (bytes 2 first ++ (bytes 2 0 ++ (bytes 4 0 ++ (bytes 8 distance ++ (bytes 8 distance ++ replicate 24 0))))))
+-- a round of vehicle 7: load, first stop, rest place, distance, duration, rest start
+abbrev pub restedRecord : ℕ → ℕ → ℕ → ℕ → ℕ → ℕ → List ℕ
+restedRecord load first place distance duration start =
+    bytes 4 7 ++ (bytes 4 load ++ (bytes 2 first ++ (bytes 2 place ++ (bytes 4 0 ++ (bytes 8 distance ++ (bytes 8 duration ++ (replicate 16 0 ++ bytes 8 start)))))))
 
-abbrev unusedRounds : ℕ → List ℕ
+-- one without rest, whose distance is its duration: load, first stop, distance
+abbrev pub roundRecord : ℕ → ℕ → ℕ → List ℕ
+roundRecord load first distance = restedRecord load first 0 distance distance 0
+
+abbrev pub unusedRounds : ℕ → List ℕ
 unusedRounds n = replicate (56 * n) 0
 
--- a stop that is left as it is reached: next, load after, arrival
-abbrev visitRecord : ℕ → ℕ → ℕ → List ℕ
-visitRecord next load time = bytes 2 next ++ (bytes 2 0 ++ (bytes 4 load ++ (bytes 8 time ++ bytes 8 time)))
+-- a stop: next, load after, arrival, departure
+abbrev pub leftRecord : ℕ → ℕ → ℕ → ℕ → List ℕ
+leftRecord next load arrival departure = bytes 2 next ++ (bytes 2 0 ++ (bytes 4 load ++ (bytes 8 arrival ++ bytes 8 departure)))
+
+-- one that is left as it is reached: next, load after, arrival
+abbrev pub visitRecord : ℕ → ℕ → ℕ → List ℕ
+visitRecord next load time = leftRecord next load time time
 
 -- the depot's row
-abbrev depotRecord : List ℕ
+abbrev pub depotRecord : List ℕ
 depotRecord = replicate 24 0
 
 -- a stop set aside: next
-abbrev asideRecord : ℕ → List ℕ
+abbrev pub asideRecord : ℕ → List ℕ
 asideRecord next = bytes 2 next ++ replicate 22 0
 
 -- round 1, 2
-abbrev oneTwo : List ℕ
+abbrev pub oneTwo : List ℕ
 oneTwo = planHeader 1 0 twentyFour ++ (roundRecord 2 1 twentyFour ++ (unusedRounds 2 ++ (depotRecord ++ (visitRecord 2 1 f10 ++ visitRecord 0 2 fourteen))))
 
+-- round 1, 2 with the rest before stop 1, from 12 to 17
+abbrev pub oneTwoRested : List ℕ
+oneTwoRested = planHeader 1 0 twentyFour ++ (restedRecord 2 1 1 twentyFour thirtyOne twelve ++ (unusedRounds 2 ++ (depotRecord ++ (leftRecord 2 1 f10 seventeen ++ visitRecord 0 2 twentyOne))))
+
 -- round 2, 1
-abbrev twoOne : List ℕ
+abbrev pub twoOne : List ℕ
 twoOne = planHeader 1 0 twentyFour ++ (roundRecord 2 2 twentyFour ++ (unusedRounds 2 ++ (depotRecord ++ (visitRecord 0 2 fourteen ++ visitRecord 1 1 f10))))
 
 -- rounds 1 and 2
@@ -88,7 +107,7 @@ abbrev pub oneAndTwo : List ℕ
 oneAndTwo = planHeader 2 0 forty ++ (roundRecord 1 1 twenty ++ (roundRecord 1 2 twenty ++ (unusedRounds 1 ++ (depotRecord ++ (visitRecord 0 1 f10 ++ visitRecord 0 1 f10)))))
 
 -- 1 aside, round 2
-abbrev twoAlone : List ℕ
+abbrev pub twoAlone : List ℕ
 twoAlone = planHeader 1 1 twenty ++ (roundRecord 1 2 twenty ++ (unusedRounds 2 ++ (depotRecord ++ (asideRecord 0 ++ visitRecord 0 1 f10))))
 
 -- both aside
@@ -96,13 +115,13 @@ abbrev pub bothAside : List ℕ
 bothAside = planHeader 0 1 noCost ++ (unusedRounds 3 ++ (depotRecord ++ (asideRecord 2 ++ asideRecord 0)))
 
 -- ---- schedules
+-- sheet A's vehicle with a rest of 5 that starts from `earliest` to `latest`
+abbrev pub restVehicle : ℕ → ℕ → List ℕ
+restVehicle earliest latest = bytes 4 7 ++ (bytes 4 0 ++ (bytes 4 2 ++ (bytes 4 4 ++ f64s (f1 ∷ 0 ∷ 0 ∷ 0 ∷ earliest ∷ latest ∷ five ∷ []))))
+
 -- sheet A with a rest of 5 that starts at `time` and at no other time
-abbrev sheetAt : ℕ → List ℕ
-sheetAt time =
-    sheetHeader 3 1 0
-    ++ (stopRows
-    ++ (bytes 4 7 ++ (bytes 4 0 ++ (bytes 4 2 ++ (bytes 4 4 ++ f64s (f1 ∷ 0 ∷ 0 ∷ 0 ∷ time ∷ time ∷ five ∷ []))))
-    ++ tableBytes))
+abbrev pub sheetAt : ℕ → ℕ → List ℕ
+sheetAt method time = sheetHeader 3 1 method ++ (stopRows ++ (restVehicle time time ++ tableBytes))
 
 -- the rest's place and the duration, or nothing
 abbrev scheduleTold : Scheduled → List ℕ
@@ -111,7 +130,7 @@ scheduleTold NotFound = []
 
 -- of round 1, 2
 abbrev pub scheduleAt : ℕ → List ℕ
-scheduleAt time = scheduleTold (scheduledOf (sheetAt time) 0 (restAfter (sheetAt time) (vehicleAt (sheetAt time) 0)) (1 ∷ 2 ∷ []))
+scheduleAt time = scheduleTold (scheduledOf (sheetAt 0 time) 0 (restAfter (sheetAt 0 time) (vehicleAt (sheetAt 0 time) 0)) (1 ∷ 2 ∷ []))
 
 -- ---- the table
 -- a sheet and its plan, from bytes to bytes; or the time of a rest, and what round 1, 2 then is told
@@ -145,4 +164,6 @@ tableRows =
     -- "14. Savings, capacity 0: rounds 1 and 2. 15. Insertion there: both aside."
     ∷ planRow (relative 0 0 0) oneAndTwo
     ∷ planRow (sheetCarrying 0) bothAside
+    -- and row 11's sheet by savings, from sheet to plan
+    ∷ planRow (sheetAt 0 twelve) oneTwoRested
     ∷ []

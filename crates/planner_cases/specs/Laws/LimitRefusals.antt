@@ -18,4 +18,4 @@ use Rattle.planner_cases.specs.LimitRefusals.{LimitRight, limitCases}
 
 pub limits-right : LimitRight limitCases
 unfolding limitRefusal unreadRefusal headerRight countsRight methodRight lengthsRight needsVehicle fleetRight contents rowsOf vehiclesOf methodOf timesOf spareOf rowMarks idField depotField vehicleMarks marked leading depotsOf coordinate demand capacity marks amount zeroBits optional interval costPerDistance servingInRange rowInRange maximaInRange restInRange vehicleInRange sameId newId rowsInRange entriesInRange vehiclesInRange inRange all number bytes signed f64At ofBits le round roundsAt asideAt idAt firstStopAt nextAt chainFrom indexFrom roundsFrom readPlan idsKnown chains linksRight count eachOnce outcomeRight planRight
-limits-right = (refl, (refl, (refl, (refl, (refl, (refl, (refl, (refl, (refl, (refl, tt))))))))))
+limits-right = (refl, (refl, (refl, (refl, (refl, (refl, (refl, (refl, (refl, (refl, (refl, (refl, (refl, (refl, (refl, tt)))))))))))))))

@@ -1,88 +1,80 @@
--- Plans that break the contract, of sheet A with insertion: "one setting every pond aside (demand 3's insertion clause); one making each pond a lone round (closing clause)". Assumes nothing.
-use Prim.Native.Nat.{ℕ, _<_}
+-- Plans that break demand 3's clauses: "one setting every pond aside (demand 3's insertion clause); one making each pond a lone round (closing clause)",
+-- one that passes over a stop, one that reports that there is no schedule. Assumes nothing.
 use native.Mathlib.Omega.{arith}
 use mathlib.Core.Path.{refl}
-use mathlib.Core.Bool.{Bool, true, false, not, _&&_, true≢false}
-use mathlib.Core.List.{List}
-use lib.Dec.{T}
+use mathlib.Core.Bool.{true≢false}
 use lib.Ieee.{ofBits}
-use lib.Ieee.Fits.{and-l, and-r}
 use Rattle.lists.specs.Count.{count}
 use Rattle.lists.specs.Filter.{filtered}
 use Rattle.wire.specs.Bytes.{le as number, bytes, f64At}
-use Rattle.numbers.specs.All.{all}
-use Rattle.numbers.specs.Laws.All.{all-at}
-use Rattle.sheet.specs.Fields.{rowsOf, vehiclesOf, methodOf, timesOf, rowAt, rowMarks, serviceAt, readyAt, dueAt, vehicleAt, idField, depotField, vehicleMarks, earliestAt, latestAt, restAt, entriesOf, entryAt, marked}
+use Rattle.sheet.specs.Fields.{rowsOf, vehiclesOf, methodOf, timesOf, rowMarks, idField, depotField, vehicleMarks, marked}
 use Rattle.sheet.specs.Depots.{leading, depotsOf}
 use Rattle.sheet.specs.Values.{demandOf, vehicleOf, distanceOf, timeOf}
 use Rattle.sheet.specs.Fleet.{indexFrom, fleetOf}
-use Rattle.sheet.specs.SheetA.{sheetA}
-use Rattle.lawful.specs.Whole.{isWhole, WholeRow, WholeVehicle, Whole}
-use Rattle.lawful.specs.Lawful.{stopN, walkN, travelN, somePlace, lawful, loadN, keepsCapacity, makesRound}
+use Rattle.sheet.specs.SheetA.{f10, sheetA, sheetCarrying}
+use Rattle.lawful.specs.Lawful.{stopN, walkN, travelN, somePlace, lawful, loadN, keepsCapacity, makesRound, someSeedFirst}
+use Rattle.constructive.specs.Outcome.{chains}
+use Rattle.clarke_wright_savings.specs.Laws.Cases.{within}
+use Rattle.solomon_i1.specs.Laws.Cases.{due}
 use Rattle.plan.specs.Read.{roundsAt, asideAt, idAt, firstStopAt, nextAt, chainFrom, roundsFrom, readPlan}
-use Rattle.planner.specs.Answer.{Alone, higher, Closed}
-use Rattle.planner_cases.specs.Table.{oneAndTwo, bothAside}
+use Rattle.planner.specs.Answer.{Standing, Once, Lawful, Alone, higher, set-aside, Closed}
+use Rattle.planner_cases.specs.Table.{nine, twelve, twentyThree, oneTwo, twoOne, oneAndTwo, bothAside, sheetAt}
+use Rattle.planner_cases.specs.WrongPlans.{fifteen, bentSheet, oneAlone, twoMissing, twoTwice, LawfulRests}
+use Rattle.planner_cases.specs.Laws.WholeSheets.{whole-sheets}
 
--- ---- a sheet of whole numbers without soft windows, told by a test
-abbrev wholeAt : List ℕ → ℕ → Bool
-wholeAt s at = isWhole (f64At s at)
+-- ---- **once**: a stop on no round and not aside, and one on two rounds
+pub missing-stands : Standing (sheetA 1) twoMissing → ⊥
+unfolding rowsOf vehiclesOf rowMarks idField marked leading depotsOf roundsAt asideAt idAt firstStopAt nextAt chainFrom indexFrom roundsFrom readPlan chains count number bytes
+missing-stands t = let e = t .each 2 (omega arith) (omega arith) in omega (arith, e)
 
-abbrev wholeRow : List ℕ → ℕ → Bool
-wholeRow s at = wholeAt s (serviceAt at) && (wholeAt s (readyAt at) && (wholeAt s (dueAt at) && not (marked 2 (rowMarks s at) && marked 4 (rowMarks s at))))
+pub stop-missing : Once (sheetA 1) 0 twoMissing → ⊥
+stop-missing f = missing-stands (f refl)
 
-abbrev wholeVehicle : List ℕ → ℕ → Bool
-wholeVehicle s at = wholeAt s (earliestAt at) && (wholeAt s (latestAt at) && wholeAt s (restAt at))
+pub stop-twice : Once (sheetA 1) 0 twoTwice → ⊥
+unfolding rowsOf vehiclesOf rowMarks idField marked leading depotsOf roundsAt asideAt idAt firstStopAt nextAt chainFrom indexFrom roundsFrom readPlan chains count number bytes
+stop-twice f = let e = f refl .each 2 (omega arith) (omega arith) in omega (arith, e)
 
-abbrev wholeSheet : List ℕ → Bool
-wholeSheet s = all (λ i. wholeRow s (rowAt i)) (rowsOf s) && (all (λ v. wholeVehicle s (vehicleAt s v)) (vehiclesOf s) && all (λ k. wholeAt s (entryAt s k)) (entriesOf s))
+-- ---- **lawful**: a load of 2 where 1 is carried, stop 1 reached at 14 and due 10, a distance of 24 where 23 is the most, a rest at 9 and no stop before 10
+pub over-capacity : Lawful (sheetCarrying 1) 0 oneTwo → ⊥
+unfolding rowsOf vehiclesOf methodOf idField demandOf roundsAt asideAt idAt firstStopAt nextAt chainFrom indexFrom roundsFrom readPlan loadN keepsCapacity number bytes
+over-capacity f = f refl (whole-sheets .carrying-one .whole) (λ e. omega (arith, e)) .0 .capacity
 
-unless-both : (a b : Bool) → T (not (a && b)) → T a → T b → ⊥
-unless-both true true t p q = t
-unless-both true false t p q = q
-unless-both false b t p q = p
+pub window-missed : Lawful (due f10) 0 twoOne → ⊥
+unfolding rowsOf vehiclesOf methodOf timesOf rowMarks idField depotField vehicleMarks marked distanceOf timeOf roundsAt asideAt idAt firstStopAt nextAt chainFrom indexFrom roundsFrom readPlan stopN walkN travelN somePlace lawful number bytes f64At ofBits
+window-missed f = f refl (whole-sheets .due-ten .whole) (λ e. omega (arith, e)) .0 .schedule
 
-module _ (s : List ℕ) (t : T (wholeSheet s)) where
-  row-whole : (i : ℕ) → i < rowsOf s → WholeRow s (rowAt i)
-  row-whole i h =
-      let at = rowAt i in
-      let a = all-at (λ i. wholeRow s (rowAt i)) (rowsOf s) i h (and-l (all (λ i. wholeRow s (rowAt i)) (rowsOf s)) _ t) in
-      let b = and-r (wholeAt s (serviceAt at)) _ a in
-      let c = and-r (wholeAt s (readyAt at)) _ b in
-      record {
-        service = and-l (wholeAt s (serviceAt at)) _ a;
-        ready = and-l (wholeAt s (readyAt at)) _ b;
-        due = and-l (wholeAt s (dueAt at)) _ c;
-        hard = unless-both (marked 2 (rowMarks s at)) (marked 4 (rowMarks s at)) (and-r (wholeAt s (dueAt at)) _ c);
-      }
+pub over-distance : Lawful (within twentyThree) 0 oneTwo → ⊥
+unfolding rowsOf vehiclesOf methodOf timesOf rowMarks idField depotField vehicleMarks marked distanceOf timeOf roundsAt asideAt idAt firstStopAt nextAt chainFrom indexFrom roundsFrom readPlan stopN walkN travelN somePlace lawful number bytes f64At ofBits
+over-distance f = f refl (whole-sheets .within-twenty-three .whole) (λ e. omega (arith, e)) .0 .schedule
 
-  vehicle-whole : (v : ℕ) → v < vehiclesOf s → WholeVehicle s (vehicleAt s v)
-  vehicle-whole v h =
-      let at = vehicleAt s v in
-      let u = and-r (all (λ i. wholeRow s (rowAt i)) (rowsOf s)) _ t in
-      let a = all-at (λ v. wholeVehicle s (vehicleAt s v)) (vehiclesOf s) v h (and-l (all (λ v. wholeVehicle s (vehicleAt s v)) (vehiclesOf s)) _ u) in
-      let b = and-r (wholeAt s (earliestAt at)) _ a in
-      record { earliest = and-l (wholeAt s (earliestAt at)) _ a; latest = and-l (wholeAt s (latestAt at)) _ b; resting = and-r (wholeAt s (latestAt at)) _ b }
+pub rest-missed : Lawful (sheetAt 0 nine) 0 oneTwo → ⊥
+unfolding rowsOf vehiclesOf methodOf timesOf rowMarks idField depotField vehicleMarks marked distanceOf timeOf roundsAt asideAt idAt firstStopAt nextAt chainFrom indexFrom roundsFrom readPlan stopN walkN travelN somePlace lawful number bytes f64At ofBits
+rest-missed f = f refl (whole-sheets .rest-at-nine .whole) (λ e. omega (arith, e)) .0 .schedule
 
-  sheet-whole : Whole s
-  sheet-whole =
-      let u = and-r (all (λ i. wholeRow s (rowAt i)) (rowsOf s)) _ t in
-      record {
-        row = row-whole;
-        vehicle = vehicle-whole;
-        entry = λ k h. all-at (λ k. wholeAt s (entryAt s k)) (entriesOf s) k h (and-r (all (λ v. wholeVehicle s (vehicleAt s v)) (vehiclesOf s)) _ u);
-      }
-
--- ---- sheet A
-whole-a : Whole (sheetA 1)
-unfolding all rowsOf vehiclesOf timesOf rowMarks marked number bytes f64At ofBits
-whole-a = sheet-whole (sheetA 1) tt
-
--- both stops can make a round alone
+-- ---- **alone**: both stops can make a round alone
 pub all-aside : Alone (sheetA 1) 0 bothAside → ⊥
 unfolding rowsOf vehiclesOf methodOf timesOf rowMarks idField depotField vehicleMarks marked leading depotsOf demandOf vehicleOf distanceOf timeOf roundsAt asideAt idAt firstStopAt nextAt chainFrom indexFrom roundsFrom readPlan stopN walkN travelN somePlace lawful loadN keepsCapacity makesRound filtered fleetOf number bytes f64At ofBits
-all-aside f = true≢false (f refl whole-a refl refl .0)
+all-aside f = true≢false (f refl (whole-sheets .sheet-a .whole) refl refl .0)
 
--- stop 2 stands on the higher round, and fits before stop 1
+-- "one reporting "no schedule" before walking": each stop needs a rest, and has one before it
+pub no-schedule : Alone (sheetAt 1 twelve) 0 bothAside → ⊥
+unfolding rowsOf vehiclesOf methodOf timesOf rowMarks idField depotField vehicleMarks marked leading depotsOf demandOf vehicleOf distanceOf timeOf roundsAt asideAt idAt firstStopAt nextAt chainFrom indexFrom roundsFrom readPlan stopN walkN travelN somePlace lawful loadN keepsCapacity makesRound filtered fleetOf number bytes f64At ofBits
+no-schedule f = true≢false (f refl (whole-sheets .rest-at-twelve .whole) refl refl .0)
+
+pub lawful-rests : LawfulRests
+unfolding rowsOf vehiclesOf timesOf rowMarks depotField vehicleMarks marked distanceOf timeOf stopN walkN travelN somePlace lawful number bytes f64At ofBits
+lawful-rests = record { at-twelve = refl; before-first = refl; at-twenty-four = refl; unrested = refl; at-nine = refl; later-place = refl; not-before-first = refl; before-second = refl; returned-at = refl; not-at-home = refl }
+
+-- ---- **closed**: stop 2 stands on the higher round, and fits before stop 1
 pub each-alone : Closed (sheetA 1) 0 oneAndTwo → ⊥
 unfolding rowsOf vehiclesOf methodOf timesOf rowMarks idField depotField vehicleMarks marked leading depotsOf demandOf vehicleOf distanceOf timeOf roundsAt asideAt idAt firstStopAt nextAt chainFrom indexFrom roundsFrom readPlan count stopN walkN travelN somePlace lawful loadN keepsCapacity makesRound number bytes f64At ofBits
-each-alone f = true≢false (f refl whole-a refl refl 0 2 (omega arith) (higher 1 (omega arith) (omega arith) (omega arith)) 0 (omega arith))
+each-alone f = true≢false (f refl (whole-sheets .sheet-a .whole) refl refl 0 2 (omega arith) (higher 1 (omega arith) (omega arith) (omega arith)) 0 (omega arith))
+
+-- a nearer stop set aside that fits before stop 1; **alone** does not rule it out
+pub passed-over : Closed bentSheet 0 (oneAlone fifteen) → ⊥
+unfolding rowsOf vehiclesOf methodOf timesOf rowMarks idField depotField vehicleMarks marked leading depotsOf demandOf vehicleOf distanceOf timeOf roundsAt asideAt idAt firstStopAt nextAt chainFrom indexFrom roundsFrom readPlan count stopN walkN travelN somePlace lawful loadN keepsCapacity makesRound someSeedFirst number bytes f64At ofBits
+passed-over f = true≢false (f refl (whole-sheets .bent .whole) refl refl 0 2 (omega arith) (set-aside (omega arith) tt) 0 (omega arith))
+
+pub passed-over-keeps-alone : Alone bentSheet 0 (oneAlone fifteen)
+unfolding rowsOf vehiclesOf methodOf timesOf rowMarks idField depotField vehicleMarks marked leading depotsOf demandOf vehicleOf distanceOf timeOf roundsAt asideAt idAt firstStopAt nextAt chainFrom indexFrom roundsFrom readPlan stopN walkN travelN somePlace lawful loadN keepsCapacity makesRound filtered fleetOf number bytes f64At ofBits
+passed-over-keeps-alone answered whole insertion one = (refl, tt)
