@@ -1,8 +1,55 @@
 /*
- * The round planner, for C and C++ hosts.
+ * The round planner, for C and C++ hosts: rounds are routes, depot to depot. Link
+ * the archive libplanner.a that `rt staticlib planner` writes; it is for x86-64
+ * Linux. planner_fields.h beside this file reads and writes every field by name.
  *
- * Link the archive libplanner.a that `rt staticlib planner` writes. It is for
- * x86-64 Linux.
+ * A ROUND leaves its vehicle's depot at time 0, serves its stops in order and goes
+ * back to that depot.
+ *
+ *   time      Arrival is the departure from the point before plus the time of the
+ *             leg. Before ready the vehicle waits. Departure is the later of arrival
+ *             and ready, plus service; the duration is the time of the return.
+ *   window    Ready to due, on a row with PLANNER_WINDOW. Arrival = due is in time.
+ *             Without PLANNER_PENALTY the window is hard: a later arrival breaks it.
+ *             With it the window is soft: a later arrival is allowed and costs the
+ *             penalty times the lateness. A penalty without a window does nothing.
+ *             A depot's window switches the checks on, with a penalty the rules of
+ *             soft windows too, and binds nothing: no round has to be home by it.
+ *   rest      Due on a vehicle with PLANNER_REST, unless the round without it is
+ *             back by earliest. It stands right before the service of one stop, any
+ *             one, and never on the way home; it starts at the later of arrival and
+ *             earliest, not after latest, and its end is what the stop's window is
+ *             held against.
+ *   limits    Demands sum to at most the capacity; distance and duration are at most
+ *             the marked maxima, the maximum itself included.
+ *   cost      Fixed cost + cost per distance * (distance + lateness cost), where the
+ *             lateness cost sums penalty * lateness. Time alone costs nothing.
+ *   units     Any, the same throughout: one for distances and the maximum distance;
+ *             one for times, service, windows, rests and the maximum duration; money
+ *             for the cost and the fixed cost, money per distance for the cost per
+ *             distance, distance per time for a penalty. Without a time table
+ *             distances serve as times, so the first two units are one.
+ *   place     Coordinates serve the sweep's order by angle alone: no distance is
+ *             computed from them.
+ *
+ * A CALL, and this holds of all three functions:
+ *
+ *   - has an answer for every byte string of every length, always returns, and gives
+ *     the same bytes the same answer;
+ *   - reads and writes no byte but those lent, at any address: no alignment is asked.
+ *     The caller passes no NULL, and nothing to write to that overlaps what is read;
+ *   - where it refuses, leaves every byte lent as it was;
+ *   - allocates nothing, keeps no state, and calls nothing but memcpy and memset,
+ *     which are all that the archive leaves to be linked;
+ *   - may run on several threads at once, each with a buffer of its own to write to.
+ *     During a call no other thread may write what it reads, or touch what it writes.
+ *
+ * THE NAMES check_sheet, plan_rounds and limit_rounds are all that the archive
+ * exports. Where one clashes, rename it, here and in the archive:
+ *
+ *     objcopy --redefine-sym plan_rounds=our_plan_rounds libplanner.a libours.a
+ *     #define plan_rounds our_plan_rounds
+ *     #include "planner.h"
  */
 #ifndef PLANNER_H
 #define PLANNER_H
@@ -10,14 +57,27 @@
 #include <stddef.h>
 #include <stdint.h>
 
+/* The major number rises where bytes that a version accepts are refused or get another
+   meaning, the minor one where something is added. */
+#define PLANNER_VERSION_MAJOR 1
+#define PLANNER_VERSION_MINOR 0
+#define PLANNER_VERSION "1.0"
+
+/* Bytes of stack to keep free for a call, beside what its thread takes otherwise:
+   half as much again, or more, as any call was seen to take (tests/c/stack.c).
+   PLANNER_STACK_SAVINGS is for plan_rounds on a sheet of PLANNER_SAVINGS,
+   PLANNER_STACK for every other call. */
+#define PLANNER_STACK_SAVINGS 262144
+#define PLANNER_STACK 32768
+
 #ifdef __cplusplus
 extern "C" {
 #endif
 
 /*
- * THE SHEET is one run of bytes, little-endian, with no padding and no
- * alignment: any address will do. f64 is an IEEE 754 double, given by its eight
- * bytes. NaN, the infinities and negative zero are out of every range.
+ * THE SHEET is one run of bytes, little-endian, with no padding. f64 is an IEEE 754
+ * double, given by its eight bytes. NaN, the infinities and negative zero are out of
+ * every range. Rows and vehicles are numbered from 0.
  *
  * Header, at byte 0:
  *
@@ -68,8 +128,9 @@ extern "C" {
  *
  * "Zero" is all zero bits. The sheet ends here: not a byte more.
  *
- * THE PLAN has exactly 16 + 80 * R bytes, little-endian too. Rounds, and places
- * in a round, are counted from 1. Unused bytes are zero.
+ * THE PLAN has exactly 16 + 80 * R bytes, little-endian too. Its records are
+ * numbered from 0 like the sheet's, so the first round, which is called round 1, has
+ * record 0. Unused bytes are zero.
  *
  * Header, at byte 0:
  *
@@ -78,23 +139,26 @@ extern "C" {
  *        2  u16      first stop set aside, 0 if there is none
  *        4  u16      rows R
  *        6  u16      zero
- *        8  f64      cost of all rounds
+ *        8  f64      cost of all rounds, summed; -0.0 if there is none, but +0.0
+ *                    from plan_rounds on a sheet of one depot and no stop
  *
- * Round k, counted from 0, at byte 16 + 56 * k; R records, those after the last
- * round all zero:
+ * Record k of a round, at byte 16 + 56 * k; R records, those after the last round
+ * all zero:
  *
  *   offset  type     field
  *        0  u32      its vehicle's id
  *        4  i32      load
  *        8  u16      first stop; 0 is an empty round, which only limit_rounds
  *                    reads or writes
- *       10  u16      place of the rest: before that stop, 1 is before the first;
- *                    0 is no rest
+ *       10  u16      place of the rest: 1 is before the first stop, 2 before the
+ *                    second; 0 is no rest
  *       12  u32      zero
  *       16  f64      distance, depot to depot
  *       24  f64      duration, from leaving the depot at 0 to the return
- *       32  f64      lateness, summed
- *       40  f64      cost of the lateness
+ *       32  f64      lateness at soft windows, summed: an arrival after a hard due
+ *                    does not count, though a round may have one (see
+ *                    PLANNER_NEAREST_NEIGHBOR and limit_rounds)
+ *       40  f64      cost of the lateness, in distance
  *       48  f64      start of the rest, 0 without one
  *
  * Row r, at byte 16 + 56 * R + 24 * r:
@@ -103,7 +167,7 @@ extern "C" {
  *        0  u16      the next stop of its chain, 0 at the end
  *        2  u16      zero
  *        4  i32      load after it
- *        8  f64      arrival, before a rest that stands before it
+ *        8  f64      arrival; a rest at this stop comes after it
  *       16  f64      departure
  *
  * A chain starts at a round's first stop, or at the first stop set aside. A stop
@@ -124,13 +188,28 @@ enum {
 
 /* How rounds are made. Savings, insertion and sweep use a depot's first vehicle for
    all its rounds, as often as it takes; the nearest neighbours give each vehicle of
-   the depot one round at most. PLANNER_NEAREST_NEIGHBOR asks neither windows nor
-   waiting where no rest is due; every other method keeps them. */
+   the depot one round at most, in order. What no round takes is set aside. Where a
+   window is soft, savings, insertion and nn_tw lengthen a round only at less cost than
+   a round more, its fixed cost in distance included. */
 enum planner_method {
+    /* Clarke and Wright 1964: rounds of one stop each, joined end to end, the greatest
+       saving first. Capacity is asked where rounds are joined and nowhere else: a stop
+       that stays alone may exceed it. */
     PLANNER_SAVINGS = 0,
+    /* Solomon 1987: the farthest stop opens a round, and the cheapest insertion of any
+       stop left joins it until none fits. */
     PLANNER_INSERTION = 1,
+    /* The nearest stop next. On a vehicle without PLANNER_REST it ignores windows and
+       waiting: it keeps capacity and both maxima as if no row had a window, so a round
+       may arrive after a hard due, with lateness 0, and by its waiting be out longer
+       than the maximum duration. On a vehicle with PLANNER_REST the whole round is
+       walked, and keeps hard windows, rest and maxima. */
     PLANNER_NEAREST_NEIGHBOR = 2,
+    /* The same, keeping hard windows on every vehicle; near is by distance plus
+       penalty * lateness. */
     PLANNER_NN_TW = 3,
+    /* Gillett and Miller 1974: the stops by their angle from the depot, each into the
+       round of the one before it, or into a new one. */
     PLANNER_SWEEP = 4
 };
 
@@ -148,18 +227,24 @@ enum {
     PLANNER_REST = 4
 };
 
+#ifdef __cplusplus
+#define PLANNER_CAST(type, value) static_cast<type>(value)
+#else
+#define PLANNER_CAST(type, value) ((type)(value))
+#endif
+
 /* Bytes of a sheet. time_table is 0 or 1. */
-#define PLANNER_SHEET_BYTES(rows, vehicles, time_table)            \
-    ((size_t)PLANNER_HEADER_BYTES                                  \
-     + (size_t)PLANNER_ROW_BYTES * (size_t)(rows)                  \
-     + (size_t)PLANNER_VEHICLE_BYTES * (size_t)(vehicles)          \
-     + (size_t)PLANNER_LEG_BYTES * (size_t)(rows) * (size_t)(rows) \
-           * (1u + (size_t)(time_table)))
+#define PLANNER_SHEET_BYTES(rows, vehicles, time_table)                                  \
+    (PLANNER_CAST(size_t, PLANNER_HEADER_BYTES)                                          \
+     + PLANNER_CAST(size_t, PLANNER_ROW_BYTES) * PLANNER_CAST(size_t, rows)              \
+     + PLANNER_CAST(size_t, PLANNER_VEHICLE_BYTES) * PLANNER_CAST(size_t, vehicles)      \
+     + PLANNER_CAST(size_t, PLANNER_LEG_BYTES) * PLANNER_CAST(size_t, rows)              \
+           * PLANNER_CAST(size_t, rows) * (1u + PLANNER_CAST(size_t, time_table)))
 
 /* Bytes of the plan of a sheet with so many rows. */
-#define PLANNER_PLAN_BYTES(rows)          \
-    ((size_t)PLANNER_PLAN_HEADER_BYTES    \
-     + (size_t)PLANNER_PLAN_ROW_BYTES * (size_t)(rows))
+#define PLANNER_PLAN_BYTES(rows)                        \
+    (PLANNER_CAST(size_t, PLANNER_PLAN_HEADER_BYTES)    \
+     + PLANNER_CAST(size_t, PLANNER_PLAN_ROW_BYTES) * PLANNER_CAST(size_t, rows))
 
 /*
  * Why a call is turned back. The conditions are tested in this order, rows,
@@ -197,34 +282,36 @@ enum planner_refusal {
 
 /*
  * Whether a sheet would be planned: PLANNER_ACCEPTED, or the first refusal of
- * enum planner_refusal that holds. Every byte string of every length has an
- * answer.
+ * enum planner_refusal that holds. It writes nothing. Stack: PLANNER_STACK.
  *
- *   sheet      the sheet's bytes, not NULL; with sheet_len 0 nothing is read
- *   sheet_len  how many bytes are lent: no other byte is read
+ *   sheet      the sheet's bytes; with sheet_len 0 nothing is read
+ *   sheet_len  how many bytes are lent
  *   plan_len   the length of the buffer that the plan would go to, for refusal
  *              4; PLANNER_PLAN_BYTES(rows) is the only one accepted
- *
- * It writes nothing, keeps no state, calls nothing outside the archive, and
- * always returns; several threads may call it at once. No other thread may write
- * the lent bytes during the call.
  */
 uint32_t check_sheet(const uint8_t *sheet, size_t sheet_len, size_t plan_len);
 
 /*
  * Plans a sheet's rounds. PLANNER_ACCEPTED, and the plan fills the buffer; or the
- * first refusal of enum planner_refusal that holds, and every byte of the buffer
- * is as it was. Every byte string of every length has an answer, and the same
- * sheet the same plan on every call.
+ * first refusal of enum planner_refusal that holds. Stack: PLANNER_STACK_SAVINGS on a
+ * sheet of PLANNER_SAVINGS, PLANNER_STACK on others.
  *
  *   sheet, sheet_len  as for check_sheet
- *   plan              where the plan goes, not NULL and apart from the sheet
- *   plan_len          how many bytes are lent: no other byte is written.
- *                     PLANNER_PLAN_BYTES(rows) is the only length accepted
+ *   plan              where the plan goes
+ *   plan_len          how many bytes are lent: PLANNER_PLAN_BYTES(rows) is the only
+ *                     length accepted
  *
- * It allocates nothing, keeps no state, calls nothing outside the archive, and
- * always returns; several threads may call it at once, each with a plan buffer of
- * its own. No other thread may touch the plan, or write the sheet, during the call.
+ * Every stop stands once in the plan, in a round or set aside. The rest of what is
+ * promised is so on sheets where no row has both PLANNER_WINDOW and PLANNER_PENALTY,
+ * and where distances, times, windows, service and rests are whole numbers:
+ *
+ *   - every round keeps its windows, its rest and its maxima, by every method but
+ *     PLANNER_NEAREST_NEIGHBOR;
+ *   - and its capacity, but for a savings round of a single stop;
+ *   - with one depot, insertion sets no stop aside that could make a round alone with
+ *     the first vehicle, and closes no round that a later stop would fit in: one on a
+ *     later round, or one set aside that is no farther from the depot than some stop
+ *     of the round, of equally far ones the higher row.
  */
 uint32_t plan_rounds(const uint8_t *sheet, size_t sheet_len, uint8_t *plan, size_t plan_len);
 
@@ -238,35 +325,27 @@ uint32_t plan_rounds(const uint8_t *sheet, size_t sheet_len, uint8_t *plan, size
  * was, whatever it breaks.
  *
  * PLANNER_ACCEPTED, and the plan out fills its buffer, with the figures of every
- * round; or the first refusal of enum planner_refusal that holds, and every byte of
- * the buffer is as it was. Every byte string of every length has an answer, and the
- * same call the same one. Every stop stands once in the plan out, and there are at
- * most `greatest` rounds. Stops that the plan in sets aside stay so; the chain of
- * those set aside comes out ascending.
+ * round walked anew; or the first refusal of enum planner_refusal that holds. Every
+ * stop stands once in the plan out, and there are at most `greatest` rounds. Stops
+ * that the plan in sets aside stay so; the chain of those set aside comes out
+ * ascending. A round whose rest has no place has the figures of the walk without it.
+ * Stack: PLANNER_STACK.
  *
  *   sheet, sheet_len    as for check_sheet; of any method, with one depot
- *   plan_in             the plan's bytes, not NULL: a plan of plan_rounds', of this
- *                       function's, or made up. What is read of it: the number of
- *                       rounds, the ids and first stops of so many records, the
- *                       first stop set aside, and each stop's next. No figure is
- *                       read, and none of the other bytes needs to be zero. Rounds
- *                       may be empty, over capacity or late, and several may have
- *                       one vehicle
- *   plan_in_len         how many bytes are lent: no other byte is read.
- *                       PLANNER_PLAN_BYTES(rows) is the only length accepted
+ *   plan_in             the plan's bytes: a plan of plan_rounds', of this function's,
+ *                       or made up. What is read of it: the number of rounds, the ids
+ *                       and first stops of so many records, the first stop set aside,
+ *                       and each stop's next. No figure is read, and none of the other
+ *                       bytes needs to be zero. Rounds may be empty, over capacity or
+ *                       late, and several may have one vehicle
+ *   plan_in_len         how many bytes are lent: PLANNER_PLAN_BYTES(rows) is the only
+ *                       length accepted
  *   greatest            the most rounds of the plan out, any number; with 0 every
  *                       stop is set aside
- *   plan_out            where the plan goes, not NULL
- *   plan_out_len        how many bytes are lent: no other byte is written.
- *                       PLANNER_PLAN_BYTES(rows) is the only length accepted
- *
- * plan_out must overlap neither plan_in nor the sheet: a plan can't be limited in
- * place. Lend a second buffer, and copy.
- *
- * It allocates nothing, keeps no state, calls nothing outside the archive, and
- * always returns; several threads may call it at once, each with a plan out of its
- * own. No other thread may touch the plan out, or write the sheet or the plan in,
- * during the call.
+ *   plan_out            where the plan goes; a plan can't be limited in place: lend a
+ *                       second buffer, and copy
+ *   plan_out_len        how many bytes are lent: PLANNER_PLAN_BYTES(rows) is the only
+ *                       length accepted
  */
 uint32_t limit_rounds(const uint8_t *sheet, size_t sheet_len,
                       const uint8_t *plan_in, size_t plan_in_len, uint32_t greatest,

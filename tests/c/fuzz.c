@@ -143,16 +143,16 @@ static unsigned marks_met(const uint8_t *records, unsigned n, unsigned width)
 {
     unsigned met = 0;
     for (unsigned i = 0; i < n; i++)
-        met |= 1u << (get(records + width * i + AT_MARKS, 4) & 7);
+        met |= 1u << (planner_get(records + width * i + AT_MARKS, 4) & 7);
     return met;
 }
 
 /* The chains' links, mixed. */
 static unsigned links_class(const struct reading *r)
 {
-    uint64_t mixed = get(r->plan, 4);
+    uint64_t mixed = planner_get(r->plan, 4);
     for (unsigned stop = r->depots; stop < r->rows; stop++)
-        mixed = (mixed ^ get(stop_record(r, stop) + AT_NEXT, 2)) * UINT64_C(0x9e3779b97f4a7c15);
+        mixed = (mixed ^ next_of(r, r->plan, stop)) * UINT64_C(0x9e3779b97f4a7c15);
     return (unsigned)(mixed >> 52);
 }
 
@@ -161,8 +161,8 @@ static unsigned incidents(const struct reading *r, unsigned rounds)
 {
     unsigned rests = 0, late = 0;
     for (unsigned k = 0; k < rounds; k++) {
-        rests += get(round_record(r->plan, k) + AT_REST_PLACE, 2) != 0;
-        late += get(round_record(r->plan, k) + AT_LATENESS, 8) != 0;
+        rests += planner_round_rest_place(r->plan, k) != 0;
+        late += planner_round_lateness(r->plan, k) > 0.0;
     }
     return size_class(rests) << 8 | size_class(late);
 }
@@ -170,15 +170,15 @@ static unsigned incidents(const struct reading *r, unsigned rounds)
 /* Whether a planned sheet shows something new. */
 static int planned_is_new(const struct reading *r)
 {
-    unsigned rounds = (unsigned)get(r->plan + AT_ROUNDS, 2);
-    unsigned by = r->method << 4 | (r->depots > 3 ? 3 : r->depots) << 2 | r->sheet[AT_TIME_TABLE];
+    unsigned rounds = planner_plan_rounds(r->plan);
+    unsigned by = r->method << 4 | (r->depots > 3 ? 3 : r->depots) << 2 | planner_time_table(r->sheet);
     unsigned fleet = marks_met(vehicle_of(r->sheet, 0), r->vehicles, PLANNER_VEHICLE_BYTES);
     int found = is_new(1, by << 16 | size_class(rounds) << 8 | size_class(r->aside));
     found |= is_new(2, by << 16 | size_class(r->rows) << 8 | r->vehicles);
     found |= is_new(3, by << 16 | incidents(r, rounds));
     found |= is_new(4, r->method << 16 | marks_met(row_of(r->sheet, 0), r->rows, PLANNER_ROW_BYTES));
     found |= is_new(5, r->method << 16 | fleet);
-    found |= is_new(6, r->method << 16 | (unsigned)(get(r->plan + AT_COST, 8) >> 52));
+    found |= is_new(6, r->method << 16 | (unsigned)(planner_get(r->plan + PLANNER_PLAN_COST, 8) >> 52));
     if (r->rows < 12)
         found |= is_new(7, r->method << 16 | links_class(r));
     return found;
@@ -189,8 +189,9 @@ static int refused_is_new(const struct sheet *s, uint32_t answer)
 {
     if (s->len < PLANNER_HEADER_BYTES)
         return is_new(8, (unsigned)s->len);
+    unsigned method = planner_method(s->bytes) <= PLANNER_SWEEP ? planner_method(s->bytes) : PLANNER_SWEEP + 1u;
     return is_new(9, answer << 16 | size_class(rows_in(s)) << 8 | size_class(vehicles_in(s)))
-           | is_new(10, answer << 16 | (s->bytes[AT_METHOD] <= PLANNER_SWEEP ? s->bytes[AT_METHOD] : PLANNER_SWEEP + 1u));
+           | is_new(10, answer << 16 | method);
 }
 
 /* Asks the sheet; whether it was planned, and `r` tells of the plan then. */
@@ -222,7 +223,7 @@ static uint32_t expected_answer(struct sheet *s, const struct plan_in *p, struct
     uint32_t answer = check_sheet(s->bytes, s->len, wrong);
     if (answer != PLANNER_ACCEPTED)
         return answer;
-    if (depots_of(s->bytes) > 1)
+    if (planner_depots(s->bytes) > 1)
         return PLANNER_SEVERAL_DEPOTS;
     return plan_in_is_good(r, s->bytes, (uint8_t *)p->bytes) ? PLANNER_ACCEPTED : PLANNER_BAD_PLAN;
 }
@@ -230,7 +231,7 @@ static uint32_t expected_answer(struct sheet *s, const struct plan_in *p, struct
 /* Whether a plan out shows something new. */
 static int limited_is_new(const struct reading *r)
 {
-    unsigned before = (unsigned)get(r->plan_in + AT_ROUNDS, 2), after = (unsigned)get(r->plan + AT_ROUNDS, 2);
+    unsigned before = planner_plan_rounds(r->plan_in), after = planner_plan_rounds(r->plan);
     int found = is_new(11, size_class(before) << 16 | size_class(after) << 8 | size_class(r->aside));
     found |= is_new(12, size_class(before - after) << 16 | incidents(r, after));
     if (r->rows < 12)
@@ -254,7 +255,7 @@ static void ask_to_limit(struct sheet *s, const struct plan_in *p)
         fprintf(stderr, "fuzz: %s\n", fault);
         end("the plan out is wrong");
     }
-    dropped += get(p->bytes + AT_ROUNDS, 2) > p->greatest;
+    dropped += planner_plan_rounds(p->bytes) > p->greatest;
     if (limited_is_new(&r))
         keep(&accepted, s);
 }

@@ -213,7 +213,7 @@ static void limit_random(uint8_t *sheet, uint8_t *plan_in, uint64_t *state)
         for (size_t i = 0; i < PLANNER_PLAN_BYTES(rows); i++)
             plan_in[i] = (uint8_t)(next_random(state) >> 56);
         if (turn % 2)
-            put(plan_in + AT_ROUNDS, below(state, rows + 1), 2);
+            planner_set_plan_rounds(plan_in, below(state, rows + 1));
         limit(with_plan(sheet, len, plan_in, below(state, 4)));
     }
 }

@@ -1,5 +1,5 @@
 /*
- * A host in C: builds sheet A of document 01, has it planned and its plans limited,
+ * A host in C: builds sheet A (docs/SCOPE.md), has it planned and its plans limited,
  * prints the rounds in plain words, then damages it in the way of each refusal's
  * example.
  */
@@ -7,20 +7,9 @@
 #include <stdio.h>
 #include <string.h>
 
-#include "planner.h"
+#include "planner_fields.h"
 
 enum { ROWS = 3, VEHICLES = 1 };
-
-/* Offsets in a row, a vehicle and the header that this host names. */
-enum { AT_VERTICAL = 4, AT_DEMAND = 8, AT_MARKS = 12, AT_READY = 24, AT_DUE = 32 };
-enum { AT_DEPOT = 4, AT_CAPACITY = 8, AT_VEHICLE_MARKS = 12, AT_COST_PER_DISTANCE = 16 };
-enum { AT_EARLIEST = 48, AT_LATEST = 56, AT_REST = 64 };
-enum { AT_ROWS = 0, AT_VEHICLES = 2, AT_METHOD = 4 };
-
-/* Offsets in a plan's header, in a round's record and in a stop's. */
-enum { AT_ASIDE = 2, AT_COST = 8 };
-enum { AT_LOAD = 4, AT_FIRST = 8, AT_REST_PLACE = 10, AT_DISTANCE = 16, AT_DURATION = 24, AT_REST_START = 48 };
-enum { AT_NEXT = 0, AT_LOAD_AFTER = 4, AT_ARRIVAL = 8, AT_DEPARTURE = 16 };
 
 /* A sheet with room for one byte too many. */
 struct sheet {
@@ -28,65 +17,11 @@ struct sheet {
     size_t len;
 };
 
-static void put(uint8_t *at, uint64_t value, int width)
-{
-    for (int i = 0; i < width; i++)
-        at[i] = (uint8_t)(value >> (8 * i));
-}
-
-static void put_u16(uint8_t *at, unsigned value)
-{
-    put(at, value, 2);
-}
-
-static void put_i32(uint8_t *at, int32_t value)
-{
-    put(at, (uint32_t)value, 4);
-}
-
-static void put_f64(uint8_t *at, double value)
-{
-    uint64_t bits;
-    memcpy(&bits, &value, sizeof bits);
-    put(at, bits, 8);
-}
-
-static uint64_t get(const uint8_t *at, int width)
-{
-    uint64_t value = 0;
-    for (int i = width; i > 0; i--)
-        value = value << 8 | at[i - 1];
-    return value;
-}
-
-static double get_f64(const uint8_t *at)
-{
-    uint64_t bits = get(at, 8);
-    double value;
-    memcpy(&value, &bits, sizeof value);
-    return value;
-}
-
-static uint8_t *row(struct sheet *s, unsigned r)
-{
-    return s->bytes + PLANNER_HEADER_BYTES + PLANNER_ROW_BYTES * r;
-}
-
-static uint8_t *vehicle(struct sheet *s, unsigned v)
-{
-    return row(s, ROWS) + PLANNER_VEHICLE_BYTES * v;
-}
-
-static void put_leg(struct sheet *s, unsigned from, unsigned to, double distance)
-{
-    put_f64(vehicle(s, VEHICLES) + PLANNER_LEG_BYTES * (from * ROWS + to), distance);
-}
-
 /* Both ways. */
-static void put_legs(struct sheet *s, unsigned a, unsigned b, double distance)
+static void set_legs(struct sheet *s, unsigned a, unsigned b, double distance)
 {
-    put_leg(s, a, b, distance);
-    put_leg(s, b, a, distance);
+    planner_set_distance(s->bytes, a, b, distance);
+    planner_set_distance(s->bytes, b, a, distance);
 }
 
 static struct sheet sheet_a(void)
@@ -94,31 +29,32 @@ static struct sheet sheet_a(void)
     struct sheet s;
     memset(&s, 0, sizeof s);
     s.len = PLANNER_SHEET_BYTES(ROWS, VEHICLES, 0);
-    put_u16(s.bytes + AT_ROWS, ROWS);
-    put_u16(s.bytes + AT_VEHICLES, VEHICLES);
-    s.bytes[AT_METHOD] = PLANNER_SAVINGS;
-    put_i32(row(&s, 0) + AT_MARKS, PLANNER_DEPOT);
-    put_i32(row(&s, 1) + AT_VERTICAL, 10);
-    put_i32(row(&s, 1) + AT_DEMAND, 1);
-    put_i32(row(&s, 2) + AT_VERTICAL, -10);
-    put_i32(row(&s, 2) + AT_DEMAND, 1);
-    put_i32(vehicle(&s, 0), 7);
-    put_i32(vehicle(&s, 0) + AT_CAPACITY, 2);
-    put_f64(vehicle(&s, 0) + AT_COST_PER_DISTANCE, 1.0);
-    put_legs(&s, 0, 1, 10.0);
-    put_legs(&s, 0, 2, 10.0);
-    put_legs(&s, 1, 2, 4.0);
+    planner_set_rows(s.bytes, ROWS);
+    planner_set_vehicles(s.bytes, VEHICLES);
+    planner_set_method(s.bytes, PLANNER_SAVINGS);
+    planner_set_row_marks(s.bytes, 0, PLANNER_DEPOT);
+    planner_set_row_y(s.bytes, 1, 10);
+    planner_set_row_demand(s.bytes, 1, 1);
+    planner_set_row_y(s.bytes, 2, -10);
+    planner_set_row_demand(s.bytes, 2, 1);
+    planner_set_vehicle_id(s.bytes, 0, 7);
+    planner_set_vehicle_capacity(s.bytes, 0, 2);
+    planner_set_vehicle_cost_per_distance(s.bytes, 0, 1.0);
+    set_legs(&s, 0, 1, 10.0);
+    set_legs(&s, 0, 2, 10.0);
+    set_legs(&s, 1, 2, 4.0);
     return s;
 }
 
 /* Sheet A without its vehicle: the distances move up. */
-static struct sheet without_vehicle(int method)
+static struct sheet without_vehicle(unsigned method)
 {
     struct sheet s = sheet_a();
-    memmove(vehicle(&s, 0), vehicle(&s, 1), PLANNER_LEG_BYTES * ROWS * ROWS);
+    uint8_t *vehicle = s.bytes + planner_vehicle_at(s.bytes, 0);
+    memmove(vehicle, vehicle + PLANNER_VEHICLE_BYTES, PLANNER_LEG_BYTES * ROWS * ROWS);
     s.len -= PLANNER_VEHICLE_BYTES;
-    put_u16(s.bytes + AT_VEHICLES, 0);
-    s.bytes[AT_METHOD] = (uint8_t)method;
+    planner_set_vehicles(s.bytes, 0);
+    planner_set_method(s.bytes, method);
     return s;
 }
 
@@ -152,44 +88,26 @@ static void ask(const char *what, const struct sheet *s)
     ask_with_plan(what, s, 0);
 }
 
-static size_t stop_at(unsigned stop)
-{
-    return PLANNER_PLAN_HEADER_BYTES + PLANNER_PLAN_ROUND_BYTES * ROWS + PLANNER_PLAN_STOP_BYTES * stop;
-}
-
-static const uint8_t *stop_record(const uint8_t *plan, unsigned stop)
-{
-    return plan + stop_at(stop);
-}
-
-static unsigned next_stop(const uint8_t *plan, unsigned stop)
-{
-    return (unsigned)get(stop_record(plan, stop) + AT_NEXT, 2);
-}
-
 static void print_round(const uint8_t *plan, unsigned k)
 {
-    const uint8_t *round = plan + PLANNER_PLAN_HEADER_BYTES + PLANNER_PLAN_ROUND_BYTES * k;
-    unsigned rest = (unsigned)get(round + AT_REST_PLACE, 2);
-    printf("  round %u, vehicle %u: load %u, distance %g, duration %g\n", k + 1, (unsigned)get(round, 4),
-           (unsigned)get(round + AT_LOAD, 4), get_f64(round + AT_DISTANCE), get_f64(round + AT_DURATION));
     unsigned place = 1;
-    for (unsigned stop = (unsigned)get(round + AT_FIRST, 2); stop != 0; stop = next_stop(plan, stop)) {
-        if (place++ == rest)
-            printf("    rest at %g\n", get_f64(round + AT_REST_START));
-        const uint8_t *visit = stop_record(plan, stop);
-        printf("    stop %u: arrives at %g, leaves at %g with %u\n", stop, get_f64(visit + AT_ARRIVAL),
-               get_f64(visit + AT_DEPARTURE), (unsigned)get(visit + AT_LOAD_AFTER, 4));
+    printf("  round %u, vehicle %u: load %d, distance %g, duration %g\n", k + 1, (unsigned)planner_round_id(plan, k),
+           (int)planner_round_load(plan, k), planner_round_distance(plan, k), planner_round_duration(plan, k));
+    for (unsigned stop = planner_round_first(plan, k); stop != 0; stop = planner_stop_next(plan, stop)) {
+        if (place++ == planner_round_rest_place(plan, k))
+            printf("    rest at %g\n", planner_round_rest_start(plan, k));
+        printf("    stop %u: arrives at %g, leaves at %g with %d\n", stop, planner_stop_arrival(plan, stop),
+               planner_stop_departure(plan, stop), (int)planner_stop_load(plan, stop));
     }
 }
 
 static void print_plan(const uint8_t *plan)
 {
-    unsigned rounds = (unsigned)get(plan, 2);
-    printf("  %u round%s, cost %g\n", rounds, rounds == 1 ? "" : "s", get_f64(plan + AT_COST));
+    unsigned rounds = planner_plan_rounds(plan);
+    printf("  %u round%s, cost %g\n", rounds, rounds == 1 ? "" : "s", planner_plan_cost(plan));
     for (unsigned k = 0; k < rounds; k++)
         print_round(plan, k);
-    for (unsigned stop = (unsigned)get(plan + AT_ASIDE, 2); stop != 0; stop = next_stop(plan, stop))
+    for (unsigned stop = planner_plan_aside(plan); stop != 0; stop = planner_stop_next(plan, stop))
         printf("    stop %u is set aside\n", stop);
 }
 
@@ -237,32 +155,32 @@ int main(void)
                                           "sheet A, nn_tw", "sheet A, sweep"};
     struct sheet s = sheet_a();
     for (unsigned method = PLANNER_SAVINGS; method <= PLANNER_SWEEP; method++) {
-        s.bytes[AT_METHOD] = (uint8_t)method;
+        planner_set_method(s.bytes, method);
         plan_it(methods[method], &s);
     }
 
     s = sheet_a();
-    put_i32(vehicle(&s, 0) + AT_CAPACITY, 0);
+    planner_set_vehicle_capacity(s.bytes, 0, 0);
     struct plan apart = plan_it("sheet A, savings, capacity 0", &s);
     limit_it("the same within 1 round, capacity 0", &s, &apart, 1);
-    s.bytes[AT_METHOD] = PLANNER_INSERTION;
+    planner_set_method(s.bytes, PLANNER_INSERTION);
     plan_it("sheet A, insertion, capacity 0", &s);
 
     s = sheet_a();
     limit_it("two rounds of sheet A within 2", &s, &apart, 2);
     limit_it("two rounds of sheet A within 1", &s, &apart, 1);
     limit_it("two rounds of sheet A within 0", &s, &apart, 0);
-    put_u16(apart.bytes + stop_at(2) + AT_NEXT, 2);
+    planner_set_stop_next(apart.bytes, 2, 2);
     limit_it("two rounds of sheet A, next of 2 is 2", &s, &apart, 1);
-    put_i32(row(&s, 1) + AT_MARKS, PLANNER_DEPOT);
+    planner_set_row_marks(s.bytes, 1, PLANNER_DEPOT);
     limit_it("sheet A with 2 depots, within 1 round", &s, &apart, 1);
 
     s = sheet_a();
-    s.bytes[AT_METHOD] = PLANNER_NN_TW;
-    put_i32(vehicle(&s, 0) + AT_VEHICLE_MARKS, PLANNER_REST);
-    put_f64(vehicle(&s, 0) + AT_EARLIEST, 12.0);
-    put_f64(vehicle(&s, 0) + AT_LATEST, 12.0);
-    put_f64(vehicle(&s, 0) + AT_REST, 5.0);
+    planner_set_method(s.bytes, PLANNER_NN_TW);
+    planner_set_vehicle_marks(s.bytes, 0, PLANNER_REST);
+    planner_set_vehicle_earliest(s.bytes, 0, 12.0);
+    planner_set_vehicle_latest(s.bytes, 0, 12.0);
+    planner_set_vehicle_rest_duration(s.bytes, 0, 5.0);
     plan_it("sheet A, nn_tw, a rest of 5 at 12", &s);
 
     s = sheet_a();
@@ -270,11 +188,11 @@ int main(void)
     ask("0 bytes", &s);
 
     s = sheet_a();
-    put_u16(s.bytes + AT_ROWS, 102);
+    planner_set_rows(s.bytes, 102);
     ask("102 rows", &s);
 
     s = sheet_a();
-    s.bytes[AT_METHOD] = 5;
+    planner_set_method(s.bytes, 5);
     ask("method 5", &s);
 
     s = sheet_a();
@@ -285,17 +203,17 @@ int main(void)
     ask_with_plan("sheet A, one byte too many in the plan", &s, 1);
 
     s = sheet_a();
-    put_i32(row(&s, 1) + AT_MARKS, PLANNER_WINDOW);
-    put_f64(row(&s, 1) + AT_READY, 4.0);
-    put_f64(row(&s, 1) + AT_DUE, 3.0);
+    planner_set_row_marks(s.bytes, 1, PLANNER_WINDOW);
+    planner_set_row_ready(s.bytes, 1, 4.0);
+    planner_set_row_due(s.bytes, 1, 3.0);
     ask("stop 1 ready 4, due 3", &s);
 
     s = sheet_a();
-    put(vehicle(&s, VEHICLES), UINT64_C(0x7ff8000000000000), 8);
+    planner_put(s.bytes + planner_distance_at(s.bytes, 0, 0), 8, UINT64_C(0x7ff8000000000000));
     ask("a distance that is NaN", &s);
 
     s = sheet_a();
-    put_i32(vehicle(&s, 0) + AT_DEPOT, 1);
+    planner_set_vehicle_depot(s.bytes, 0, 1);
     ask("vehicle 7 at depot 1 of 1", &s);
 
     s = without_vehicle(PLANNER_INSERTION);

@@ -16,7 +16,7 @@
 #include <sys/mman.h>
 #include <unistd.h>
 
-#include "planner.h"
+#include "planner_fields.h"
 
 /* The longest sheet of one row and one vehicle too many, and the longest plan, each with one byte more. */
 enum { MOST_SHEET = PLANNER_SHEET_BYTES(PLANNER_MOST_ROWS + 1, PLANNER_MOST_VEHICLES + 1, 1) + 1 };
@@ -217,7 +217,7 @@ static inline uint32_t ask_limiter(struct limiting l, uint8_t *plan_out)
 /* The exact length of a plan by what the sheet's header says, up to the longest. */
 static inline size_t plan_len_of(const uint8_t *sheet, size_t len)
 {
-    size_t rows = len < 2 ? 0 : sheet[0] + 256u * sheet[1];
+    unsigned rows = len < PLANNER_AT_ROWS + 2 ? 0 : planner_rows(sheet);
     return PLANNER_PLAN_BYTES(rows < PLANNER_MOST_ROWS ? rows : PLANNER_MOST_ROWS);
 }
 

@@ -24,28 +24,31 @@ struct field {
     unsigned mark;
 };
 
+/* Marks stand at one place in both records. */
+enum { AT_MARKS = PLANNER_ROW_MARKS };
+
 static const struct field row_fields[] = {
-    {AT_X, COORDINATE, 0, 0},
-    {AT_Y, COORDINATE, 0, 0},
-    {AT_DEMAND, DEMAND, 0, 0},
-    {AT_MARKS, MARKS, 0, 0},
-    {AT_SERVICE, NUMBER, 1e9, 0},
-    {AT_READY, NUMBER, 1e9, PLANNER_WINDOW},
-    {AT_DUE, NUMBER, 1e9, PLANNER_WINDOW},
-    {AT_PENALTY, NUMBER, 1e6, PLANNER_PENALTY},
+    {PLANNER_ROW_X, COORDINATE, 0, 0},
+    {PLANNER_ROW_Y, COORDINATE, 0, 0},
+    {PLANNER_ROW_DEMAND, DEMAND, 0, 0},
+    {PLANNER_ROW_MARKS, MARKS, 0, 0},
+    {PLANNER_ROW_SERVICE, NUMBER, 1e9, 0},
+    {PLANNER_ROW_READY, NUMBER, 1e9, PLANNER_WINDOW},
+    {PLANNER_ROW_DUE, NUMBER, 1e9, PLANNER_WINDOW},
+    {PLANNER_ROW_PENALTY, NUMBER, 1e6, PLANNER_PENALTY},
 };
 static const struct field vehicle_fields[] = {
-    {AT_ID, ID, 0, 0},
-    {AT_DEPOT, DEPOT, 0, 0},
-    {AT_CAPACITY, CAPACITY, 0, 0},
-    {AT_MARKS, MARKS, 0, 0},
-    {AT_RATE, RATE, 1e6, 0},
-    {AT_FIXED, NUMBER, 1e9, 0},
-    {AT_MAX_DISTANCE, NUMBER, 1e12, PLANNER_MAX_DISTANCE},
-    {AT_MAX_DURATION, NUMBER, 1e12, PLANNER_MAX_DURATION},
-    {AT_EARLIEST, NUMBER, 1e9, PLANNER_REST},
-    {AT_LATEST, NUMBER, 1e9, PLANNER_REST},
-    {AT_REST, NUMBER, 1e9, PLANNER_REST},
+    {PLANNER_VEHICLE_ID, ID, 0, 0},
+    {PLANNER_VEHICLE_DEPOT, DEPOT, 0, 0},
+    {PLANNER_VEHICLE_CAPACITY, CAPACITY, 0, 0},
+    {PLANNER_VEHICLE_MARKS, MARKS, 0, 0},
+    {PLANNER_VEHICLE_COST_PER_DISTANCE, RATE, 1e6, 0},
+    {PLANNER_VEHICLE_FIXED_COST, NUMBER, 1e9, 0},
+    {PLANNER_VEHICLE_MAX_DISTANCE, NUMBER, 1e12, PLANNER_MAX_DISTANCE},
+    {PLANNER_VEHICLE_MAX_DURATION, NUMBER, 1e12, PLANNER_MAX_DURATION},
+    {PLANNER_VEHICLE_EARLIEST, NUMBER, 1e9, PLANNER_REST},
+    {PLANNER_VEHICLE_LATEST, NUMBER, 1e9, PLANNER_REST},
+    {PLANNER_VEHICLE_REST_DURATION, NUMBER, 1e9, PLANNER_REST},
 };
 enum { ROW_FIELDS = sizeof row_fields / sizeof row_fields[0] };
 enum { VEHICLE_FIELDS = sizeof vehicle_fields / sizeof vehicle_fields[0] };
@@ -146,25 +149,25 @@ static inline uint64_t draw_marks(void)
 
 static inline unsigned rows_in(const struct sheet *s)
 {
-    return (unsigned)get(s->bytes + AT_ROWS, 2);
+    return planner_rows(s->bytes);
 }
 
 static inline unsigned vehicles_in(const struct sheet *s)
 {
-    return (unsigned)get(s->bytes + AT_VEHICLES, 2);
+    return planner_vehicles(s->bytes);
 }
 
 static inline size_t legs_in(const struct sheet *s)
 {
-    return (size_t)rows_in(s) * rows_in(s) * (1u + s->bytes[AT_TIME_TABLE]);
+    return (size_t)rows_in(s) * rows_in(s) * (1u + planner_time_table(s->bytes));
 }
 
 /* Whether the sheet is of the length that its header asks, so that its fields can be found. */
 static inline int laid_out(const struct sheet *s)
 {
     return s->len >= PLANNER_HEADER_BYTES && rows_in(s) <= PLANNER_MOST_ROWS + 1
-           && vehicles_in(s) <= PLANNER_MOST_VEHICLES + 1 && s->bytes[AT_TIME_TABLE] <= 1
-           && s->len == PLANNER_SHEET_BYTES(rows_in(s), vehicles_in(s), s->bytes[AT_TIME_TABLE]);
+           && vehicles_in(s) <= PLANNER_MOST_VEHICLES + 1 && planner_time_table(s->bytes) <= 1
+           && s->len == planner_sheet_bytes(s->bytes);
 }
 
 static inline struct shape draw_shape(void)
@@ -200,8 +203,8 @@ static inline void copy_legs(struct sheet *to, const struct sheet *from, unsigne
 static inline void reshape(struct sheet *s, unsigned rows, unsigned vehicles, unsigned time_table)
 {
     static struct sheet old;
-    struct shape shape = {rows, depots_of(s->bytes), vehicles, s->bytes[AT_METHOD], time_table, 15, 1};
-    unsigned had_rows = rows_in(s), had_vehicles = vehicles_in(s), had_table = s->bytes[AT_TIME_TABLE];
+    struct shape shape = {rows, planner_depots(s->bytes), vehicles, planner_method(s->bytes), time_table, 15, 1};
+    unsigned had_rows = rows_in(s), had_vehicles = vehicles_in(s), had_table = planner_time_table(s->bytes);
     old.len = s->len;
     memcpy(old.bytes, s->bytes, s->len);
     s->len = draw_sheet(s->bytes, shape, &state);
@@ -215,21 +218,21 @@ static inline void reshape(struct sheet *s, unsigned rows, unsigned vehicles, un
 /* Zeroes fields without their mark, and turns an interval that is the wrong way round. */
 static inline void mend_record(uint8_t *record, const struct field *fields, unsigned n, unsigned from, unsigned to)
 {
-    unsigned marks = (unsigned)get(record + AT_MARKS, 4);
+    unsigned marks = (unsigned)planner_get(record + AT_MARKS, 4);
     for (unsigned i = 0; i < n; i++)
         if (fields[i].mark != 0 && !(marks & fields[i].mark))
-            put(record + fields[i].at, 0, 8);
-    if (get(record + from, 8) > get(record + to, 8)) {
-        uint64_t first = get(record + from, 8);
-        put(record + from, get(record + to, 8), 8);
-        put(record + to, first, 8);
+            planner_put(record + fields[i].at, 8, 0);
+    if (planner_get(record + from, 8) > planner_get(record + to, 8)) {
+        uint64_t first = planner_get(record + from, 8);
+        planner_put(record + from, 8, planner_get(record + to, 8));
+        planner_put(record + to, 8, first);
     }
 }
 
-static inline int id_is_taken(struct sheet *s, unsigned v, uint64_t id)
+static inline int id_is_taken(const struct sheet *s, unsigned v, uint32_t id)
 {
     for (unsigned other = 0; other < v; other++)
-        if (get(vehicle_of(s->bytes, other) + AT_ID, 4) == id)
+        if (planner_vehicle_id(s->bytes, other) == id)
             return 1;
     return 0;
 }
@@ -238,37 +241,37 @@ static inline int id_is_taken(struct sheet *s, unsigned v, uint64_t id)
 static inline void mend(struct sheet *s)
 {
     for (unsigned r = 0; r < rows_in(s); r++)
-        mend_record(row_of(s->bytes, r), row_fields, ROW_FIELDS, AT_READY, AT_DUE);
-    unsigned depots = depots_of(s->bytes);
+        mend_record(row_of(s->bytes, r), row_fields, ROW_FIELDS, PLANNER_ROW_READY, PLANNER_ROW_DUE);
+    unsigned depots = planner_depots(s->bytes);
     for (unsigned v = 0; v < vehicles_in(s); v++) {
-        uint8_t *vehicle = vehicle_of(s->bytes, v);
-        mend_record(vehicle, vehicle_fields, VEHICLE_FIELDS, AT_EARLIEST, AT_LATEST);
-        if (get(vehicle + AT_DEPOT, 4) >= depots)
-            put(vehicle + AT_DEPOT, draw(depots), 4);
-        while (id_is_taken(s, v, get(vehicle + AT_ID, 4)))
-            put(vehicle + AT_ID, next_random(&state), 4);
+        mend_record(vehicle_of(s->bytes, v), vehicle_fields, VEHICLE_FIELDS, PLANNER_VEHICLE_EARLIEST,
+                    PLANNER_VEHICLE_LATEST);
+        if (planner_vehicle_depot(s->bytes, v) >= depots)
+            planner_set_vehicle_depot(s->bytes, v, draw(depots));
+        while (id_is_taken(s, v, planner_vehicle_id(s->bytes, v)))
+            planner_set_vehicle_id(s->bytes, v, (uint32_t)next_random(&state));
     }
 }
 
 /* New marks, and numbers for the fields that they bring. */
 static inline void change_marks(uint8_t *record, const struct field *fields, unsigned n)
 {
-    unsigned had = (unsigned)get(record + AT_MARKS, 4), marks = (unsigned)draw_marks();
-    put(record + AT_MARKS, marks, 4);
+    unsigned had = (unsigned)planner_get(record + AT_MARKS, 4), marks = (unsigned)draw_marks();
+    planner_put(record + AT_MARKS, 4, marks);
     for (unsigned i = 0; i < n; i++)
         if (fields[i].mark & marks & ~had)
-            put(record + fields[i].at, draw_number(fields[i].most), 8);
+            planner_put(record + fields[i].at, 8, draw_number(fields[i].most));
 }
 
 static inline uint64_t draw_id(struct sheet *s)
 {
-    const uint64_t ids[] = {0, 7, 0xffffffff, next_random(&state), get(vehicle_of(s->bytes, draw(vehicles_in(s))), 4)};
+    const uint64_t ids[] = {0, 7, 0xffffffff, next_random(&state), planner_vehicle_id(s->bytes, draw(vehicles_in(s)))};
     return PICK(ids);
 }
 
 static inline uint64_t draw_depot(struct sheet *s)
 {
-    unsigned depots = depots_of(s->bytes);
+    unsigned depots = planner_depots(s->bytes);
     const uint64_t beyond[] = {depots, depots + 1, rows_in(s), 0x80000000, 0xffffffff};
     return strays() ? PICK(beyond) : draw(depots);
 }
@@ -278,14 +281,14 @@ static inline void change_field(struct sheet *s, uint8_t *record, const struct f
     const struct field *field = &fields[draw(n)];
     uint8_t *at = record + field->at;
     switch (field->kind) {
-    case COORDINATE: put(at, draw_coordinate(), 4); break;
-    case DEMAND: put(at, draw_demand(), 4); break;
+    case COORDINATE: planner_put(at, 4, draw_coordinate()); break;
+    case DEMAND: planner_put(at, 4, draw_demand()); break;
     case MARKS: change_marks(record, fields, n); break;
-    case ID: put(at, draw_id(s), 4); break;
-    case DEPOT: put(at, draw_depot(s), 4); break;
-    case CAPACITY: put(at, draw_capacity(), 4); break;
-    case RATE: put(at, draw_rate(), 8); break;
-    case NUMBER: put(at, draw_number(field->most), 8); break;
+    case ID: planner_put(at, 4, draw_id(s)); break;
+    case DEPOT: planner_put(at, 4, draw_depot(s)); break;
+    case CAPACITY: planner_put(at, 4, draw_capacity()); break;
+    case RATE: planner_put(at, 8, draw_rate()); break;
+    case NUMBER: planner_put(at, 8, draw_number(field->most)); break;
     }
 }
 
@@ -307,7 +310,7 @@ static inline void repeat_row(struct sheet *s)
     if (rows_in(s) == 0)
         return;
     unsigned to = draw(rows_in(s)), from = draw(rows_in(s));
-    memmove(row_of(s->bytes, to), row_of(s->bytes, from), one_in(2) ? AT_DEMAND : PLANNER_ROW_BYTES);
+    memmove(row_of(s->bytes, to), row_of(s->bytes, from), one_in(2) ? PLANNER_ROW_DEMAND : PLANNER_ROW_BYTES);
 }
 
 static inline void repeat_vehicle(struct sheet *s)
@@ -331,9 +334,9 @@ static inline void change_leg(struct sheet *s)
     uint8_t *leg = any_leg(s);
     switch (draw(4)) {
     case 0: memmove(leg, any_leg(s), PLANNER_LEG_BYTES); break;
-    case 1: put(leg, get(leg, 8) + 1, 8); break;
-    case 2: put(leg, get(leg, 8) - (get(leg, 8) > 0), 8); break;
-    default: put(leg, draw_number(MOST_LEG), 8); break;
+    case 1: planner_put(leg, 8, planner_get(leg, 8) + 1); break;
+    case 2: planner_put(leg, 8, planner_get(leg, 8) - (planner_get(leg, 8) > 0)); break;
+    default: planner_put(leg, 8, draw_number(MOST_LEG)); break;
     }
 }
 
@@ -346,32 +349,31 @@ static inline void change_legs_of_row(struct sheet *s)
     unsigned row = draw(rows), out = draw(2);
     uint64_t bits = draw_number(MOST_LEG);
     for (unsigned other = 0; other < rows; other++)
-        put(legs_of(s->bytes) + PLANNER_LEG_BYTES * (out ? row * rows + other : other * rows + row), bits, 8);
+        planner_put(s->bytes + planner_distance_at(s->bytes, out ? row : other, out ? other : row), 8, bits);
 }
 
 /* The legs alike both ways. */
 static inline void turn_legs(struct sheet *s)
 {
-    unsigned rows = rows_in(s);
-    uint8_t *legs = legs_of(s->bytes);
-    for (unsigned a = 0; a < rows; a++)
+    for (unsigned a = 0; a < rows_in(s); a++)
         for (unsigned b = 0; b < a; b++)
-            memcpy(legs + PLANNER_LEG_BYTES * (a * rows + b), legs + PLANNER_LEG_BYTES * (b * rows + a), PLANNER_LEG_BYTES);
+            memcpy(s->bytes + planner_distance_at(s->bytes, a, b), s->bytes + planner_distance_at(s->bytes, b, a),
+                   PLANNER_LEG_BYTES);
 }
 
-static inline int64_t apart(struct sheet *s, unsigned a, unsigned b, unsigned at)
+static inline int64_t apart(int64_t a, int64_t b)
 {
-    int64_t far = (int64_t)(int32_t)get(row_of(s->bytes, a) + at, 4) - (int32_t)get(row_of(s->bytes, b) + at, 4);
-    return far < 0 ? -far : far;
+    return a < b ? b - a : a - b;
 }
 
 /* Distances as the points lie, along the axes. */
 static inline void lay_legs(struct sheet *s)
 {
-    unsigned rows = rows_in(s);
-    for (unsigned k = 0; k < rows * rows; k++)
-        put_f64(legs_of(s->bytes) + PLANNER_LEG_BYTES * k,
-                (double)(apart(s, k / rows, k % rows, AT_X) + apart(s, k / rows, k % rows, AT_Y)));
+    for (unsigned a = 0; a < rows_in(s); a++)
+        for (unsigned b = 0; b < rows_in(s); b++)
+            planner_set_distance(s->bytes, a, b,
+                                 (double)(apart(planner_row_x(s->bytes, a), planner_row_x(s->bytes, b))
+                                          + apart(planner_row_y(s->bytes, a), planner_row_y(s->bytes, b))));
 }
 
 /* All legs a tenth, so that sums round, or thrice. */
@@ -380,22 +382,22 @@ static inline void scale_legs(struct sheet *s)
     double by = one_in(2) ? 0.1 : 3.0;
     for (size_t k = 0; k < legs_in(s); k++) {
         uint8_t *leg = legs_of(s->bytes) + PLANNER_LEG_BYTES * k;
-        double scaled = get_f64(leg) * by;
+        double scaled = planner_get_f64(leg) * by;
         if (scaled >= 0.0 && scaled <= MOST_LEG)
-            put_f64(leg, scaled);
+            planner_put_f64(leg, scaled);
     }
 }
 
 static inline void change_method(struct sheet *s)
 {
     const uint64_t beyond[] = {5, 6, 0x80, 0xff};
-    s->bytes[AT_METHOD] = (uint8_t)(strays() ? PICK(beyond) : draw(PLANNER_SWEEP + 1));
+    planner_set_method(s->bytes, (unsigned)(strays() ? PICK(beyond) : draw(PLANNER_SWEEP + 1)));
 }
 
 /* Counts that the length goes with. */
 static inline void change_counts(struct sheet *s)
 {
-    unsigned rows = rows_in(s), vehicles = vehicles_in(s), table = s->bytes[AT_TIME_TABLE];
+    unsigned rows = rows_in(s), vehicles = vehicles_in(s), table = planner_time_table(s->bytes);
     unsigned most_rows = PLANNER_MOST_ROWS + (unsigned)strays(), most_vehicles = PLANNER_MOST_VEHICLES + (unsigned)strays();
     switch (draw(8)) {
     case 0: rows = one_in(8) ? most_rows : draw(12); break;
@@ -419,11 +421,11 @@ static inline void change_header(struct sheet *s)
     if (s->len < PLANNER_HEADER_BYTES)
         return;
     switch (draw(5)) {
-    case 0: put(s->bytes + AT_ROWS, PICK(rows), 2); break;
-    case 1: put(s->bytes + AT_VEHICLES, PICK(vehicles), 2); break;
-    case 2: s->bytes[AT_TIME_TABLE] = (uint8_t)PICK(tables); break;
-    case 3: s->bytes[AT_SPARE + draw(PLANNER_HEADER_BYTES - AT_SPARE)] = (uint8_t)(1u << draw(8)); break;
-    default: s->bytes[AT_METHOD] = (uint8_t)next_random(&state); break;
+    case 0: planner_set_rows(s->bytes, (unsigned)PICK(rows)); break;
+    case 1: planner_set_vehicles(s->bytes, (unsigned)PICK(vehicles)); break;
+    case 2: planner_set_time_table(s->bytes, (unsigned)PICK(tables)); break;
+    case 3: s->bytes[PLANNER_AT_SPARE + draw(PLANNER_HEADER_BYTES - PLANNER_AT_SPARE)] = (uint8_t)(1u << draw(8)); break;
+    default: planner_set_method(s->bytes, (uint8_t)next_random(&state)); break;
     }
 }
 
@@ -465,21 +467,21 @@ static inline void join_parts(struct sheet *s, struct sheet *other)
 {
     unsigned vehicles = vehicles_in(other), rows = rows_in(other) < rows_in(s) ? rows_in(other) : rows_in(s);
     if (one_in(2)) {
-        reshape(s, rows_in(s), vehicles, s->bytes[AT_TIME_TABLE]);
+        reshape(s, rows_in(s), vehicles, planner_time_table(s->bytes));
         memcpy(vehicle_of(s->bytes, 0), vehicle_of(other->bytes, 0), PLANNER_VEHICLE_BYTES * vehicles);
     } else {
         memcpy(row_of(s->bytes, 0), row_of(other->bytes, 0), PLANNER_ROW_BYTES * rows);
-        copy_legs(s, other, 0, other->bytes[AT_TIME_TABLE]);
+        copy_legs(s, other, 0, planner_time_table(other->bytes));
     }
 }
 
 /* The number reached, or one step beside it, within a range. */
 static inline void put_beside(uint8_t *at, const uint8_t *reached, double most)
 {
-    uint64_t bits = get(reached, 8);
+    uint64_t bits = planner_get(reached, 8);
     bits = one_in(2) ? bits : one_in(2) ? bits + 1 : bits - (bits > 0);
     if (bits <= bits_of(most))
-        put(at, bits, 8);
+        planner_put(at, 8, bits);
 }
 
 /* A window that opens or closes at the stop's arrival. */
@@ -487,40 +489,43 @@ static inline void fit_stop(struct sheet *s, const struct reading *r)
 {
     unsigned stop = r->depots + draw(r->rows - r->depots);
     uint8_t *row = row_of(s->bytes, stop);
-    put(row + AT_MARKS, get(row + AT_MARKS, 4) | PLANNER_WINDOW, 4);
-    put_beside(row + AT_DUE, stop_record(r, stop) + AT_ARRIVAL, 1e9);
+    planner_set_row_marks(s->bytes, stop, planner_row_marks(s->bytes, stop) | PLANNER_WINDOW);
+    put_beside(row + PLANNER_ROW_DUE, stop_record(r, stop) + PLANNER_STOP_ARRIVAL, 1e9);
     if (one_in(2))
-        put_beside(row + AT_READY, stop_record(r, stop) + (one_in(2) ? AT_ARRIVAL : AT_DEPARTURE), 1e9);
+        put_beside(row + PLANNER_ROW_READY,
+                   stop_record(r, stop) + (one_in(2) ? PLANNER_STOP_ARRIVAL : PLANNER_STOP_DEPARTURE), 1e9);
 }
 
 /* A round's vehicle that just carries it, reaches its end, or has its rest then or at the first stop. */
 static inline void fit_vehicle(const struct reading *r, unsigned rounds)
 {
-    const uint8_t *round = round_record(r->plan, draw(rounds));
-    const uint8_t *first = stop_record(r, (unsigned)get(round + AT_FIRST, 2));
-    uint8_t *vehicle = vehicle_by_id(r, get(round, 4));
-    unsigned marks = (unsigned)get(vehicle + AT_MARKS, 4), load = (unsigned)get(round + AT_LOAD, 4);
+    unsigned k = draw(rounds), v = vehicle_by_id(r, planner_round_id(r->plan, k));
+    const uint8_t *round = round_record(r->plan, k), *first = stop_record(r, planner_round_first(r->plan, k));
+    uint8_t *vehicle = vehicle_of(r->sheet, v);
+    uint32_t marks = planner_vehicle_marks(r->sheet, v);
+    int32_t load = planner_round_load(r->plan, k);
     switch (draw(4)) {
-    case 0: put(vehicle + AT_CAPACITY, load - (load > 0 && one_in(2)), 4); break;
+    case 0: planner_set_vehicle_capacity(r->sheet, v, load - (load > 0 && one_in(2))); break;
     case 1:
-        put(vehicle + AT_MARKS, marks | PLANNER_MAX_DISTANCE, 4);
-        put_beside(vehicle + AT_MAX_DISTANCE, round + AT_DISTANCE, 1e12);
+        planner_set_vehicle_marks(r->sheet, v, marks | PLANNER_MAX_DISTANCE);
+        put_beside(vehicle + PLANNER_VEHICLE_MAX_DISTANCE, round + PLANNER_ROUND_DISTANCE, 1e12);
         break;
     case 2:
-        put(vehicle + AT_MARKS, marks | PLANNER_MAX_DURATION, 4);
-        put_beside(vehicle + AT_MAX_DURATION, round + AT_DURATION, 1e12);
+        planner_set_vehicle_marks(r->sheet, v, marks | PLANNER_MAX_DURATION);
+        put_beside(vehicle + PLANNER_VEHICLE_MAX_DURATION, round + PLANNER_ROUND_DURATION, 1e12);
         break;
     default:
-        put(vehicle + AT_MARKS, marks | PLANNER_REST, 4);
-        put_beside(vehicle + AT_EARLIEST, round + AT_DURATION, 1e9);
-        put_beside(vehicle + AT_LATEST, one_in(2) ? round + AT_DURATION : first + AT_ARRIVAL, 1e9);
+        planner_set_vehicle_marks(r->sheet, v, marks | PLANNER_REST);
+        put_beside(vehicle + PLANNER_VEHICLE_EARLIEST, round + PLANNER_ROUND_DURATION, 1e9);
+        put_beside(vehicle + PLANNER_VEHICLE_LATEST,
+                   one_in(2) ? round + PLANNER_ROUND_DURATION : first + PLANNER_STOP_ARRIVAL, 1e9);
         break;
     }
 }
 
 static inline void fit(struct sheet *s, const struct reading *r)
 {
-    unsigned rounds = (unsigned)get(r->plan + AT_ROUNDS, 2);
+    unsigned rounds = planner_plan_rounds(r->plan);
     if (rounds > 0 && one_in(2))
         fit_vehicle(r, rounds);
     else if (r->rows > r->depots)

@@ -19,9 +19,9 @@ static inline uint8_t *any_link(uint8_t *plan, unsigned rows)
 {
     unsigned any = draw(rows);
     switch (draw(4)) {
-    case 0: return round_record(plan, any) + AT_FIRST;
-    case 1: return plan + AT_ASIDE;
-    default: return stop_of(plan, rows, any) + AT_NEXT;
+    case 0: return round_record(plan, any) + PLANNER_ROUND_FIRST;
+    case 1: return plan + PLANNER_PLAN_ASIDE;
+    default: return stop_of(plan, rows, any) + PLANNER_STOP_NEXT;
     }
 }
 
@@ -29,30 +29,30 @@ static inline uint8_t *any_link(uint8_t *plan, unsigned rows)
 static inline void change_link(uint8_t *plan, unsigned rows)
 {
     uint8_t *link = any_link(plan, rows), *other = any_link(plan, rows);
-    uint64_t had = get(link, 2);
+    uint64_t had = planner_get(link, 2);
     const uint64_t to[] = {0, draw(rows), draw(rows), rows, rows + 1, had ^ 0x100, had ^ 0x8000, 0xffff};
     if (one_in(2)) {
-        put(link, get(other, 2), 2);
-        put(other, had, 2);
+        planner_put(link, 2, planner_get(other, 2));
+        planner_put(other, 2, had);
     } else {
-        put(link, PICK(to), 2);
+        planner_put(link, 2, PICK(to));
     }
 }
 
 static inline void change_round_count(uint8_t *plan, unsigned rows)
 {
-    uint64_t had = get(plan + AT_ROUNDS, 2);
+    uint64_t had = planner_plan_rounds(plan);
     const uint64_t to[] = {0, had + 1, had - (had > 0), rows, rows + 1, draw(rows + 2), had ^ 0x100, 0xffff};
-    put(plan + AT_ROUNDS, PICK(to), 2);
+    planner_set_plan_rounds(plan, (unsigned)PICK(to));
 }
 
 static inline void change_round_id(struct sheet *s, uint8_t *plan, unsigned rows)
 {
-    uint8_t *id = round_record(plan, draw(rows));
+    unsigned k = draw(rows);
     if (vehicles_in(s) > 0 && !one_in(3))
-        put(id, get(vehicle_of(s->bytes, draw(vehicles_in(s))) + AT_ID, 4), 4);
+        planner_set_round_id(plan, k, planner_vehicle_id(s->bytes, draw(vehicles_in(s))));
     else
-        put(id, get(id, 4) ^ UINT64_C(1) << draw(32), 4);
+        planner_set_round_id(plan, k, planner_round_id(plan, k) ^ UINT32_C(1) << draw(32));
 }
 
 /* Noise behind a plan's links, so that what is not read differs. */
@@ -86,7 +86,7 @@ static inline void make_plan_in(struct plan_in *p, struct sheet *s, const uint8_
         deal_on_noise(s, p->bytes);
     while (one_in(2))
         mutate_plan(s, p->bytes);
-    unsigned rounds = (unsigned)get(p->bytes + AT_ROUNDS, 2);
+    unsigned rounds = planner_plan_rounds(p->bytes);
     const uint64_t wide[] = {UINT64_C(0x100), UINT64_C(0x10000), UINT64_C(0x80000000), UINT64_C(0xffffffff)};
     p->greatest = (uint32_t)(one_in(12) ? PICK(wide) | draw(4) : draw(rounds % 128 + 2));
     p->len = one_in(40) ? (size_t)PICK(lens) : exact;

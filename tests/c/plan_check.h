@@ -1,5 +1,5 @@
 /*
- * A plan held to what document 01 says of its bytes, from the sheet and the plan
+ * A plan held to what docs/SCOPE.md says of its bytes, from the sheet and the plan
  * alone: every stop once, ids of vehicles, loads as running sums, the figures of
  * each round as they are walked with the rest where the plan has it, and zero bytes
  * everywhere else; a plan out of the limiter also to its plan in. Not whether another
@@ -18,21 +18,12 @@ struct reading {
     double cost;
 };
 
-/* A round so far. */
+/* A round so far: record k of the plan, driven by vehicle v of the sheet. */
 struct walked {
-    const uint8_t *round, *vehicle;
-    unsigned last, place;
+    unsigned k, v, last, place;
     uint32_t load;
     double time, distance, lateness, lateness_cost;
 };
-
-static inline unsigned depots_of(uint8_t *sheet)
-{
-    unsigned rows = (unsigned)get(sheet + AT_ROWS, 2), depots = 0;
-    while (depots < rows && get(row_of(sheet, depots) + AT_MARKS, 4) & PLANNER_DEPOT)
-        depots++;
-    return depots > 1 ? depots : 1;
-}
 
 static inline uint8_t *stop_record(const struct reading *r, unsigned stop)
 {
@@ -41,19 +32,7 @@ static inline uint8_t *stop_record(const struct reading *r, unsigned stop)
 
 static inline unsigned next_of(const struct reading *r, uint8_t *plan, unsigned stop)
 {
-    return (unsigned)get(stop_of(plan, r->rows, stop) + AT_NEXT, 2);
-}
-
-static inline double leg_of(const struct reading *r, unsigned from, unsigned to)
-{
-    return get_f64(legs_of(r->sheet) + PLANNER_LEG_BYTES * (from * r->rows + to));
-}
-
-/* By the time table, if there is one. */
-static inline double time_of(const struct reading *r, unsigned from, unsigned to)
-{
-    unsigned table = r->sheet[AT_TIME_TABLE] * r->rows * r->rows;
-    return get_f64(legs_of(r->sheet) + PLANNER_LEG_BYTES * (table + from * r->rows + to));
+    return (unsigned)planner_get(stop_of(plan, r->rows, stop) + PLANNER_STOP_NEXT, 2);
 }
 
 static inline int none_set(const uint8_t *at, size_t len)
@@ -67,7 +46,7 @@ static inline int none_set(const uint8_t *at, size_t len)
 /* Whether the eight bytes are those of the number. */
 static inline int holds(const uint8_t *at, double value)
 {
-    return get(at, 8) == bits_of(value);
+    return planner_get(at, 8) == bits_of(value);
 }
 
 /* Strikes a link's stop off those not met, NULL if it was one. */
@@ -83,68 +62,68 @@ static inline const char *meet(struct reading *r, unsigned stop)
 }
 
 /* When service could start if the stop had no window: at arrival, or after a rest that stands before it. */
-static inline double free_to_serve(const struct walked *w, double arrival)
+static inline double free_to_serve(const struct reading *r, const struct walked *w, double arrival)
 {
-    if (w->place != get(w->round + AT_REST_PLACE, 2))
+    if (w->place != planner_round_rest_place(r->plan, w->k))
         return arrival;
-    return get_f64(w->round + AT_REST_START) + get_f64(w->vehicle + AT_REST);
+    return planner_round_rest_start(r->plan, w->k) + planner_vehicle_rest_duration(r->sheet, w->v);
 }
 
 /* The departure from a stop, its lateness counted. */
-static inline double serve(struct walked *w, const uint8_t *row, double arrival)
+static inline double serve(const struct reading *r, struct walked *w, unsigned stop, double arrival)
 {
-    uint32_t marks = (uint32_t)get(row + AT_MARKS, 4);
-    double start = free_to_serve(w, arrival), ready = get_f64(row + AT_READY), due = get_f64(row + AT_DUE);
+    uint32_t marks = planner_row_marks(r->sheet, stop);
+    double start = free_to_serve(r, w, arrival), service = planner_row_service(r->sheet, stop);
+    double ready = planner_row_ready(r->sheet, stop), due = planner_row_due(r->sheet, stop);
     if (!(marks & PLANNER_WINDOW))
-        return start + get_f64(row + AT_SERVICE);
+        return start + service;
     if (start > due && marks & PLANNER_PENALTY) {
         w->lateness += start - due;
-        w->lateness_cost += get_f64(row + AT_PENALTY) * (start - due);
+        w->lateness_cost += planner_row_penalty(r->sheet, stop) * (start - due);
     }
-    return start + (start < ready ? ready - start : 0.0) + get_f64(row + AT_SERVICE);
+    return start + (start < ready ? ready - start : 0.0) + service;
 }
 
 /* One stop more; NULL if its record is right. */
 static inline const char *walk_to(struct reading *r, struct walked *w, unsigned stop)
 {
-    const uint8_t *row = row_of(r->sheet, stop), *record = stop_record(r, stop);
-    double arrival = w->time + time_of(r, w->last, stop);
+    const uint8_t *record = stop_record(r, stop);
+    double arrival = w->time + planner_time(r->sheet, w->last, stop);
     w->place++;
-    w->distance += leg_of(r, w->last, stop);
-    w->load += (uint32_t)get(row + AT_DEMAND, 4);
-    w->time = serve(w, row, arrival);
+    w->distance += planner_distance(r->sheet, w->last, stop);
+    w->load += (uint32_t)planner_row_demand(r->sheet, stop);
+    w->time = serve(r, w, stop, arrival);
     w->last = stop;
-    if (!none_set(record + AT_STOP_SPARE, 2))
+    if (!none_set(record + PLANNER_STOP_SPARE, 2))
         return "a stop's unused bytes";
-    if (get(record + AT_LOAD_AFTER, 4) != w->load)
+    if ((uint32_t)planner_stop_load(r->plan, stop) != w->load)
         return "a load that is not the sum of the demands";
-    if (!holds(record + AT_ARRIVAL, arrival) || !holds(record + AT_DEPARTURE, w->time))
+    if (!holds(record + PLANNER_STOP_ARRIVAL, arrival) || !holds(record + PLANNER_STOP_DEPARTURE, w->time))
         return "an arrival or a departure";
     return NULL;
 }
 
-static inline const char *rest_fault(const struct walked *w)
+static inline const char *rest_fault(const struct reading *r, const struct walked *w)
 {
-    unsigned place = (unsigned)get(w->round + AT_REST_PLACE, 2);
-    double start = get_f64(w->round + AT_REST_START);
+    unsigned place = planner_round_rest_place(r->plan, w->k);
+    double start = planner_round_rest_start(r->plan, w->k);
     if (place == 0)
-        return none_set(w->round + AT_REST_START, 8) ? NULL : "a start without a rest";
-    if (place > w->place || !(get(w->vehicle + AT_MARKS, 4) & PLANNER_REST))
+        return none_set(round_record(r->plan, w->k) + PLANNER_ROUND_REST_START, 8) ? NULL : "a start without a rest";
+    if (place > w->place || !(planner_vehicle_marks(r->sheet, w->v) & PLANNER_REST))
         return "a rest's place";
-    if (!(start >= get_f64(w->vehicle + AT_EARLIEST)) || !(start <= get_f64(w->vehicle + AT_LATEST)))
+    if (!(start >= planner_vehicle_earliest(r->sheet, w->v)) || !(start <= planner_vehicle_latest(r->sheet, w->v)))
         return "a rest's start";
     return NULL;
 }
 
-/* Whether the plan in has the round as it is. */
-static inline int was_so(const struct reading *r, const uint8_t *round)
+/* Whether the plan in has round k of the plan as it is. */
+static inline int was_so(const struct reading *r, unsigned k)
 {
-    for (unsigned k = 0; k < get(r->plan_in + AT_ROUNDS, 2); k++) {
-        const uint8_t *before = round_record(r->plan_in, k);
-        unsigned stop = (unsigned)get(round + AT_FIRST, 2), had = (unsigned)get(before + AT_FIRST, 2);
+    for (unsigned before = 0; before < planner_plan_rounds(r->plan_in); before++) {
+        unsigned stop = planner_round_first(r->plan, k), had = planner_round_first(r->plan_in, before);
         for (; stop == had && stop != 0; stop = next_of(r, r->plan, stop))
             had = next_of(r, r->plan_in, stop);
-        if (get(round, 4) == get(before, 4) && stop == had)
+        if (planner_round_id(r->plan, k) == planner_round_id(r->plan_in, before) && stop == had)
             return 1;
     }
     return 0;
@@ -153,52 +132,54 @@ static inline int was_so(const struct reading *r, const uint8_t *round)
 static inline int may_be_over(const struct reading *r, const struct walked *w)
 {
     if (r->plan_in != NULL)
-        return was_so(r, w->round);
+        return was_so(r, w->k);
     return r->method == PLANNER_SAVINGS && w->place == 1;
 }
 
 /* The end of a round, back at its depot. */
 static inline const char *home_fault(struct reading *r, struct walked *w, unsigned depot)
 {
-    double distance = w->distance + leg_of(r, w->last, depot);
-    if (!none_set(w->round + AT_ROUND_SPARE, 4))
+    const uint8_t *round = round_record(r->plan, w->k);
+    double distance = w->distance + planner_distance(r->sheet, w->last, depot);
+    if (!none_set(round + PLANNER_ROUND_SPARE, 4))
         return "a round's unused bytes";
-    if (get(w->round + AT_LOAD, 4) != w->load)
+    if ((uint32_t)planner_round_load(r->plan, w->k) != w->load)
         return "a round's load";
-    if (!holds(w->round + AT_DISTANCE, distance))
+    if (!holds(round + PLANNER_ROUND_DISTANCE, distance))
         return "a round's distance";
-    if (!holds(w->round + AT_DURATION, w->time + time_of(r, w->last, depot)))
+    if (!holds(round + PLANNER_ROUND_DURATION, w->time + planner_time(r->sheet, w->last, depot)))
         return "a round's duration";
-    if (!holds(w->round + AT_LATENESS, w->lateness) || !holds(w->round + AT_LATENESS_COST, w->lateness_cost))
+    if (!holds(round + PLANNER_ROUND_LATENESS, w->lateness) || !holds(round + PLANNER_ROUND_LATENESS_COST, w->lateness_cost))
         return "a round's lateness";
-    if (w->load > get(w->vehicle + AT_CAPACITY, 4) && !may_be_over(r, w))
+    if (w->load > (uint32_t)planner_vehicle_capacity(r->sheet, w->v) && !may_be_over(r, w))
         return "a load above capacity";
-    r->cost += get_f64(w->vehicle + AT_FIXED) + get_f64(w->vehicle + AT_RATE) * (distance + w->lateness_cost);
-    return rest_fault(w);
+    r->cost += planner_vehicle_fixed_cost(r->sheet, w->v)
+               + planner_vehicle_cost_per_distance(r->sheet, w->v) * (distance + w->lateness_cost);
+    return rest_fault(r, w);
 }
 
-/* NULL if no vehicle has the id. */
-static inline uint8_t *vehicle_by_id(const struct reading *r, uint64_t id)
+/* The number of vehicles if none has the id. */
+static inline unsigned vehicle_by_id(const struct reading *r, uint32_t id)
 {
-    for (unsigned v = 0; v < r->vehicles; v++)
-        if (get(vehicle_of(r->sheet, v) + AT_ID, 4) == id)
-            return vehicle_of(r->sheet, v);
-    return NULL;
+    unsigned v = 0;
+    while (v < r->vehicles && planner_vehicle_id(r->sheet, v) != id)
+        v++;
+    return v;
 }
 
 /* A nearest neighbour's vehicle drives once; the other methods' is the first of its depot; a plan in's is any. */
-static inline int may_drive(const struct reading *r, unsigned k, const uint8_t *vehicle)
+static inline int may_drive(const struct reading *r, unsigned k, unsigned v)
 {
     if (r->plan_in != NULL)
         return 1;
     if (needs_vehicle(r->method)) {
-        uint8_t *first = vehicle_of(r->sheet, 0);
-        while (get(first + AT_DEPOT, 4) != get(vehicle + AT_DEPOT, 4))
-            first += PLANNER_VEHICLE_BYTES;
-        return first == vehicle;
+        unsigned first = 0;
+        while (planner_vehicle_depot(r->sheet, first) != planner_vehicle_depot(r->sheet, v))
+            first++;
+        return first == v;
     }
     for (unsigned earlier = 0; earlier < k; earlier++)
-        if (get(round_record(r->plan, earlier), 4) == get(vehicle + AT_ID, 4))
+        if (planner_round_id(r->plan, earlier) == planner_vehicle_id(r->sheet, v))
             return 0;
     return 1;
 }
@@ -206,13 +187,13 @@ static inline int may_drive(const struct reading *r, unsigned k, const uint8_t *
 static inline const char *round_fault(struct reading *r, unsigned k)
 {
     struct walked w = {0};
-    w.round = round_record(r->plan, k);
-    w.vehicle = vehicle_by_id(r, get(w.round, 4));
-    if (w.vehicle == NULL || !may_drive(r, k, w.vehicle))
+    w.k = k;
+    w.v = vehicle_by_id(r, planner_round_id(r->plan, k));
+    if (w.v == r->vehicles || !may_drive(r, k, w.v))
         return "a round's vehicle";
-    unsigned depot = (unsigned)get(w.vehicle + AT_DEPOT, 4), stop = (unsigned)get(w.round + AT_FIRST, 2);
+    unsigned depot = planner_vehicle_depot(r->sheet, w.v), stop = planner_round_first(r->plan, k);
     w.last = depot;
-    if (stop == 0 && (r->plan_in == NULL || !was_so(r, w.round)))
+    if (stop == 0 && (r->plan_in == NULL || !was_so(r, k)))
         return "an empty round";
     for (; stop != 0; stop = next_of(r, r->plan, stop)) {
         const char *fault = meet(r, stop);
@@ -228,12 +209,12 @@ static inline const char *round_fault(struct reading *r, unsigned k)
 static inline const char *aside_fault(struct reading *r)
 {
     int ascending = r->plan_in != NULL || r->depots > 1 || r->method == PLANNER_NEAREST_NEIGHBOR;
-    unsigned last = 0, stop = (unsigned)get(r->plan + AT_ASIDE, 2);
+    unsigned last = 0, stop = planner_plan_aside(r->plan);
     for (; stop != 0; stop = next_of(r, r->plan, stop)) {
         const char *fault = meet(r, stop);
         if (fault != NULL)
             return fault;
-        if (!none_set(stop_record(r, stop) + AT_STOP_SPARE, PLANNER_PLAN_STOP_BYTES - AT_STOP_SPARE))
+        if (!none_set(stop_record(r, stop) + PLANNER_STOP_SPARE, PLANNER_PLAN_STOP_BYTES - PLANNER_STOP_SPARE))
             return "figures of a stop set aside";
         if (ascending && stop < last)
             return "the order of the stops set aside";
@@ -250,18 +231,18 @@ static inline void begin(struct reading *r, uint8_t *sheet, uint8_t *plan, uint8
     r->sheet = sheet;
     r->plan = plan;
     r->plan_in = plan_in;
-    r->rows = (unsigned)get(sheet + AT_ROWS, 2);
-    r->vehicles = (unsigned)get(sheet + AT_VEHICLES, 2);
-    r->method = sheet[AT_METHOD];
-    r->depots = depots_of(sheet);
+    r->rows = planner_rows(sheet);
+    r->vehicles = planner_vehicles(sheet);
+    r->method = planner_method(sheet);
+    r->depots = planner_depots(sheet);
 }
 
 static inline const char *whole_fault(struct reading *r)
 {
     uint8_t *plan = r->plan;
-    unsigned rounds = (unsigned)get(plan + AT_ROUNDS, 2);
+    unsigned rounds = planner_plan_rounds(plan);
     const char *fault = NULL;
-    if (rounds > r->rows || get(plan + AT_PLAN_ROWS, 2) != r->rows || !none_set(plan + AT_PLAN_SPARE, 2))
+    if (rounds > r->rows || planner_plan_rows(plan) != r->rows || !none_set(plan + PLANNER_PLAN_SPARE, 2))
         return "the header";
     for (unsigned k = 0; k < rounds && fault == NULL; k++)
         fault = round_fault(r, k);
@@ -276,7 +257,7 @@ static inline const char *whole_fault(struct reading *r)
     for (unsigned depot = 0; depot < r->depots && depot < r->rows; depot++)
         if (!none_set(stop_record(r, depot), PLANNER_PLAN_STOP_BYTES))
             return "a depot's record";
-    return get_f64(plan + AT_COST) == r->cost ? NULL : "the cost";
+    return planner_plan_cost(plan) == r->cost ? NULL : "the cost";
 }
 
 /* What is wrong with the plan of an accepted sheet, NULL if nothing is; `r` tells of it then. */
@@ -299,20 +280,19 @@ static inline int chain_is_good(struct reading *r, unsigned stop)
 static inline int plan_in_is_good(struct reading *r, uint8_t *sheet, uint8_t *plan_in)
 {
     begin(r, sheet, plan_in, NULL);
-    unsigned rounds = (unsigned)get(plan_in + AT_ROUNDS, 2);
+    unsigned rounds = planner_plan_rounds(plan_in);
     if (rounds > r->rows)
         return 0;
-    for (unsigned k = 0; k < rounds; k++) {
-        const uint8_t *round = round_record(plan_in, k);
-        if (vehicle_by_id(r, get(round, 4)) == NULL || !chain_is_good(r, (unsigned)get(round + AT_FIRST, 2)))
+    for (unsigned k = 0; k < rounds; k++)
+        if (vehicle_by_id(r, planner_round_id(plan_in, k)) == r->vehicles
+            || !chain_is_good(r, planner_round_first(plan_in, k)))
             return 0;
-    }
-    return chain_is_good(r, (unsigned)get(plan_in + AT_ASIDE, 2)) && (r->rows == 0 || r->stops == r->rows - 1);
+    return chain_is_good(r, planner_plan_aside(plan_in)) && (r->rows == 0 || r->stops == r->rows - 1);
 }
 
 static inline int is_aside(const struct reading *r, uint8_t *plan, unsigned sought)
 {
-    unsigned stop = (unsigned)get(plan + AT_ASIDE, 2);
+    unsigned stop = planner_plan_aside(plan);
     while (stop != 0 && stop != sought)
         stop = next_of(r, plan, stop);
     return stop != 0;
@@ -322,13 +302,13 @@ static inline int is_aside(const struct reading *r, uint8_t *plan, unsigned soug
 static inline const char *limit_fault(struct reading *r, uint8_t *sheet, uint8_t *plan_in, uint32_t greatest, uint8_t *plan_out)
 {
     begin(r, sheet, plan_out, plan_in);
-    unsigned rounds = (unsigned)get(plan_out + AT_ROUNDS, 2), before = (unsigned)get(plan_in + AT_ROUNDS, 2);
+    unsigned rounds = planner_plan_rounds(plan_out), before = planner_plan_rounds(plan_in);
     const char *fault = whole_fault(r);
     if (fault != NULL)
         return fault;
     if (rounds != (before < greatest ? before : greatest))
         return "the number of rounds";
-    if (rounds == 0 && !holds(plan_out + AT_COST, -0.0))
+    if (rounds == 0 && !holds(plan_out + PLANNER_PLAN_COST, -0.0))
         return "the cost of no round";
     for (unsigned stop = 1; stop < r->rows; stop++)
         if (is_aside(r, plan_in, stop) && !is_aside(r, plan_out, stop))

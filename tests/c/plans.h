@@ -1,19 +1,15 @@
 /*
- * The bytes of plans: where each field stands, and plans that are dealt at random.
+ * Plans that are dealt at random. A plan in may have any bytes, so its records of stops are
+ * found by the sheet's number of rows, and not by the plan's own.
  */
 #ifndef PLANS_H
 #define PLANS_H
 
 #include "sheets.h"
 
-enum { AT_ROUNDS = 0, AT_ASIDE = 2, AT_PLAN_ROWS = 4, AT_PLAN_SPARE = 6, AT_COST = 8 };
-enum { AT_LOAD = 4, AT_FIRST = 8, AT_REST_PLACE = 10, AT_ROUND_SPARE = 12, AT_DISTANCE = 16, AT_DURATION = 24 };
-enum { AT_LATENESS = 32, AT_LATENESS_COST = 40, AT_REST_START = 48 };
-enum { AT_NEXT = 0, AT_STOP_SPARE = 2, AT_LOAD_AFTER = 4, AT_ARRIVAL = 8, AT_DEPARTURE = 16 };
-
 static inline uint8_t *round_record(uint8_t *plan, unsigned k)
 {
-    return plan + PLANNER_PLAN_HEADER_BYTES + PLANNER_PLAN_ROUND_BYTES * k;
+    return plan + planner_round_at(k);
 }
 
 /* Of a plan of so many rows. */
@@ -26,16 +22,16 @@ static inline uint8_t *stop_of(uint8_t *plan, unsigned rows, unsigned stop)
    there are rounds. A sheet without a vehicle has no rounds. Only what the limiter reads is written. */
 static inline void deal_plan(uint8_t *plan, uint8_t *sheet, unsigned rounds, int lone, uint64_t *state)
 {
-    unsigned rows = (unsigned)get(sheet + AT_ROWS, 2), vehicles = (unsigned)get(sheet + AT_VEHICLES, 2);
+    unsigned rows = planner_rows(sheet), vehicles = planner_vehicles(sheet);
     unsigned stops[PLANNER_MOST_ROWS] = {0};
     uint8_t *ends[PLANNER_MOST_ROWS + 1];
     rounds = vehicles > 0 ? rounds : 0;
-    put(plan + AT_ROUNDS, rounds, 2);
+    planner_set_plan_rounds(plan, rounds);
     for (unsigned k = 0; k < rounds; k++) {
-        put(round_record(plan, k), get(vehicle_of(sheet, below(state, vehicles)) + AT_ID, 4), 4);
-        ends[k] = round_record(plan, k) + AT_FIRST;
+        planner_set_round_id(plan, k, planner_vehicle_id(sheet, below(state, vehicles)));
+        ends[k] = round_record(plan, k) + PLANNER_ROUND_FIRST;
     }
-    ends[rounds] = plan + AT_ASIDE;
+    ends[rounds] = plan + PLANNER_PLAN_ASIDE;
     for (unsigned i = 1; i < rows; i++) {
         unsigned at = 1 + below(state, i);
         stops[i] = stops[at];
@@ -43,11 +39,11 @@ static inline void deal_plan(uint8_t *plan, uint8_t *sheet, unsigned rounds, int
     }
     for (unsigned i = 1; i < rows; i++) {
         uint8_t **end = &ends[!lone ? below(state, rounds + 1) : i <= rounds ? i - 1 : rounds];
-        put(*end, stops[i], 2);
-        *end = stop_of(plan, rows, stops[i]) + AT_NEXT;
+        planner_put(*end, 2, stops[i]);
+        *end = stop_of(plan, rows, stops[i]) + PLANNER_STOP_NEXT;
     }
     for (unsigned k = 0; k <= rounds; k++)
-        put(ends[k], 0, 2);
+        planner_put(ends[k], 2, 0);
 }
 
 #endif

@@ -1,6 +1,6 @@
 /*
- * The bytes of sheets: where each field stands, and sheets of every shape that are
- * drawn with small whole numbers, so that most comparisons meet ties.
+ * Sheets of every shape, drawn with small whole numbers, so that most comparisons meet
+ * ties.
  */
 #ifndef SHEETS_H
 #define SHEETS_H
@@ -8,50 +8,18 @@
 #include <stdint.h>
 #include <string.h>
 
-#include "planner.h"
-
-enum { AT_ROWS = 0, AT_VEHICLES = 2, AT_METHOD = 4, AT_TIME_TABLE = 5, AT_SPARE = 6 };
-enum { AT_X = 0, AT_Y = 4, AT_DEMAND = 8, AT_MARKS = 12, AT_SERVICE = 16, AT_READY = 24, AT_DUE = 32, AT_PENALTY = 40 };
-enum { AT_ID = 0, AT_DEPOT = 4, AT_CAPACITY = 8, AT_RATE = 16, AT_FIXED = 24, AT_MAX_DISTANCE = 32 };
-enum { AT_MAX_DURATION = 40, AT_EARLIEST = 48, AT_LATEST = 56, AT_REST = 64 };
+#include "planner_fields.h"
 
 /* What a sheet is drawn by: capacities are below `load`, and windows, rests and maxima grow with `hours`. */
 struct shape {
     unsigned rows, depots, vehicles, method, time_table, load, hours;
 };
 
-static inline void put(uint8_t *at, uint64_t value, int width)
-{
-    for (int i = 0; i < width; i++)
-        at[i] = (uint8_t)(value >> (8 * i));
-}
-
-static inline uint64_t get(const uint8_t *at, int width)
-{
-    uint64_t value = 0;
-    for (int i = width; i > 0; i--)
-        value = value << 8 | at[i - 1];
-    return value;
-}
-
 static inline uint64_t bits_of(double value)
 {
     uint64_t bits;
     memcpy(&bits, &value, sizeof bits);
     return bits;
-}
-
-static inline void put_f64(uint8_t *at, double value)
-{
-    put(at, bits_of(value), 8);
-}
-
-static inline double get_f64(const uint8_t *at)
-{
-    uint64_t bits = get(at, 8);
-    double value;
-    memcpy(&value, &bits, sizeof value);
-    return value;
 }
 
 /* xorshift64. */
@@ -68,20 +36,25 @@ static inline unsigned below(uint64_t *state, unsigned n)
     return (unsigned)((next_random(state) >> 33) % n);
 }
 
-static inline uint8_t *row_of(uint8_t *sheet, unsigned r)
+static inline int32_t small(uint64_t *state, unsigned n)
 {
-    return sheet + PLANNER_HEADER_BYTES + PLANNER_ROW_BYTES * r;
+    return (int32_t)below(state, n);
 }
 
-/* Of a sheet whose header says how many rows it has. */
+/* The bytes of a record; of a sheet whose header says how many rows and vehicles it has. */
+static inline uint8_t *row_of(uint8_t *sheet, unsigned r)
+{
+    return sheet + planner_row_at(r);
+}
+
 static inline uint8_t *vehicle_of(uint8_t *sheet, unsigned v)
 {
-    return row_of(sheet, (unsigned)get(sheet + AT_ROWS, 2)) + PLANNER_VEHICLE_BYTES * v;
+    return sheet + planner_vehicle_at(sheet, v);
 }
 
 static inline uint8_t *legs_of(uint8_t *sheet)
 {
-    return vehicle_of(sheet, (unsigned)get(sheet + AT_VEHICLES, 2));
+    return sheet + planner_distance_at(sheet, 0, 0);
 }
 
 /* An accepted sheet whose numbers are zero, but for the ids of its vehicles. */
@@ -89,50 +62,50 @@ static inline size_t plain_sheet(uint8_t *sheet, unsigned rows, unsigned vehicle
 {
     size_t len = PLANNER_SHEET_BYTES(rows, vehicles, time_table);
     memset(sheet, 0, len);
-    put(sheet + AT_ROWS, rows, 2);
-    put(sheet + AT_VEHICLES, vehicles, 2);
-    sheet[AT_METHOD] = PLANNER_NEAREST_NEIGHBOR;
-    sheet[AT_TIME_TABLE] = (uint8_t)time_table;
+    planner_set_rows(sheet, rows);
+    planner_set_vehicles(sheet, vehicles);
+    planner_set_method(sheet, PLANNER_NEAREST_NEIGHBOR);
+    planner_set_time_table(sheet, time_table);
     for (unsigned v = 0; v < vehicles; v++)
-        put(vehicle_of(sheet, v) + AT_ID, v, 4);
+        planner_set_vehicle_id(sheet, v, v);
     return len;
 }
 
-static inline void draw_row(uint8_t *row, struct shape shape, int depot, uint64_t *state)
+static inline void draw_row(uint8_t *sheet, unsigned r, struct shape shape, uint64_t *state)
 {
-    unsigned marks = below(state, 4) * 2 + (depot ? PLANNER_DEPOT : 0);
+    unsigned marks = below(state, 4) * 2 + (r < shape.depots ? PLANNER_DEPOT : 0);
     unsigned ready = below(state, 40) * shape.hours;
-    put(row + AT_X, below(state, 100), 4);
-    put(row + AT_Y, below(state, 100), 4);
-    put(row + AT_DEMAND, below(state, 5), 4);
-    put(row + AT_MARKS, marks, 4);
-    put_f64(row + AT_SERVICE, below(state, 4));
+    planner_set_row_x(sheet, r, small(state, 100));
+    planner_set_row_y(sheet, r, small(state, 100));
+    planner_set_row_demand(sheet, r, small(state, 5));
+    planner_set_row_marks(sheet, r, marks);
+    planner_set_row_service(sheet, r, below(state, 4));
     if (marks & PLANNER_WINDOW) {
-        put_f64(row + AT_READY, ready);
-        put_f64(row + AT_DUE, ready + below(state, 60) * shape.hours);
+        planner_set_row_ready(sheet, r, ready);
+        planner_set_row_due(sheet, r, ready + below(state, 60) * shape.hours);
     }
     if (marks & PLANNER_PENALTY)
-        put_f64(row + AT_PENALTY, below(state, 3));
+        planner_set_row_penalty(sheet, r, below(state, 3));
 }
 
-static inline void draw_vehicle(uint8_t *vehicle, struct shape shape, unsigned id, uint64_t *state)
+static inline void draw_vehicle(uint8_t *sheet, unsigned v, struct shape shape, uint64_t *state)
 {
     unsigned marks = below(state, 8);
     unsigned earliest = below(state, 40) * shape.hours;
-    put(vehicle + AT_ID, id, 4);
-    put(vehicle + AT_DEPOT, below(state, shape.depots), 4);
-    put(vehicle + AT_CAPACITY, below(state, shape.load), 4);
-    put(vehicle + AT_MARKS, marks, 4);
-    put_f64(vehicle + AT_RATE, below(state, 3));
-    put_f64(vehicle + AT_FIXED, below(state, 20));
+    planner_set_vehicle_id(sheet, v, 100 + v);
+    planner_set_vehicle_depot(sheet, v, below(state, shape.depots));
+    planner_set_vehicle_capacity(sheet, v, small(state, shape.load));
+    planner_set_vehicle_marks(sheet, v, marks);
+    planner_set_vehicle_cost_per_distance(sheet, v, below(state, 3));
+    planner_set_vehicle_fixed_cost(sheet, v, below(state, 20));
     if (marks & PLANNER_MAX_DISTANCE)
-        put_f64(vehicle + AT_MAX_DISTANCE, below(state, 200) * shape.hours);
+        planner_set_vehicle_max_distance(sheet, v, below(state, 200) * shape.hours);
     if (marks & PLANNER_MAX_DURATION)
-        put_f64(vehicle + AT_MAX_DURATION, below(state, 200) * shape.hours);
+        planner_set_vehicle_max_duration(sheet, v, below(state, 200) * shape.hours);
     if (marks & PLANNER_REST) {
-        put_f64(vehicle + AT_EARLIEST, earliest);
-        put_f64(vehicle + AT_LATEST, earliest + below(state, 30) * shape.hours);
-        put_f64(vehicle + AT_REST, below(state, 10));
+        planner_set_vehicle_earliest(sheet, v, earliest);
+        planner_set_vehicle_latest(sheet, v, earliest + below(state, 30) * shape.hours);
+        planner_set_vehicle_rest_duration(sheet, v, below(state, 10));
     }
 }
 
@@ -140,13 +113,13 @@ static inline void draw_vehicle(uint8_t *vehicle, struct shape shape, unsigned i
 static inline size_t draw_sheet(uint8_t *sheet, struct shape shape, uint64_t *state)
 {
     size_t len = plain_sheet(sheet, shape.rows, shape.vehicles, shape.time_table);
-    sheet[AT_METHOD] = (uint8_t)shape.method;
+    planner_set_method(sheet, shape.method);
     for (unsigned r = 0; r < shape.rows; r++)
-        draw_row(row_of(sheet, r), shape, r < shape.depots, state);
+        draw_row(sheet, r, shape, state);
     for (unsigned v = 0; v < shape.vehicles; v++)
-        draw_vehicle(vehicle_of(sheet, v), shape, 100 + v, state);
+        draw_vehicle(sheet, v, shape, state);
     for (uint8_t *leg = legs_of(sheet); leg < sheet + len; leg += PLANNER_LEG_BYTES)
-        put_f64(leg, below(state, 50));
+        planner_put_f64(leg, below(state, 50));
     return len;
 }
 

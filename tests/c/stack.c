@@ -1,10 +1,11 @@
 /*
  * How much stack a call takes: each is made on a stack that was filled with a pattern,
  * and the lowest word that is another afterwards tells. In bytes, the caller's own
- * frame included; over several sheets of the most rows for each method and for the
- * limiter, or for the sheets in files.
+ * frame included; over several sheets of the most rows for each method, for the check
+ * and for the limiter, or for the sheets in files.
  *
- *   stack MOST [FILE..]    the exit status is 1 where a call takes more than MOST
+ *   stack [FILE..]    the exit status is 1 where a call takes more than planner.h says,
+ *                     by PLANNER_STACK_SAVINGS and PLANNER_STACK
  */
 #define _GNU_SOURCE
 #include <stdint.h>
@@ -20,7 +21,7 @@ static const uint64_t patterns[] = {UINT64_C(0xa5c396e17b2d4f08), UINT64_C(0x5a3
 static uint8_t sheet[PLANNER_SHEET_BYTES(PLANNER_MOST_ROWS, PLANNER_MOST_VEHICLES, 1)];
 static uint8_t plan[PLANNER_PLAN_BYTES(PLANNER_MOST_ROWS)], plan_in[sizeof plan];
 static size_t len;
-static int limiting;
+static enum { PLANNING, CHECKING, LIMITING } asked;
 static uint32_t answer;
 static uint64_t stack[STACK_WORDS];
 static const uint8_t *top;
@@ -28,10 +29,12 @@ static ucontext_t caller, callee;
 
 static void call(void)
 {
-    size_t plan_len = PLANNER_PLAN_BYTES(get(sheet + AT_ROWS, 2));
+    size_t plan_len = PLANNER_PLAN_BYTES(planner_rows(sheet));
     top = __builtin_frame_address(0);
-    if (limiting)
+    if (asked == LIMITING)
         answer = limit_rounds(sheet, len, plan_in, plan_len, 1, plan, plan_len);
+    else if (asked == CHECKING)
+        answer = check_sheet(sheet, len, plan_len);
     else
         answer = plan_rounds(sheet, len, plan, plan_len < sizeof plan ? plan_len : sizeof plan);
 }
@@ -96,7 +99,7 @@ static size_t taken_by_limiter(void)
 {
     uint64_t state = UINT64_C(0x9e3779b97f4a7c15);
     size_t most = 0;
-    limiting = 1;
+    asked = LIMITING;
     for (unsigned kind = 1; kind < KINDS; kind += 2) {
         draw_kind(PLANNER_NEAREST_NEIGHBOR, kind, &state);
         deal_plan(plan_in, sheet, PLANNER_MOST_ROWS - 1, 1, &state);
@@ -104,7 +107,15 @@ static size_t taken_by_limiter(void)
         deal_plan(plan_in, sheet, 4, 0, &state);
         most = larger(most, taken());
     }
-    limiting = 0;
+    asked = PLANNING;
+    return most;
+}
+
+static size_t taken_by_check(void)
+{
+    asked = CHECKING;
+    size_t most = taken_by(PLANNER_NEAREST_NEIGHBOR);
+    asked = PLANNING;
     return most;
 }
 
@@ -120,29 +131,34 @@ static size_t taken_by_file(const char *name)
     return taken();
 }
 
-static int tell(const char *what, size_t taken, size_t allowed)
+/* What planner.h says of a plan by a method. */
+static size_t allowed(unsigned method)
 {
-    printf("stack: %s: %zu bytes", what, taken);
+    return method == PLANNER_SAVINGS ? PLANNER_STACK_SAVINGS : PLANNER_STACK;
+}
+
+static int tell(const char *what, size_t taken, size_t most)
+{
+    printf("stack: %s: %zu bytes of %zu", what, taken, most);
     if (answer != PLANNER_ACCEPTED)
         printf(", refused %u", (unsigned)answer);
-    printf("%s\n", taken > allowed ? ", too many" : "");
-    return taken > allowed;
+    printf("%s\n", taken > most ? ", too many" : "");
+    return taken > most;
 }
 
 int main(int argc, char **argv)
 {
     static const char *const names[METHODS] = {"savings", "insertion", "nearest neighbour", "nn_tw", "sweep"};
-    size_t allowed = argc > 1 ? strtoul(argv[1], NULL, 10) : 0;
     int over = 0;
-    if (allowed == 0) {
-        fprintf(stderr, "usage: stack MOST [FILE..]\n");
-        return 2;
+    for (int i = 1; i < argc; i++) {
+        size_t taken_here = taken_by_file(argv[i]);
+        over |= tell(argv[i], taken_here, allowed(planner_method(sheet)));
     }
-    for (unsigned method = 0; method < METHODS && argc == 2; method++)
-        over |= tell(names[method], taken_by(method), allowed);
-    if (argc == 2)
-        over |= tell("limiter", taken_by_limiter(), allowed);
-    for (int i = 2; i < argc; i++)
-        over |= tell(argv[i], taken_by_file(argv[i]), allowed);
+    if (argc > 1)
+        return over;
+    for (unsigned method = 0; method < METHODS; method++)
+        over |= tell(names[method], taken_by(method), allowed(method));
+    over |= tell("check", taken_by_check(), PLANNER_STACK);
+    over |= tell("limiter", taken_by_limiter(), PLANNER_STACK);
     return over;
 }

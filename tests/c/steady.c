@@ -81,7 +81,7 @@ static void draw_asked(struct asked *a, unsigned k, uint64_t *state)
     a->plan = room(a->plan_len);
     a->answer = plan_rounds(a->sheet, a->len, a->plan, a->plan_len);
     a->limited = room(a->plan_len);
-    a->greatest = (uint32_t)get(a->plan + AT_ROUNDS, 2) / 2;
+    a->greatest = planner_plan_rounds(a->plan) / 2;
     a->limit_answer = limit(a, a->limited);
 }
 
@@ -109,12 +109,12 @@ static void pass(void)
 /* The fixed piece of work: the sum of the least legs out of the rows of the largest sheet. */
 static double work(void)
 {
-    uint8_t *legs = legs_of(all[SHEETS - 1].sheet);
+    const uint8_t *sheet = all[SHEETS - 1].sheet;
     double sum = 0.0;
     for (unsigned from = 0; from < PLANNER_MOST_ROWS; from++) {
         double least = 1e9;
         for (unsigned to = 0; to < PLANNER_MOST_ROWS; to++) {
-            double leg = get_f64(legs + PLANNER_LEG_BYTES * (from * PLANNER_MOST_ROWS + to));
+            double leg = planner_distance(sheet, from, to);
             least = leg < least ? leg : least;
         }
         sum += least;

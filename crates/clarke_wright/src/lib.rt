@@ -1,4 +1,5 @@
-// The savings: each stop starts on a round of its own, and rounds are joined end to end, greatest saving first.
+// Savings (Clarke and Wright 1964): each stop starts alone, and rounds are joined end to end, greatest saving first.
+// O(n^2 log n) to sort the savings of n stops; where windows or limits are asked, a join is walked, O(n^3) at most.
 use clarke_wright_savings::terms;
 use clarke_wright_savings::terms::Directed;
 use clarke_wright_slots::laying;

@@ -1,4 +1,5 @@
-// The limiter: rounds are dropped until no more are left than may be, and their stops go to the rounds that remain.
+// The limiter (Bräysy and Gendreau 2005): the round of least load is dropped, its stops put back, cheapest first.
+// For each round of p stops dropped O(p^2 n) places; where windows or limits are asked, one that may win is walked.
 use evaluation::checks;
 use fleet::Pick;
 use fleet_cheapest::Windows;

@@ -1,4 +1,5 @@
-// Several depots: each stop goes to the nearest that has a vehicle, and where it is turned down to the next.
+// Several depots, cluster first: each stop goes to the nearest that has a vehicle, and if turned down to the next.
+// Each round of offers moves a stop on and plans the changed depots again: n (d - 1) rounds at most for d depots.
 use constructive::tables::Filled;
 use multi_depot_offers::members;
 use sheet::customer;

@@ -1,4 +1,5 @@
-// The nearest neighbours: each vehicle in turn drives on to the best stop left.
+// The nearest neighbours (with windows: Solomon 1987): each vehicle in turn drives on to the best stop left.
+// Every choice looks at each stop left once: O(n^2 + n v) for n stops and v vehicles, with a rest or without one.
 pub mod choice;
 pub mod greedy;
 mod nearest;
