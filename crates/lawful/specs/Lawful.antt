@@ -13,7 +13,7 @@ use Rattle.lawful.specs.Whole.{natOf}
 abbrev natAt : List ℕ → ℕ → ℕ
 natAt s at = natOf (f64At s at)
 
-abbrev later : ℕ → ℕ → ℕ
+abbrev pub later : ℕ → ℕ → ℕ
 later a b = cond (ltb a b) b a
 
 -- the time and the distance of a leg

@@ -2,8 +2,11 @@ pub mod Order
 pub mod Places
 pub mod Decides
 pub mod Whole
+pub mod Known
 pub mod Amounts
 pub mod Windows
 pub mod Stops
 pub mod Rounds
 pub mod Meaning
+pub mod Figures
+pub mod Visits

@@ -1,4 +1,5 @@
 pub mod Whole
 pub mod Lawful
 pub mod ClockN
+pub mod Figures
 pub mod Laws

@@ -5,10 +5,12 @@ use mathlib.Core.List.{List}
 use lib.Dec.{T}
 use lib.IntN.{pos, negsuc}
 use lib.Ieee.{Float, nan, inf, fin}
+use lib.Ieee.Exact.{HasValue}
 use Rattle.wire.specs.Bytes.{f64At}
 use Rattle.sheet.specs.Fields.{rowsOf, vehiclesOf, rowAt, rowMarks, serviceAt, readyAt, dueAt, vehicleAt, earliestAt, latestAt, restAt, entriesOf, entryAt, marked}
 
--- an f64 is a whole number if it is m * 2 ^ e with e not below 0
+-- an f64 is a whole number if it is m * 2 ^ e with e not below 0: a float is kept in lowest terms, so that below 0 its m is odd and leaves a
+-- fraction. Laws/Known proves the test right both ways.
 abbrev pub isWhole : Float → Bool
 isWhole nan = false
 isWhole (inf s) = false
@@ -23,6 +25,10 @@ natOf (inf s) = 0
 natOf (fin true m e) = 0
 natOf (fin false m (pos e)) = m * 2 ^ e
 natOf (fin false m (negsuc e)) = 0
+
+-- x is the whole number n, with its sign clear
+abbrev pub Is : ℕ → Float → Type 0
+Is n x = HasValue x false n 1
 
 abbrev pub WholeAt : List ℕ → ℕ → Type 0
 WholeAt s at = T (isWhole (f64At s at))

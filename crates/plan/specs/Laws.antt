@@ -3,3 +3,4 @@ pub mod Cases
 pub mod Plan
 pub mod Chained
 pub mod RoundTrip
+pub mod Stated

@@ -1,4 +1,5 @@
 pub mod Plan
 pub mod Writable
 pub mod Read
+pub mod Stated
 pub mod Laws

@@ -2,6 +2,8 @@ pub mod Refusals
 pub mod LimitRefusals
 pub mod Table
 pub mod WholeSheets
+pub mod Exact
+pub mod ExactPlans
 pub mod Wrong
 pub mod WrongAnswers
 pub mod WrongLimits

@@ -2,4 +2,5 @@ pub mod Refusals
 pub mod LimitRefusals
 pub mod Table
 pub mod WrongPlans
+pub mod Exact
 pub mod Laws

@@ -17,8 +17,8 @@ use Rattle.sheet.specs.Laws.Depots.{depots-few}
 use Rattle.sheet.specs.Accepted.{Accepted}
 use Rattle.sheet.specs.Values.{distanceOf, timeOf}
 use Rattle.sheet.specs.Laws.Finite.{row-finite, vehicle-finite, entries-split, distance-bounded, time-bounded}
-use Rattle.lawful.specs.Whole.{isWhole, natOf, Whole}
-use Rattle.lawful.specs.Laws.Whole.{Is, whole-is, whole-upto}
+use Rattle.lawful.specs.Whole.{isWhole, natOf, Whole, Is}
+use Rattle.lawful.specs.Laws.Whole.{whole-is, whole-upto}
 use Rattle.lawful.specs.Lawful.{timeN, distanceN, isWindowed, readyN, dueN, serviceN, homeOf, earliestN, latestN, restN}
 
 pub record Amount (n : ℕ) (x : Float) : Type 0 where

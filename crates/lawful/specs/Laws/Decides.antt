@@ -27,7 +27,7 @@ module _ (s : List ℕ) (v : ℕ) where
       ap (λ (b : Bool). needless && plainWalk s v is || b) (some-any s v is)
       ∙ chosen needless (plainWalk s v is) any (unrested-keeps s v is (left 0) (homeOf s v) is)
       ∙ sym (onward-places s v is startN (homeOf s v) is
-      ∙ ap (λ (w : Walk). cond needless (plainWalk s v is) (keepsMaxima s v is w || any)) (walk-failed s v (homeOf s v) is))
+      ∙ ap (λ (w : Walk). cond needless (plainWalk s v is) (keepsMaxima s v is w || any)) (walk-failed s v 0 (homeOf s v) is))
 
   pub lawful-feasible : (is : List ℕ) → lawful s v is ≡ feasibleN s v is
   unfolding lawful feasibleN

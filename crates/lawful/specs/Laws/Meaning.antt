@@ -25,17 +25,17 @@ use Rattle.evaluation.specs.Walk.{scheduledOf}
 use Rattle.evaluation.specs.Verdict.{heldTo, isFeasible}
 use Rattle.evaluation.specs.Feasible.{routeFeasible}
 use Rattle.evaluation.specs.Laws.Verdict.{verdict-scheduled, held-none, held-passes}
-use Rattle.lawful.specs.Whole.{Whole}
+use Rattle.lawful.specs.Whole.{Whole, Is}
 use Rattle.lawful.specs.Lawful.{Walk, failed, left, homeOf, rests, travelN, notOver, keepsMaxima, durationN, plainWalk, lawful}
 use Rattle.lawful.specs.ClockN.{startN, onwardN, feasibleN}
 use Rattle.lawful.specs.Laws.Decides.{lawful-feasible}
-use Rattle.lawful.specs.Laws.Whole.{Is, le-maximum}
+use Rattle.lawful.specs.Laws.Whole.{le-maximum}
 use Rattle.lawful.specs.Laws.Windows.{Same, nought-is}
 use Rattle.lawful.specs.Laws.Stops.{breakOf}
 use Rattle.lawful.specs.Laws.Rounds.{Comes, Rows, Driven, walk-comes, clock-comes}
 
 -- the rows of a round, one after the other
-rows-of : (s is : List ℕ) → ((k : ℕ) → k < length is → getD is k 0 < rowsOf s) → Rows s is
+pub rows-of : (s is : List ℕ) → ((k : ℕ) → k < length is → getD is k 0 < rowsOf s) → Rows s is
 rows-of s [] f = tt
 rows-of s (i ∷ is) f = (f 0 (suc-le-suc zero-le), rows-of s is (λ k h. f (suc k) (suc-le-suc h)))
 
@@ -62,10 +62,10 @@ module _ (s : List ℕ) (v : ℕ) (is : List ℕ) (whole : Whole s) (is-vehicle 
       )
 
   -- "It leaves the vehicle's depot at 0."
-  start : Same 0 (left 0) (Done atDepot)
+  pub start : Same 0 (left 0) (Done atDepot)
   start = record { time = nought-is; early = zero-le; cost = refl }
 
-  undriven : Driven 0 0 nought
+  pub undriven : Driven 0 0 nought
   undriven = record { is = nought-is; near = zero-le }
 
   walk-whole : isFeasible (heldTo (limitsAt s v) (scheduledOf s (homeOf s v) restless is)) ≡ plainWalk s v is

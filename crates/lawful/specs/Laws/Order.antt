@@ -1,7 +1,7 @@
 -- The order of walks: one that has failed is later than any other. A stop, the way home and the maxima respect it,
 -- and a walk that rests before a stop departs no earlier than one that does not. Assumes nothing.
 use mathlib.Core.Path.{_≡_, refl}
-use Prim.Native.Nat.{ℕ, _+_, _*_, _≤_}
+use Prim.Native.Nat.{ℕ, _+_, _-_, _*_, _≤_}
 use native.Mathlib.Nat.{le-refl, le-of-lt, mul-le-mul-right}
 use native.Mathlib.Omega.{arith}
 use mathlib.Core.Bool.{Bool, true, false, _&&_, cond}
@@ -108,10 +108,10 @@ module _ (s : List ℕ) (v : ℕ) where
   walk-monotone w u prev [] h = home-monotone prev w u h
   walk-monotone w u prev (i ∷ is) h = walk-monotone _ _ i is (stop-monotone false prev i w u h)
 
-  pub walk-failed : (prev : ℕ) (is : List ℕ) → walkN s v 0 failed prev is ≡ failed
+  pub walk-failed : (place prev : ℕ) (is : List ℕ) → walkN s v place failed prev is ≡ failed
   unfolding walkN stopN
-  walk-failed prev [] = refl
-  walk-failed prev (i ∷ is) = walk-failed i is
+  walk-failed place prev [] = refl
+  walk-failed place prev (i ∷ is) = walk-failed (place - 1) i is
 
   pub keeps-monotone : (is : List ℕ) (w u : Walk) → NoLater w u → T (keepsMaxima s v is u) → T (keepsMaxima s v is w)
   keeps-monotone is w failed h t = absurd t

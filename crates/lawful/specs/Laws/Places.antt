@@ -106,7 +106,7 @@ module _ (s : List ℕ) (v : ℕ) (round : List ℕ) where
   some-placed (suc n) = ap (λ (b : Bool). b || keeps (walkN s v (suc n) (left 0) (homeOf s v) round)) (some-placed n)
 
   -- a place after the stop at hand is one less from the next stop on
-  walk-past : (n : ℕ) (w : Walk) (prev i : ℕ) (is : List ℕ) → walkN s v (suc (suc n)) w prev (i ∷ is) ≡ walkN s v (suc n) (stopN false s v prev i w) i is
+  pub walk-past : (n : ℕ) (w : Walk) (prev i : ℕ) (is : List ℕ) → walkN s v (suc (suc n)) w prev (i ∷ is) ≡ walkN s v (suc n) (stopN false s v prev i w) i is
   unfolding walkN
   walk-past n w prev i is =
       ap (λ (k : ℕ). walkN s v k (stopN (eqb (suc (suc n)) 1) s v prev i w) i is) (suc-sub-suc (suc n) 0 ∙ sub-zero (suc n))

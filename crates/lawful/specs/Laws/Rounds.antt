@@ -21,10 +21,10 @@ use Rattle.evaluation.specs.declared.clock.Scheduled.the-variants.{Found, NotFo
 use Rattle.evaluation.specs.Sums.{_⊕_}
 use Rattle.evaluation.specs.Clock.{stepOf, takenOf, movedOf, homeSchedule as broughtHome, unrested, endOf, homeward as homewardOf, returned}
 use Rattle.evaluation.specs.Walk.{Position, driveTo, walkedOver, homeFrom}
-use Rattle.lawful.specs.Whole.{Whole}
+use Rattle.lawful.specs.Whole.{Whole, Is}
 use Rattle.lawful.specs.Lawful.{Walk, failed, left, timeN, distanceN, homeOf, earliestN, stopN, homeN, walkN, travelN}
 use Rattle.lawful.specs.ClockN.{pushN, homewardN, onwardN}
-use Rattle.lawful.specs.Laws.Whole.{Is, add-whole, le-whole}
+use Rattle.lawful.specs.Laws.Whole.{add-whole, le-whole}
 use Rattle.lawful.specs.Laws.Amounts.{Amount, RestAmounts, row-amounts, rest-amounts, distance-amount, time-amount}
 use Rattle.lawful.specs.Laws.Windows.{Tracks, Same}
 use Rattle.lawful.specs.Laws.Stops.{breakOf, step-same, step-rested, earlier-same}
@@ -45,11 +45,15 @@ pub record Driven (n d : ℕ) (x : Float) : Type 0 where
   pub is : Is d x
   pub near : d ≤ 1_000_000_000 * n
 
-drive : (n d leg : ℕ) (x y : Float) → n ≤ mostRows → Driven n d x → Amount leg y → Driven (suc n) (d + leg) (x ⊕ y)
+pub drive : (n d leg : ℕ) (x y : Float) → n ≤ mostRows → Driven n d x → Amount leg y → Driven (suc n) (d + leg) (x ⊕ y)
 drive n d leg x y few u v =
     let a = u .near in
     let b = v .small in
     record { is = add-whole d leg x y (u .is) (v .is) (omega arith); near = omega arith }
+
+-- a position, its row, its labels and its distance given each by itself
+abbrev pub positionAt : Rest → ℕ → ℕ → Served → Served → Float → Position
+positionAt resting place prev x y distance = record { clock = record { rest = resting; before = x; after = y; prev = prev; place = place }; distance = distance }
 
 module _ (s : List ℕ) (v : ℕ) (a : Accepted s) (whole : Whole s) (is-vehicle : v < vehiclesOf s) (at-home : homeOf s v < rowsOf s) where
   rest : RestAmounts s v
@@ -57,7 +61,7 @@ module _ (s : List ℕ) (v : ℕ) (a : Accepted s) (whole : Whole s) (is-vehicle
 
   -- ---- the way home
   module _ (n far prev : ℕ) (few : n ≤ mostRows) (distance : Float) (from : prev < rowsOf s) (total : Is far distance) where
-    home-time : (t : ℕ) (l : Label) → Tracks n t l → Is (t + timeN s prev (homeOf s v)) (l .time ⊕ timeOf s prev (homeOf s v))
+    pub home-time : (t : ℕ) (l : Label) → Tracks n t l → Is (t + timeN s prev (homeOf s v)) (l .time ⊕ timeOf s prev (homeOf s v))
     home-time t l u =
         let b = time-amount s a whole prev (homeOf s v) from at-home in
         let c = b .small in
@@ -91,10 +95,7 @@ module _ (s : List ℕ) (v : ℕ) (a : Accepted s) (whole : Whole s) (is-vehicle
         go true = (home-time t l p, total)
         go false = rested-home z y q
 
-  -- ---- the walk, its row, its labels and its distance given each by itself
-  abbrev positionAt : Rest → ℕ → ℕ → Served → Served → Float → Position
-  positionAt resting place prev x y distance = record { clock = record { rest = resting; before = x; after = y; prev = prev; place = place }; distance = distance }
-
+  -- ---- the walk
   -- without a rest
   pub walk-comes : (n d place prev : ℕ) (w : Walk) (x y : Served) (distance : Float) (is : List ℕ) → n + length is ≤ mostRows → prev < rowsOf s → Rows s is
       → Same n w x → Driven n d distance → Comes (d + travelN s v prev is) (walkN s v 0 w prev is) (homeFrom s (homeOf s v) (walkedOver s (positionAt restless place prev x y distance) is))

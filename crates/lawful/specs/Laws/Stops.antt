@@ -16,9 +16,10 @@ use Rattle.evaluation.specs.declared.label.Served.the-variants.{Done, Refused}
 use Rattle.evaluation.specs.Sums.{_⊕_}
 use Rattle.evaluation.specs.Serve.{restedAt, visitOf, laterOf, restFrom, serveOf, serveRested}
 use Rattle.evaluation.specs.Clock.{stepOf, stepRested, winsOver, earlierOf}
+use Rattle.lawful.specs.Whole.{Is}
 use Rattle.lawful.specs.Lawful.{Walk, failed, left, timeN, isWindowed, readyN, dueN, serviceN, earliestN, latestN, restN, restBegun, arrives, departs, stopN}
 use Rattle.lawful.specs.ClockN.{earlierN}
-use Rattle.lawful.specs.Laws.Whole.{Is, lt-whole, later-whole, add-whole}
+use Rattle.lawful.specs.Laws.Whole.{lt-whole, later-whole, add-whole}
 use Rattle.lawful.specs.Laws.Amounts.{Amount, RowAmounts, RestAmounts}
 use Rattle.lawful.specs.Laws.Windows.{Tracks, Same, Arriving, nought-is, later-upto, pass-same}
 
@@ -27,7 +28,7 @@ abbrev pub breakOf : List ℕ → ℕ → VehicleBreak
 breakOf s v = record { earliest = f64At s (earliestAt (vehicleAt s v)); latest = f64At s (latestAt (vehicleAt s v)); duration = f64At s (restAt (vehicleAt s v)) }
 
 module _ (s : List ℕ) (v i : ℕ) (row : RowAmounts s i) (rest : RestAmounts s v) (n : ℕ) (few : n ≤ mostRows) where
-  visit-same : (at : ℕ) (l : Label) (arrival : Float) → Is at arrival → Arriving n at → l .«lateness_cost» ≡ nought
+  pub visit-same : (at : ℕ) (l : Label) (arrival : Float) → Is at arrival → Arriving n at → l .«lateness_cost» ≡ nought
       → Same (suc n) (departs s i (left at)) (visitOf l arrival (stopOf s i))
   unfolding stopOf gateAt
   visit-same at l arrival u h free =
@@ -49,7 +50,7 @@ module _ (s : List ℕ) (v i : ℕ) (row : RowAmounts s i) (rest : RestAmounts s
     arriving : t + leg ≤ 3_000_000_000 * n + 1_000_000_000
     arriving = let a = u .early in let b = d .small in omega arith
 
-    arrival : Is (t + leg) (l .time ⊕ travel)
+    pub arrival : Is (t + leg) (l .time ⊕ travel)
     arrival = let a = arriving in add-whole t leg (l .time) travel (u .time) (d .is) (omega arith)
 
     serve-same : Same (suc n) (departs s i (left (t + leg))) (serveOf l travel (stopOf s i))

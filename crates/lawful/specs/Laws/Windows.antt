@@ -16,8 +16,9 @@ use Rattle.evaluation.specs.declared.label.Served.the-variants.{Done, Refused}
 use Rattle.evaluation.specs.Sums.{_⊕_, _⊖_}
 use Rattle.evaluation.specs.Window.{violatedOf, waitingOf}
 use Rattle.evaluation.specs.Serve.{leavingAt, departureOf, pass}
+use Rattle.lawful.specs.Whole.{Is}
 use Rattle.lawful.specs.Lawful.{Walk, failed, left}
-use Rattle.lawful.specs.Laws.Whole.{Is, lt-whole, add-whole, sub-whole}
+use Rattle.lawful.specs.Laws.Whole.{lt-whole, add-whole, sub-whole}
 use Rattle.lawful.specs.Laws.Amounts.{Amount}
 
 -- a label and the departure it stands for, after n stops: a stop adds at most a leg, a rest and a service. What its lateness costs is still the start's.

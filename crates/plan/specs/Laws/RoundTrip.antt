@@ -1,7 +1,7 @@
 -- Reading what the writer wrote gives the outcome back. Assumes nothing.
 use mathlib.Core.Path.{_≡_, refl, sym, ap, _∙_, subst}
 use Prim.Native.Nat.{ℕ, zero, suc, _+_, _*_, _≤_, _<_, _^_}
-use native.Mathlib.Nat.{add-zero}
+use native.Mathlib.Nat.{add-zero, zero-add}
 use native.Mathlib.Omega.{arith}
 use mathlib.Core.Bool.{Bool, true, false, cond, _&&_}
 use mathlib.Core.List.{List, [], _∷_}
@@ -23,10 +23,11 @@ use Rattle.sheet.specs.Fleet.{indexFrom, indexOf}
 use Rattle.evaluation.specs.Limits.{limitsAt}
 use Rattle.evaluation.specs.declared.limits.RouteLimits.{RouteLimits}
 use Rattle.evaluator.specs.Record.{placedOf, beginOf, buildRoute}
-use Rattle.constructive.specs.Outcome.{Round, Outcome, chains, stopsOf}
+use Rattle.constructive.specs.Outcome.{Round, Outcome, chains, stopsOf, roundAt}
 use Rattle.constructive.specs.Right.{idsKnown, linksRight, eachOnce, outcomeRight}
 use Rattle.constructive.specs.Laws.Right.{stops-right, distinct-right}
 use Rattle.plan.specs.Plan.{firstOf, roundRecordAt, rowRecordAt, roundCounts, roundFigures, roundBytes, headerBytes, withVisits, withRound, withRounds, withAside, blank, planBytes}
+use Rattle.plan.specs.Stated.{recordBytes}
 use Rattle.plan.specs.Laws.Plan.{round-long, counts-long, header-long}
 use Rattle.plan.specs.Read.{roundsAt, asideAt, idAt, firstStopAt, nextAt, chainOf, roundsFrom, readPlan, planRight}
 use Rattle.plan.specs.Laws.Chained.{Linked, Spread, first-lt, le-front, le-skip, starts, visits-spread, aside-spread, clear-low, clear-next, spread-length, spread-keeps, spread-links, chain-back}
@@ -137,6 +138,26 @@ module _ (s : List ℕ) (most : rowsOf s ≤ mostRows) where
       let q = round-length k v (limitsAt s (r .vehicle)) (r .stops) plan (omega arith) l (p .0) in
       let e = count-append x (r .stops) (chains rs off) in
       rounds-next rs off (k + 1) (withRound s k v (limitsAt s (r .vehicle)) (r .stops) plan) (omega arith) q (p .1) x (omega arith) ∙ round-next k v (limitsAt s (r .vehicle)) (r .stops) plan (omega arith) l (p .0) x (omega arith)
+
+  -- the bytes of a round's record
+  rounds-at : (rs : List Round) (off : List ℕ) (k : ℕ) (plan : List ℕ) → k + length rs ≤ rowsOf s → length plan ≡ 16 + 80 * rowsOf s → Stops (rowsOf s) (chains rs off) → (n : ℕ) → n < length rs → (m i : ℕ) → i + m ≤ 56
+      → le m (withRounds s k rs plan) (roundRecordAt (k + n) + i) ≡ le m (recordBytes s (roundAt rs n)) i
+  unfolding withRounds chains withRound
+  rounds-at [] off k plan f l o n h m i j = absurd (omega arith)
+  rounds-at (r ∷ rs) off k plan f l o zero h m i j =
+      let v = vehicleOf s (r .vehicle) in
+      let p = stops-split (rowsOf s) (r .stops) (chains rs off) o in
+      let q = round-length k v (limitsAt s (r .vehicle)) (r .stops) plan (omega arith) l (p .0) in
+      let c = long-figures k v (limitsAt s (r .vehicle)) (r .stops) plan (omega arith) l (p .0) in
+      ap (λ (x : ℕ). le m (withRounds s (k + 1) rs (withRound s k v (limitsAt s (r .vehicle)) (r .stops) plan)) (roundRecordAt x + i)) (add-zero k)
+      ∙ rounds-low rs off (k + 1) (withRound s k v (limitsAt s (r .vehicle)) (r .stops) plan) (omega arith) q (p .1) m (roundRecordAt k + i) (omega arith)
+      ∙ le-in (visited k v (limitsAt s (r .vehicle)) (r .stops) plan (omega arith) l (p .0)) (roundRecordAt k) _ (room k v (limitsAt s (r .vehicle)) (r .stops) plan (omega arith) l (p .0)) m i (omega arith)
+  rounds-at (r ∷ rs) off k plan f l o (suc n) h m i j =
+      let v = vehicleOf s (r .vehicle) in
+      let p = stops-split (rowsOf s) (r .stops) (chains rs off) o in
+      let q = withRound s k v (limitsAt s (r .vehicle)) (r .stops) plan in
+      ap (λ (x : ℕ). le m (withRounds s (k + 1) rs q) (roundRecordAt x + i)) (omega arith)
+      ∙ rounds-at rs off (k + 1) q (omega arith) (round-length k v (limitsAt s (r .vehicle)) (r .stops) plan (omega arith) l (p .0)) (p .1) n (omega arith) m i j
 
   -- what a plan says of rounds
   Reads : List ℕ → ℕ → List Round → Type 0
@@ -309,3 +330,11 @@ module _ (s : List ℕ) (o : Outcome) (cost : Float) (a : Accepted s) (small : (
   pub written-right : T (planRight s (planBytes s o cost))
   unfolding planRight planBytes
   written-right = rw (rounds-count, le-leb (length (o .rounds)) (rowsOf s) few) (subst (λ (x : Outcome). T (outcomeRight s x)) (sym read-written) right)
+
+  -- the record of a round, counted from 0, stands where it is written
+  pub record-written : (n : ℕ) → n < length (o .rounds) → (m i : ℕ) → i + m ≤ 56 → le m (planBytes s o cost) (roundRecordAt n + i) ≡ le m (recordBytes s (roundAt (o .rounds) n)) i
+  unfolding planBytes
+  record-written n h m i j =
+      low m (roundRecordAt n + i) (omega arith) (omega arith)
+      ∙ ap (λ (x : ℕ). le m rounded (roundRecordAt x + i)) (sym (zero-add n))
+      ∙ rounds-at s most (o .rounds) (o .aside) 0 (blank s) (omega arith) long-blank stops n h m i j

@@ -47,7 +47,7 @@ labelOf : Label → Served → Label
 labelOf d (Done l) = l
 labelOf d Refused = d
 
-not-done : (l : Label) → Refused ≡ Done l → ⊥
+pub not-done : (l : Label) → Refused ≡ Done l → ⊥
 not-done l e = let z : _≡_ {A = ℕ} 0 1 = cc in omega arith
 
 pub record Passed (g : Gate) (ready service : Float) (l m : Label) : Type 0 where
@@ -95,15 +95,15 @@ elsewhere : (s : List ℕ) (duration : Float) (p : Progress) (row at : ℕ) (sta
 unfolding visitedOf readyFor
 elsewhere s duration p row at start h = rw (ne-eqb at (p .place) h)
 
-abbrev IfDone : (Label → Type 0) → Served → Type 0
+abbrev pub IfDone : (Label → Type 0) → Served → Type 0
 IfDone P (Done l) = P l
 IfDone P Refused = Unit
 
-if-done : (P : Label → Type 0) (x : Served) → ((m : Label) → x ≡ Done m → P m) → IfDone P x
+pub if-done : (P : Label → Type 0) (x : Served) → ((m : Label) → x ≡ Done m → P m) → IfDone P x
 if-done P (Done m) h = h m refl
 if-done P Refused h = tt
 
-either : (P : Label → Type 0) (x y : Served) → IfDone P x → IfDone P y → IfDone P (earlierOf x y)
+pub either : (P : Label → Type 0) (x y : Served) → IfDone P x → IfDone P y → IfDone P (earlierOf x y)
 unfolding earlierOf
 either P Refused y u v = v
 either P (Done a) Refused u v = u
