@@ -1,6 +1,6 @@
 -- The savings in the tables: what the sort asks of them and leaves. Assumes nothing.
-use mathlib.Core.Path.{_≡_, refl, sym, ap, _∙_}
-use Prim.Native.Nat.{ℕ, zero, suc, _+_, _*_, _≤_}
+use mathlib.Core.Path.{_≡_, sym, ap, _∙_}
+use Prim.Native.Nat.{ℕ, _*_, _≤_}
 use native.Mathlib.Nat.{zero-add}
 use native.Mathlib.Omega.{arith}
 use mathlib.Core.List.{List, _++_}
@@ -12,16 +12,12 @@ use Rattle.sorting.specs.Descending.{greater, Numbers, Entries}
 use Rattle.clarke_wright_savings.specs.declared.terms.Directed.{Directed}
 use Rattle.clarke_wright_savings.specs.Savings.{Saving, savingsOf, valuesOf, numbered, ranked}
 use Rattle.clarke_wright_savings.specs.Laws.Ranked.{savings-numbers, savings-entries, savings-few}
+use Rattle.clarke_wright_savings.specs.Laws.Choice.{numbered-length}
 use Rattle.clarke_wright_savings.specs.Listed.{SavingsPushed, Listed}
 
 -- a front that is there whole lies within its table
 pub within : {A : Type 0} (n : ℕ) (xs ys : List A) → take n xs ≡ ys → length ys ≡ n → n ≤ length xs
 within n xs ys e l = omega (arith, ap length e, length-take n xs, l)
-
-numbered-length : (n k : ℕ) → length (numbered n k) ≡ n
-unfolding numbered
-numbered-length zero k = refl
-numbered-length (suc n) k = ap suc (numbered-length n (k + 1))
 
 -- ---- the sort
 module _

@@ -3,3 +3,4 @@ pub mod Joined
 pub mod Permutation
 pub mod Feasible
 pub mod Cases
+pub mod Choice

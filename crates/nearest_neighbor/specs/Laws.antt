@@ -2,3 +2,4 @@ pub mod Chosen
 pub mod Permutation
 pub mod Feasible
 pub mod Cases
+pub mod Choice

@@ -10,8 +10,8 @@ use Rattle.sheet.specs.Fields.{planLength}
 use Rattle.sheet.specs.Refusal.{refusalOf}
 use Rattle.sheet.specs.Accepted.{Accepted}
 use Rattle.sheet.specs.Laws.Accepted.{accepted}
-use Rattle.planner.specs.Answer.{planFor, answerOf, Answered, Once, Lawful, Alone, Closed}
-use Rattle.planner.specs.Laws.Promised.{stands, lawful-rounds}
+use Rattle.planner.specs.Answer.{planFor, answerOf, Answered, Once, Feasibly, Lawful, Alone, Closed}
+use Rattle.planner.specs.Laws.Promised.{stands, feasible-rounds, lawful-rounds}
 use Rattle.planner.specs.Laws.Insertion.{alone-kept, closed-kept}
 
 module _ (s lent : List ℕ) (n : ℕ) (told : n ≡ refusalOf s (length lent)) where
@@ -25,8 +25,8 @@ module _ (s lent : List ℕ) (n : ℕ) (told : n ≡ refusalOf s (length lent)) 
         go zero e = absurd (refused (told ∙ e))
         go (suc m) e = record { number = rw e (told ∙ e); bytes = rw e }
 
-    pub refused-parts : Once s n lent × (Lawful s n lent × (Alone s n lent × Closed s n lent))
-    refused-parts = (λ e. absurd (refused e), (λ e. absurd (refused e), (λ e. absurd (refused e), λ e. absurd (refused e))))
+    pub refused-parts : Once s n lent × (Feasibly s n lent × (Lawful s n lent × (Alone s n lent × Closed s n lent)))
+    refused-parts = (λ e. absurd (refused e), (λ e. absurd (refused e), (λ e. absurd (refused e), (λ e. absurd (refused e), λ e. absurd (refused e)))))
 
   -- an accepted one
   module _ (none : n ≡ 0) where
@@ -41,14 +41,17 @@ module _ (s lent : List ℕ) (n : ℕ) (told : n ≡ refusalOf s (length lent)) 
       unfolding answerOf
       planned-answer = let e : refusalOf s (length lent) ≡ 0 = sym told ∙ none in record { number = rw e; bytes = rw e filled }
 
-      pub planned-parts : ((i : ℕ) → getD s i 0 < 256) → Once s 0 plan × (Lawful s 0 plan × (Alone s 0 plan × Closed s 0 plan))
+      pub planned-parts : ((i : ℕ) → getD s i 0 < 256) → Once s 0 plan × (Feasibly s 0 plan × (Lawful s 0 plan × (Alone s 0 plan × Closed s 0 plan)))
       planned-parts small = (
         λ e. rw filled (stands s fine small),
         (
-          λ e whole other. rw filled (lawful-rounds s fine small whole other),
+          λ e. rw filled (feasible-rounds s fine small),
           (
-            λ e whole method one. rw filled (alone-kept s fine small whole method one),
-            λ e whole method one. rw filled (closed-kept s fine small whole method one),
+            λ e whole other. rw filled (lawful-rounds s fine small whole other),
+            (
+              λ e whole method one. rw filled (alone-kept s fine small whole method one),
+              λ e whole method one. rw filled (closed-kept s fine small whole method one),
+            ),
           ),
         ),
       )

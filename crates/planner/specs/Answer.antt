@@ -12,8 +12,9 @@ use Rattle.sheet.specs.Depots.{depotsOf}
 use Rattle.sheet.specs.Refusal.{refusalOf}
 use Rattle.sheet.specs.Fleet.{fleetOf}
 use Rattle.lawful.specs.Whole.{Whole}
-use Rattle.lawful.specs.Lawful.{lawful, keepsCapacity, alone, fits, someSeedFirst}
+use Rattle.lawful.specs.Lawful.{homeOf, lawful, keepsCapacity, alone, fits, someSeedFirst}
 use Rattle.constructive.specs.Outcome.{Round, Outcome, stopsOf, roundAt}
+use Rattle.constructive.specs.Rounds.{passes}
 use Rattle.multi_depot_offers.specs.ByDepot.{outcomeOf}
 use Rattle.plan.specs.Plan.{planOf}
 use Rattle.plan.specs.Read.{readPlan, planRight}
@@ -68,6 +69,16 @@ Once s r plan = r ≡ 0 → Standing s plan
 -- a round keeps capacity, save a lone stop that savings made a round of
 abbrev pub capacityKept : List ℕ → Round → Bool
 capacityKept s r = keepsCapacity s (r .vehicle) (r .stops) || (eqb (methodOf s) 0 && eqb (length (r .stops)) 1)
+
+-- a round has stops, since "First stop zero is an empty round, which only the limiter reads or writes."; and `route_feasible` passes it from its vehicle's depot, unless plain nearest neighbour made it, which "ignores windows and waiting"
+pub record FeasibleRound (s : List ℕ) (r : Round) : Type 0 where
+  pub some : 0 < length (r .stops)
+  pub capacity : T (capacityKept s r)
+  pub feasible : (methodOf s ≡ 2 → ⊥) → T (passes s (homeOf s (r .vehicle)) (r .vehicle) (r .stops))
+
+-- **feasible**: so on every accepted sheet, soft windows and fractions included, where **lawful** asks for whole numbers
+abbrev pub Feasibly : List ℕ → ℕ → List ℕ → Type 0
+Feasibly s r plan = r ≡ 0 → Every (FeasibleRound s) (readPlan s plan .rounds)
 
 pub record LawfulRound (s : List ℕ) (r : Round) : Type 0 where
   pub schedule : T (lawful s (r .vehicle) (r .stops))

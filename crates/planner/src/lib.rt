@@ -8,7 +8,7 @@ ghost use Rattle.sheet.specs.Fields.{rowsOf, planLength};
 ghost use Rattle.sheet.specs.Depots.{depotsOf};
 ghost use Rattle.sheet.specs.Accepted.{Sized, Accepted};
 ghost use Rattle.sheet.specs.Refusal.{refusalOf};
-ghost use Rattle.planner.specs.Answer.{priced, planFor, Answered, Once, Lawful, Alone, Closed};
+ghost use Rattle.planner.specs.Answer.{priced, planFor, Answered, Once, Feasibly, Lawful, Alone, Closed};
 ghost use Rattle.planner.specs.Tabled.{PlannerTables};
 ghost use Rattle.planner.specs.Limited.{LimitAnswered, LimitOnce, LimitFew, LimitStood, LimitAside};
 
@@ -99,6 +99,7 @@ fn fill(sheet: &[u8], plan: &mut [u8])
 pub extern "C" fn plan_rounds(sheet: &[u8], plan: &mut [u8]) -> u32
     ensures { λ r. ⌜ Answered (now (sheet .entry)) (now (plan .entry)) r (now (plan .exit)) ⌝ }
     ensures { λ r. ⌜ Once (now (sheet .entry)) r (now (plan .exit)) ⌝ }
+    ensures { λ r. ⌜ Feasibly (now (sheet .entry)) r (now (plan .exit)) ⌝ }
     ensures { λ r. ⌜ Lawful (now (sheet .entry)) r (now (plan .exit)) ⌝ }
     ensures { λ r. ⌜ Alone (now (sheet .entry)) r (now (plan .exit)) ⌝ }
     ensures { λ r. ⌜ Closed (now (sheet .entry)) r (now (plan .exit)) ⌝ }

@@ -8,3 +8,4 @@ pub mod Feasible
 pub mod Alone
 pub mod First
 pub mod Closed
+pub mod Choice

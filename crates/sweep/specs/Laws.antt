@@ -4,3 +4,4 @@ pub mod Bounds
 pub mod Permutation
 pub mod Feasible
 pub mod Cases
+pub mod Choice

@@ -32,11 +32,11 @@ abbrev pub attemptsLeft : List ℕ → List ℕ → ℕ
 attemptsLeft s at = attemptsFrom s 0 at
 
 -- ---- two truths
-and-first : (a b : Bool) → (a && b) ≡ true → a ≡ true
+pub and-first : (a b : Bool) → (a && b) ≡ true → a ≡ true
 and-first true b e = refl
 and-first false b e = e
 
-and-second : (a b : Bool) → (a && b) ≡ true → b ≡ true
+pub and-second : (a b : Bool) → (a && b) ≡ true → b ≡ true
 and-second true b e = e
 and-second false b e = absurd (true≢false (sym e))
 
@@ -68,7 +68,7 @@ module _ (s : List ℕ) (c after : ℕ) where
 
 -- ---- each move is an attempt less
 module _ (s : List ℕ) (a : Accepted s) (c : ℕ) (row : c < rowsOf s) where
-  depot-row : (d : ℕ) → d < depotsOf s → d < rowsOf s
+  pub depot-row : (d : ℕ) → d < depotsOf s → d < rowsOf s
   depot-row d h = let k = depots-few s (omega arith) in omega arith
 
   module _ (d e : ℕ) (h : e < depotsOf s) (asked : askedAfter s c d e ≡ true) where

@@ -1,4 +1,4 @@
--- The plan of an accepted sheet keeps what is promised: every stop once, and lawful rounds. Assumes nothing.
+-- The plan of an accepted sheet keeps what is promised: every stop once, and feasible and lawful rounds. Assumes nothing.
 use mathlib.Core.Path.{_≡_, refl, sym, ap, _∙_, subst}
 use Prim.Native.Nat.{ℕ, zero, suc, _+_, _-_, _≤_, _<_}
 use native.Mathlib.Nat.{zero-lt-suc}
@@ -29,10 +29,10 @@ use Rattle.lawful.specs.Laws.Meaning.{feasible-lawful}
 use Rattle.constructive.specs.Outcome.{Round, chains, stopsOf}
 use Rattle.constructive.specs.Right.{linksRight}
 use Rattle.constructive.specs.Load.{loadOf}
-use Rattle.constructive.specs.Rounds.{passes, Feasible}
+use Rattle.constructive.specs.Rounds.{passes, Carried, Feasible}
 use Rattle.nearest_neighbor.specs.Greedy.{extendOn, greedy}
 use Rattle.nearest_neighbor.specs.Nearest.{windowRule, nearestNeighbor, nearestNeighborTw}
-use Rattle.nearest_neighbor.specs.Laws.Feasible.{window-feasible}
+use Rattle.nearest_neighbor.specs.Laws.Feasible.{nearest-carried, window-feasible}
 use Rattle.clarke_wright_savings.specs.Savings.{clarkeWright}
 use Rattle.clarke_wright_savings.specs.Laws.Feasible.{Saved, savings-saved}
 use Rattle.solomon_i1.specs.Insertion.{solomonI1}
@@ -46,7 +46,7 @@ use Rattle.plan.specs.Plan.{planOf}
 use Rattle.plan.specs.Read.{readPlan, planRight}
 use Rattle.plan.specs.Laws.RoundTrip.{read-written, written-right}
 use Rattle.plan_reader.specs.Laws.Links.{links-front, links-back, links-at}
-use Rattle.planner.specs.Answer.{planFor, toldBy, answerOf, numberOf, Answered, capacityKept, Standing, LawfulRound}
+use Rattle.planner.specs.Answer.{planFor, toldBy, answerOf, numberOf, Answered, capacityKept, Standing, FeasibleRound, LawfulRound}
 
 -- the number is the refusal's, or 0
 pub number-is : (s : List ℕ) (room : ℕ) → numberOf (answerOf s room) ≡ refusalOf s room
@@ -89,7 +89,7 @@ module _ (s : List ℕ) (fine : Accepted s) where
   pub stands : ((i : ℕ) → getD s i 0 < 256) → Standing s (planFor s)
   stands small = record { each = λ i l h. rw (plan-back small) (once s i ∙ stop-once i l h); right = plan-right small }
 
-  -- ---- lawful
+  -- ---- feasible
   -- a round's stops are stops, and no more than there are
   pub record Right (r : Round) : Type 0 where
     pub links : T (linksRight s (r .stops))
@@ -116,21 +116,22 @@ module _ (s : List ℕ) (fine : Accepted s) where
   -- a round that a depot made, feasible for its vehicle
   record Driven (r : Round) : Type 0 where
     known : r .vehicle < vehiclesOf s
-    some : 0 < length (r .stops)
-    feasible : T (passes s (vehicleOf s (r .vehicle) .depot) (r .vehicle) (r .stops))
-    capacity : T (capacityKept s r)
+    feasible : FeasibleRound s r
 
   -- from a depot
   record Sound (d : ℕ) (r : Round) : Type 0 where
-    feasible : T (passes s d (r .vehicle) (r .stops))
+    feasible : (methodOf s ≡ 2 → ⊥) → T (passes s d (r .vehicle) (r .stops))
     capacity : T (capacityKept s r)
 
   driven-from : (d : ℕ) (r : Round) → RoundFrom s d r → Sound d r → Driven r
+  unfolding vehicleOf
   driven-from d r f u = record {
     known = f .vehicle;
-    some = f .some;
-    feasible = subst (λ (n : ℕ). T (passes s n (r .vehicle) (r .stops))) (sym (f .home)) (u .feasible);
-    capacity = u .capacity;
+    feasible = record {
+      some = f .some;
+      capacity = u .capacity;
+      feasible = λ n. subst (λ (d : ℕ). T (passes s d (r .vehicle) (r .stops))) (sym (f .home)) (u .feasible n);
+    };
   }
 
   -- what is carried is kept; of the savings a lone stop is
@@ -142,14 +143,14 @@ module _ (s : List ℕ) (fine : Accepted s) where
   lone-kept e r h = or-r (keepsCapacity s (r .vehicle) (r .stops)) _ (rw (e, h) tt)
 
   feasible-sound : (d : ℕ) (r : Round) → Feasible s d r → Sound d r
-  feasible-sound d r u = record { feasible = u .feasible; capacity = carried-kept r (u .carried .capacity) }
+  feasible-sound d r u = record { feasible = λ n. u .feasible; capacity = carried-kept r (u .carried .capacity) }
 
   all-sound : (d : ℕ) (rs : List Round) → Every (Feasible s d) rs → Every (Sound d) rs
   all-sound d = every-map (Feasible s d) (Sound d) (feasible-sound d)
 
   saved-sound : (d v : ℕ) → methodOf s ≡ 0 → (r : Round) → Saved s d v r → Sound d r
   saved-sound d v e r u = record {
-    feasible = subst (λ (w : ℕ). T (passes s d w (r .stops))) (sym (u .vehicle)) (u .feasible);
+    feasible = λ n. subst (λ (w : ℕ). T (passes s d w (r .stops))) (sym (u .vehicle)) (u .feasible);
     capacity = go (ltb 1 (length (r .stops))) refl;
   }
     where
@@ -177,6 +178,9 @@ module _ (s : List ℕ) (fine : Accepted s) where
       let ok : Routed s d members = record { sheet = fine; home = home-row d members h (zero-lt-suc (length is)) t; few = omega (arith, fine .sized .rows); row = λ k u. links-at s members k u t .1 } in
       all-sound d (nearestNeighborTw s d members (fleetOf s d) .rounds) (window-feasible s d members (fleetOf s d) ok)
 
+  nearest-sound : (d : ℕ) (members : List ℕ) → methodOf s ≡ 2 → Every (Sound d) (nearestNeighbor s d members (fleetOf s d) .rounds)
+  nearest-sound d members e = every-map (Carried s) (Sound d) (λ r u. record { feasible = λ n. absurd (n e); capacity = carried-kept r (u .capacity) }) (nearestNeighbor s d members (fleetOf s d) .rounds) (nearest-carried s d members (fleetOf s d))
+
   savings-sound : (d v : ℕ) (members : List ℕ) → methodOf s ≡ 0 → Every (Sound d) (clarkeWright s d v members .rounds)
   savings-sound d v members e = every-map (Saved s d v) (Sound d) (saved-sound d v e) (clarkeWright s d v members .rounds) (savings-saved s d v members)
 
@@ -190,25 +194,29 @@ module _ (s : List ℕ) (fine : Accepted s) where
       go false e true = all-sound d (solomonI1 s d v members .rounds) (insertion-feasible s d v members)
       go false e false = all-sound d (sweep s d v members .rounds) (sweep-feasible s d v members)
 
-  constructs-sound : (methodOf s ≡ 2 → ⊥) → (d : ℕ) → d < depotsOf s → (members : List ℕ) → T (linksRight s members) → length members ≤ rowsOf s → Every (Sound d) (constructOf s d members (fleetOf s d) .rounds)
+  constructs-sound : (d : ℕ) → d < depotsOf s → (members : List ℕ) → T (linksRight s members) → length members ≤ rowsOf s → Every (Sound d) (constructOf s d members (fleetOf s d) .rounds)
   unfolding constructOf
-  constructs-sound n d h members t l = go (eqb (methodOf s) 2) refl (eqb (methodOf s) 3)
+  constructs-sound d h members t l = go (eqb (methodOf s) 2) refl (eqb (methodOf s) 3)
     where
       go : (a : Bool) → eqb (methodOf s) 2 ≡ a → (b : Bool)
           → Every (Sound d) (cond a (nearestNeighbor s d members (fleetOf s d)) (cond b (nearestNeighborTw s d members (fleetOf s d)) (withFirst s d members (fleetOf s d))) .rounds)
-      go true e b = absurd (n (eqb-true (methodOf s) 2 e))
+      go true e b = nearest-sound d members (eqb-true (methodOf s) 2 e)
       go false e true = window-sound d h members t l
       go false e false = first-sound d members (fleetOf s d)
 
-  all-driven : (methodOf s ≡ 2 → ⊥) → Every Driven (outcomeOf s .rounds)
-  all-driven n = rounds-every s Driven (λ d h members t l. every-both (RoundFrom s d) (Sound d) Driven (driven-from d) (constructOf s d members (fleetOf s d) .rounds) (constructs-from s d members) (constructs-sound n d h members t l))
+  all-driven : Every Driven (outcomeOf s .rounds)
+  all-driven = rounds-every s Driven (λ d h members t l. every-both (RoundFrom s d) (Sound d) Driven (driven-from d) (constructOf s d members (fleetOf s d) .rounds) (constructs-from s d members) (constructs-sound d h members t l))
 
-  lawful-round : Whole s → (r : Round) → Right r → Driven r → LawfulRound s r
+  pub feasible-rounds : ((i : ℕ) → getD s i 0 < 256) → Every (FeasibleRound s) (readPlan s (planFor s) .rounds)
+  feasible-rounds small = rw (plan-back small) (every-map Driven (FeasibleRound s) (λ r f. f .feasible) (outcomeOf s .rounds) all-driven)
+
+  -- ---- lawful
+  lawful-round : Whole s → (methodOf s ≡ 2 → ⊥) → (r : Round) → Right r → Driven r → LawfulRound s r
   unfolding keepsCapacity vehicleOf
-  lawful-round whole r u f = record {
-    schedule = subst T (feasible-lawful s (r .vehicle) (r .stops) whole (f .known) (record { sheet = fine; home = home-row (homeOf s (r .vehicle)) (r .stops) (fine .vehicle (r .vehicle) (f .known) .depot) (f .some) (u .links); few = omega (arith, u .few, fine .sized .rows); row = λ k h. links-at s (r .stops) k h (u .links) .1 })) (f .feasible);
-    capacity = f .capacity;
+  lawful-round whole n r u f = record {
+    schedule = subst T (feasible-lawful s (r .vehicle) (r .stops) whole (f .known) (record { sheet = fine; home = home-row (homeOf s (r .vehicle)) (r .stops) (fine .vehicle (r .vehicle) (f .known) .depot) (f .feasible .some) (u .links); few = omega (arith, u .few, fine .sized .rows); row = λ k h. links-at s (r .stops) k h (u .links) .1 })) (f .feasible .feasible n);
+    capacity = f .feasible .capacity;
   }
 
   pub lawful-rounds : ((i : ℕ) → getD s i 0 < 256) → Whole s → (methodOf s ≡ 2 → ⊥) → Every (LawfulRound s) (readPlan s (planFor s) .rounds)
-  lawful-rounds small whole n = rw (plan-back small) (every-both Right Driven (LawfulRound s) (lawful-round whole) (outcomeOf s .rounds) all-right (all-driven n))
+  lawful-rounds small whole n = rw (plan-back small) (every-both Right Driven (LawfulRound s) (lawful-round whole n) (outcomeOf s .rounds) all-right all-driven)

@@ -17,19 +17,13 @@ use Rattle.lists.specs.Ascending.{Ascending}
 use Rattle.numbers.specs.Laws.Upto.{Upto, no-nan}
 use Rattle.numbers.specs.Laws.Range.{zero-upto}
 use Rattle.sorting.specs.Laws.Descending.{lt-asym, lt-through}
+use Rattle.sorting.specs.Laws.Least.{same-not-less}
 use Rattle.sheet.specs.Values.{nought, distanceOf}
 use Rattle.solomon_i1.specs.Insertion.{Farthest, farther, farthestFrom, unseen, seedOf}
 use Rattle.solomon_i1.specs.Laws.Planned.{seed-place}
 use Rattle.solomon_i1.specs.Later.{seedsFirst}
 
 -- ---- floats
-same-not-less : (x : Float) → lt x x ≡ false
-same-not-less x = go (lt x x) refl
-  where
-    go : (b : Bool) → lt x x ≡ b → b ≡ false
-    go true e = sym e ∙ lt-asym x x e
-    go false e = refl
-
 less-not-same : (n m : ℕ) (x y : Float) → Upto n x → Upto m y → lt x y ≡ true → eq y x ≡ false
 unfolding lt eq
 less-not-same n m nan y u v e = absurd u

@@ -115,7 +115,7 @@ pub record Packed (s : List ℕ) (depot v : ℕ) (r : Round) : Type 0 where
   pub feasible : Feasible s depot r
 
 -- what holds of each member holds of each in their order
-every-each : (P : ℕ → Type 0) (xs : List ℕ) → Every P xs → Each P xs
+pub every-each : (P : ℕ → Type 0) (xs : List ℕ) → Every P xs → Each P xs
 every-each P [] e = tt
 every-each P (x ∷ xs) e = (e .0, every-each P xs (e .1))
 
