@@ -158,12 +158,12 @@ static inline void planner_set_vehicles(uint8_t *sheet, unsigned vehicles)
     planner_put(sheet + PLANNER_AT_VEHICLES, 2, vehicles);
 }
 
-static inline unsigned planner_method(const uint8_t *sheet)
+static inline unsigned planner_sheet_method(const uint8_t *sheet)
 {
     return sheet[PLANNER_AT_METHOD];
 }
 
-static inline void planner_set_method(uint8_t *sheet, unsigned method)
+static inline void planner_set_sheet_method(uint8_t *sheet, unsigned method)
 {
     sheet[PLANNER_AT_METHOD] = PLANNER_CAST(uint8_t, method);
 }

@@ -189,7 +189,7 @@ static int refused_is_new(const struct sheet *s, uint32_t answer)
 {
     if (s->len < PLANNER_HEADER_BYTES)
         return is_new(8, (unsigned)s->len);
-    unsigned method = planner_method(s->bytes) <= PLANNER_SWEEP ? planner_method(s->bytes) : PLANNER_SWEEP + 1u;
+    unsigned method = planner_sheet_method(s->bytes) <= PLANNER_SWEEP ? planner_sheet_method(s->bytes) : PLANNER_SWEEP + 1u;
     return is_new(9, answer << 16 | size_class(rows_in(s)) << 8 | size_class(vehicles_in(s)))
            | is_new(10, answer << 16 | method);
 }

@@ -31,7 +31,7 @@ static struct sheet sheet_a(void)
     s.len = PLANNER_SHEET_BYTES(ROWS, VEHICLES, 0);
     planner_set_rows(s.bytes, ROWS);
     planner_set_vehicles(s.bytes, VEHICLES);
-    planner_set_method(s.bytes, PLANNER_SAVINGS);
+    planner_set_sheet_method(s.bytes, PLANNER_SAVINGS);
     planner_set_row_marks(s.bytes, 0, PLANNER_DEPOT);
     planner_set_row_y(s.bytes, 1, 10);
     planner_set_row_demand(s.bytes, 1, 1);
@@ -54,7 +54,7 @@ static struct sheet without_vehicle(unsigned method)
     memmove(vehicle, vehicle + PLANNER_VEHICLE_BYTES, PLANNER_LEG_BYTES * ROWS * ROWS);
     s.len -= PLANNER_VEHICLE_BYTES;
     planner_set_vehicles(s.bytes, 0);
-    planner_set_method(s.bytes, method);
+    planner_set_sheet_method(s.bytes, method);
     return s;
 }
 
@@ -155,7 +155,7 @@ int main(void)
                                           "sheet A, nn_tw", "sheet A, sweep"};
     struct sheet s = sheet_a();
     for (unsigned method = PLANNER_SAVINGS; method <= PLANNER_SWEEP; method++) {
-        planner_set_method(s.bytes, method);
+        planner_set_sheet_method(s.bytes, method);
         plan_it(methods[method], &s);
     }
 
@@ -163,7 +163,7 @@ int main(void)
     planner_set_vehicle_capacity(s.bytes, 0, 0);
     struct plan apart = plan_it("sheet A, savings, capacity 0", &s);
     limit_it("the same within 1 round, capacity 0", &s, &apart, 1);
-    planner_set_method(s.bytes, PLANNER_INSERTION);
+    planner_set_sheet_method(s.bytes, PLANNER_INSERTION);
     plan_it("sheet A, insertion, capacity 0", &s);
 
     s = sheet_a();
@@ -176,7 +176,7 @@ int main(void)
     limit_it("sheet A with 2 depots, within 1 round", &s, &apart, 1);
 
     s = sheet_a();
-    planner_set_method(s.bytes, PLANNER_NN_TW);
+    planner_set_sheet_method(s.bytes, PLANNER_NN_TW);
     planner_set_vehicle_marks(s.bytes, 0, PLANNER_REST);
     planner_set_vehicle_earliest(s.bytes, 0, 12.0);
     planner_set_vehicle_latest(s.bytes, 0, 12.0);
@@ -192,7 +192,7 @@ int main(void)
     ask("102 rows", &s);
 
     s = sheet_a();
-    planner_set_method(s.bytes, 5);
+    planner_set_sheet_method(s.bytes, 5);
     ask("method 5", &s);
 
     s = sheet_a();

@@ -203,7 +203,7 @@ static inline void copy_legs(struct sheet *to, const struct sheet *from, unsigne
 static inline void reshape(struct sheet *s, unsigned rows, unsigned vehicles, unsigned time_table)
 {
     static struct sheet old;
-    struct shape shape = {rows, planner_depots(s->bytes), vehicles, planner_method(s->bytes), time_table, 15, 1};
+    struct shape shape = {rows, planner_depots(s->bytes), vehicles, planner_sheet_method(s->bytes), time_table, 15, 1};
     unsigned had_rows = rows_in(s), had_vehicles = vehicles_in(s), had_table = planner_time_table(s->bytes);
     old.len = s->len;
     memcpy(old.bytes, s->bytes, s->len);
@@ -391,7 +391,7 @@ static inline void scale_legs(struct sheet *s)
 static inline void change_method(struct sheet *s)
 {
     const uint64_t beyond[] = {5, 6, 0x80, 0xff};
-    planner_set_method(s->bytes, (unsigned)(strays() ? PICK(beyond) : draw(PLANNER_SWEEP + 1)));
+    planner_set_sheet_method(s->bytes, (unsigned)(strays() ? PICK(beyond) : draw(PLANNER_SWEEP + 1)));
 }
 
 /* Counts that the length goes with. */
@@ -425,7 +425,7 @@ static inline void change_header(struct sheet *s)
     case 1: planner_set_vehicles(s->bytes, (unsigned)PICK(vehicles)); break;
     case 2: planner_set_time_table(s->bytes, (unsigned)PICK(tables)); break;
     case 3: s->bytes[PLANNER_AT_SPARE + draw(PLANNER_HEADER_BYTES - PLANNER_AT_SPARE)] = (uint8_t)(1u << draw(8)); break;
-    default: planner_set_method(s->bytes, (uint8_t)next_random(&state)); break;
+    default: planner_set_sheet_method(s->bytes, (uint8_t)next_random(&state)); break;
     }
 }
 

@@ -233,7 +233,7 @@ static inline void begin(struct reading *r, uint8_t *sheet, uint8_t *plan, uint8
     r->plan_in = plan_in;
     r->rows = planner_rows(sheet);
     r->vehicles = planner_vehicles(sheet);
-    r->method = planner_method(sheet);
+    r->method = planner_sheet_method(sheet);
     r->depots = planner_depots(sheet);
 }
 

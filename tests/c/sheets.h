@@ -64,7 +64,7 @@ static inline size_t plain_sheet(uint8_t *sheet, unsigned rows, unsigned vehicle
     memset(sheet, 0, len);
     planner_set_rows(sheet, rows);
     planner_set_vehicles(sheet, vehicles);
-    planner_set_method(sheet, PLANNER_NEAREST_NEIGHBOR);
+    planner_set_sheet_method(sheet, PLANNER_NEAREST_NEIGHBOR);
     planner_set_time_table(sheet, time_table);
     for (unsigned v = 0; v < vehicles; v++)
         planner_set_vehicle_id(sheet, v, v);
@@ -113,7 +113,7 @@ static inline void draw_vehicle(uint8_t *sheet, unsigned v, struct shape shape, 
 static inline size_t draw_sheet(uint8_t *sheet, struct shape shape, uint64_t *state)
 {
     size_t len = plain_sheet(sheet, shape.rows, shape.vehicles, shape.time_table);
-    planner_set_method(sheet, shape.method);
+    planner_set_sheet_method(sheet, shape.method);
     for (unsigned r = 0; r < shape.rows; r++)
         draw_row(sheet, r, shape, state);
     for (unsigned v = 0; v < shape.vehicles; v++)

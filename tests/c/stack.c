@@ -152,7 +152,7 @@ int main(int argc, char **argv)
     int over = 0;
     for (int i = 1; i < argc; i++) {
         size_t taken_here = taken_by_file(argv[i]);
-        over |= tell(argv[i], taken_here, allowed(planner_method(sheet)));
+        over |= tell(argv[i], taken_here, allowed(planner_sheet_method(sheet)));
     }
     if (argc > 1)
         return over;

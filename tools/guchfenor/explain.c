@@ -87,7 +87,7 @@ static void print_vehicle(const uint8_t *sheet, unsigned v)
 
 static void print_sheet(const uint8_t *sheet)
 {
-    printf("method %u, %s\n", planner_method(sheet), method_name(planner_method(sheet)));
+    printf("method %u, %s\n", planner_sheet_method(sheet), method_name(planner_sheet_method(sheet)));
     print_rows(sheet);
     printf("legs: distances%s\n", planner_time_table(sheet) ? " and a time table" : ", which serve as times too");
     printf("%u vehicle%s\n", planner_vehicles(sheet), plural(planner_vehicles(sheet)));

@@ -139,9 +139,9 @@ static void read_counts(struct reader *r)
 static void read_method(struct reader *r)
 {
     r->refusal = PLANNER_BAD_METHOD;
-    if (planner_method(r->bytes) > PLANNER_SWEEP)
+    if (planner_sheet_method(r->bytes) > PLANNER_SWEEP)
         add(r, "method", PLANNER_AT_METHOD,
-            "%u, above 4: 0 savings, 1 insertion, 2 nearest neighbour, 3 nn_tw, 4 sweep", planner_method(r->bytes));
+            "%u, above 4: 0 savings, 1 insertion, 2 nearest neighbour, 3 nn_tw, 4 sweep", planner_sheet_method(r->bytes));
 }
 
 static void read_lengths(struct reader *r, size_t len, size_t plan_len)
@@ -257,7 +257,7 @@ static void read_vehicle(struct reader *r, unsigned vehicle)
 
 static void read_contents(struct reader *r)
 {
-    unsigned rows = planner_rows(r->bytes), vehicles = planner_vehicles(r->bytes), method = planner_method(r->bytes);
+    unsigned rows = planner_rows(r->bytes), vehicles = planner_vehicles(r->bytes), method = planner_sheet_method(r->bytes);
     for (unsigned row = 0; row < rows; row++)
         read_row(r, row);
     read_legs(r, "distance", OF_DISTANCE, planner_distance_at(r->bytes, 0, 0));

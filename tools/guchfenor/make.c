@@ -385,7 +385,7 @@ static int take_method(struct maker *m)
         return 0;
     for (unsigned method = 0; method < METHODS; method++)
         if (is_word(word, method_name(method))) {
-            planner_set_method(m->sheet, method);
+            planner_set_sheet_method(m->sheet, method);
             m->has_method = 1;
             m->method_line = m->line.number;
             return ends(m);

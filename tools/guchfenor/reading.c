@@ -20,7 +20,7 @@ static int take_sheet(struct reading *r)
     r->rows = planner_rows(r->sheet.bytes);
     r->depots = planner_depots(r->sheet.bytes);
     r->vehicles = planner_vehicles(r->sheet.bytes);
-    r->method = planner_method(r->sheet.bytes);
+    r->method = planner_sheet_method(r->sheet.bytes);
     return DONE;
 }
 

@@ -66,7 +66,7 @@ static void write_table(FILE *out, const uint8_t *sheet, const char *name, doubl
 
 void write_text(FILE *out, const uint8_t *sheet)
 {
-    fprintf(out, "method %s\n", method_name(planner_method(sheet)));
+    fprintf(out, "method %s\n", method_name(planner_sheet_method(sheet)));
     for (unsigned row = 0; row < planner_rows(sheet); row++)
         write_row(out, sheet, row);
     for (unsigned v = 0; v < planner_vehicles(sheet); v++)

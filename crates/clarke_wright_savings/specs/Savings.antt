@@ -1,4 +1,4 @@
--- Document 01, "clarke_wright.rs": "only savings > 0, greatest first, ties as generated. Capacity is tested at merges only, so a lone stop may exceed it."
+-- docs/SCOPE.md#the-methods. Document 01, "clarke_wright.rs": "only savings > 0, greatest first, ties as generated. Capacity is tested at merges only, so a lone stop may exceed it."
 use Prim.Native.Nat.{ℕ, zero, suc, _+_}
 use mathlib.Core.Bool.{Bool, true, false, not, _&&_, _||_, cond}
 use mathlib.Core.List.{List, [], _∷_, _++_, map, reverse}

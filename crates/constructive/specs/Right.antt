@@ -1,4 +1,4 @@
--- What refusal 10 asks of an outcome that is read off a plan: "unknown id, a link to no stop, or a stop not exactly once in all chains".
+-- docs/SCOPE.md#refusals. What refusal 10 asks of an outcome that is read off a plan: "unknown id, a link to no stop, or a stop not exactly once in all chains".
 use Prim.Native.Nat.{ℕ}
 use mathlib.Core.Bool.{Bool, true, _&&_, _||_}
 use mathlib.Core.List.{List, [], _∷_}

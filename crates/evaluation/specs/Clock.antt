@@ -1,4 +1,4 @@
--- The clock of a round: "a value handed back". One label has the rest still to take, the other has it taken.
+-- docs/SCOPE.md#the-walk-of-a-round. The clock of a round: "a value handed back". One label has the rest still to take, the other has it taken.
 use Prim.Native.Nat.{ℕ, _+_}
 use mathlib.Core.Bool.{Bool, true, false, _&&_, _||_, cond}
 use mathlib.Core.List.{List}

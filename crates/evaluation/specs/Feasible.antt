@@ -1,4 +1,4 @@
--- What is asked of a round: whether it is lawful, its figures, and what it costs.
+-- docs/SCOPE.md#the-walk-of-a-round. What is asked of a round: whether it is lawful, its figures, and what it costs.
 use Prim.Native.Nat.{ℕ}
 use mathlib.Core.Bool.{Bool, true, false}
 use mathlib.Core.List.{List}

@@ -1,4 +1,4 @@
--- What a vehicle asks of a round besides its capacity.
+-- docs/SCOPE.md#the-walk-of-a-round. What a vehicle asks of a round besides its capacity.
 use Prim.Native.Nat.{ℕ}
 use mathlib.Core.Bool.{Bool, true, false, _&&_}
 use mathlib.Core.List.{List}

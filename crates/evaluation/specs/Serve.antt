@@ -1,4 +1,4 @@
--- One stop of a walk, operation by operation as the Rust's `serve`.
+-- docs/SCOPE.md#the-walk-of-a-round. One stop of a walk, operation by operation as the Rust's `serve`.
 use Prim.Native.Nat.{ℕ}
 use mathlib.Core.Bool.{cond}
 use lib.Ieee.{Float, lt}

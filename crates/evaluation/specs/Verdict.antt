@@ -1,4 +1,4 @@
--- "A schedule is lawful if no hard window is missed, the rest stands so or is not needed, and both maxima are kept." Here alone a schedule and
+-- docs/SCOPE.md#the-walk-of-a-round. "A schedule is lawful if no hard window is missed, the rest stands so or is not needed, and both maxima are kept." Here alone a schedule and
 -- the limits are joined.
 use Prim.Native.Nat.{ℕ}
 use mathlib.Core.Bool.{Bool, true, false, cond}

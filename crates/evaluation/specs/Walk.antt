@@ -1,4 +1,4 @@
--- The walk of a round from its depot and back, stop by stop, with a rest and without one.
+-- docs/SCOPE.md#the-walk-of-a-round. The walk of a round from its depot and back, stop by stop, with a rest and without one.
 use Prim.Native.Nat.{ℕ}
 use mathlib.Core.List.{List, foldl}
 use lib.Ieee.{Float}

@@ -1,4 +1,4 @@
--- An arrival at a window. These three stay narrow: besides the proof of the function that each defines, only the laws of specs/Bounds unfold them.
+-- docs/SCOPE.md#the-walk-of-a-round. An arrival at a window. These three stay narrow: besides the proof of the function that each defines, only the laws of specs/Bounds unfold them.
 use mathlib.Core.Bool.{Bool, cond}
 use lib.Ieee.{Float, lt}
 use Rattle.sheet.specs.Values.{nought}

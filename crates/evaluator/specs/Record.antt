@@ -1,4 +1,4 @@
--- "`build_route` gives a round's figures, `price` the plan's cost, each in the Rust's order of operations".
+-- docs/SCOPE.md#the-plan. "`build_route` gives a round's figures, `price` the plan's cost, each in the Rust's order of operations".
 use Prim.Native.Nat.{ℕ, _+_}
 use mathlib.Core.Bool.{cond}
 use mathlib.Core.List.{List, foldl}

@@ -1,4 +1,4 @@
--- Document 01, "fleet.rs": the limiter "reinserts its stops cheapest first". The cheapest insertion of one stop, and of the stops pending.
+-- docs/SCOPE.md#the-limiter. Document 01, "fleet.rs": the limiter "reinserts its stops cheapest first". The cheapest insertion of one stop, and of the stops pending.
 use Prim.Native.Nat.{ℕ, zero, suc, _+_}
 use mathlib.Core.Bool.{Bool, true, not, _&&_, _||_, cond}
 use mathlib.Core.List.{List, [], _∷_}

@@ -1,4 +1,4 @@
--- Document 01, "fleet.rs": "the limiter drops the round of least load, then fewest stops, then first, and reinserts its stops cheapest first."
+-- docs/SCOPE.md#the-limiter. Document 01, "fleet.rs": "the limiter drops the round of least load, then fewest stops, then first, and reinserts its stops cheapest first."
 use Prim.Native.Nat.{ℕ, zero, suc, _+_}
 use mathlib.Core.Bool.{Bool, _&&_, _||_, cond}
 use mathlib.Core.List.{List, [], _∷_, _++_}

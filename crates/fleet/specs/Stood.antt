@@ -1,4 +1,4 @@
--- A round that the limiter leaves.
+-- docs/SCOPE.md#the-limiter. A round that the limiter leaves.
 use mathlib.Core.Path.{_≡_}
 use Prim.Native.Nat.{ℕ, _<_}
 use mathlib.Core.List.{List}

@@ -1,4 +1,4 @@
--- Document 01, "Each place and its form": "First vehicle with the id in a lent slice of structs, fallback the first".
+-- docs/SCOPE.md#forms-of-the-code. Document 01, "Each place and its form": "First vehicle with the id in a lent slice of structs, fallback the first".
 use Prim.Native.Nat.{ℕ}
 use mathlib.Core.Bool.{cond}
 use mathlib.Core.List.{List, [], _∷_}

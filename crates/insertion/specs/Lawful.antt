@@ -1,4 +1,4 @@
--- Document 01: "A place for a stop is lawful if the load stays within capacity and `route_feasible` passes the round with the stop in it." So on every
+-- docs/SCOPE.md#the-walk-of-a-round. Document 01: "A place for a stop is lawful if the load stays within capacity and `route_feasible` passes the round with the stop in it." So on every
 -- sheet, by the walk's f64 figures; a lawful round over natural numbers is a definition by itself.
 use mathlib.Core.Path.{_≡_}
 use Prim.Native.Nat.{ℕ, _+_, _≤_}

@@ -1,4 +1,4 @@
--- One place of a round for one stop: what the stop adds there, whether it may stand there, and the best of several places.
+-- docs/SCOPE.md#the-methods. One place of a round for one stop: what the stop adds there, whether it may stand there, and the best of several places.
 use Prim.Native.Nat.{ℕ, zero, suc, _+_}
 use mathlib.Core.Bool.{Bool, true, false, not, _&&_, cond}
 use mathlib.Core.List.{List, [], _∷_}

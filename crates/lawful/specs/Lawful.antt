@@ -1,4 +1,4 @@
--- Document 01, "A lawful round": read from the bytes of the sheet alone, over natural numbers. No label and no sum of floats stands here.
+-- docs/SCOPE.md#a-lawful-round. Document 01, "A lawful round": read from the bytes of the sheet alone, over natural numbers. No label and no sum of floats stands here.
 use Prim.Native.Nat.{ℕ, zero, suc, _+_, _-_, _*_}
 use mathlib.Core.Bool.{Bool, true, false, _&&_, _||_, cond}
 use mathlib.Core.List.{List, [], _∷_, _++_}

@@ -1,4 +1,4 @@
--- The sheets of demand 3: no row has both a window and a lateness penalty, and distances, times, windows, service and rests are whole numbers.
+-- docs/SCOPE.md#the-three-demands. The sheets of demand 3: no row has both a window and a lateness penalty, and distances, times, windows, service and rests are whole numbers.
 use Prim.Native.Nat.{ℕ, _*_, _^_, _<_}
 use mathlib.Core.Bool.{Bool, true, false}
 use mathlib.Core.List.{List}

@@ -1,4 +1,4 @@
--- Document 01, "Sheet A and its relatives": what the listing program prints.
+-- docs/SCOPE.md#the-listing. Document 01, "Sheet A and its relatives": what the listing program prints.
 use Prim.Native.Nat.{ℕ, zero, suc}
 use mathlib.Core.List.{List}
 use Rattle.sheet.specs.Fields.{planLength}

@@ -1,4 +1,4 @@
--- Document 01, "Sheet A and its relatives": the listing of a plan, read from the bytes of sheet and plan alone.
+-- docs/SCOPE.md#the-listing. Document 01, "Sheet A and its relatives": the listing of a plan, read from the bytes of sheet and plan alone.
 use Prim.Native.Nat.{ℕ, _+_}
 use mathlib.Core.List.{List, [], _∷_}
 use lib.Dec.{leb}

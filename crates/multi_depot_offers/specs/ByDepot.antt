@@ -1,4 +1,4 @@
--- Document 01, "multi_depot.rs": "a stop turned down goes to its next nearest depot that has a vehicle; a depot whose members changed is planned afresh. Each depot is planned on its own rows alone [..]. Set-aside stops come out ascending."
+-- docs/SCOPE.md#several-depots. Document 01, "multi_depot.rs": "a stop turned down goes to its next nearest depot that has a vehicle; a depot whose members changed is planned afresh. Each depot is planned on its own rows alone [..]. Set-aside stops come out ascending."
 use Prim.Native.Nat.{ℕ, zero, suc, _+_, _*_}
 use mathlib.Core.Bool.{Bool, true, false, not, _&&_, _||_, cond}
 use mathlib.Core.List.{List, [], _∷_, _++_}

@@ -1,4 +1,4 @@
--- Document 01, "nearest_neighbor.rs" and "nn_tw.rs": what each rule offers of a stop, in the Rust's order of operations.
+-- docs/SCOPE.md#the-methods. Document 01, "nearest_neighbor.rs" and "nn_tw.rs": what each rule offers of a stop, in the Rust's order of operations.
 use Prim.Native.Nat.{ℕ, _+_}
 use mathlib.Core.Bool.{Bool, true, false, not, _&&_}
 use mathlib.Core.List.{List, [], _∷_, _++_}

@@ -1,4 +1,4 @@
--- Document 01, "The plan": its bytes, from a sheet and an outcome. All bytes are zero, then each record is written at its place.
+-- docs/SCOPE.md#the-plan. Document 01, "The plan": its bytes, from a sheet and an outcome. All bytes are zero, then each record is written at its place.
 use Prim.Native.Nat.{ℕ, _+_, _*_}
 use mathlib.Core.Bool.{Bool, true, false}
 use mathlib.Core.List.{List, [], _∷_, _++_}

@@ -1,4 +1,4 @@
--- Document 01, "The limiter": "Of the plan in it reads round count, ids and chains." An outcome, read off a plan's bytes: total on every list of bytes.
+-- docs/SCOPE.md#the-limiter. Document 01, "The limiter": "Of the plan in it reads round count, ids and chains." An outcome, read off a plan's bytes: total on every list of bytes.
 use Prim.Native.Nat.{ℕ, zero, suc, _+_}
 use mathlib.Core.Bool.{Bool, _&&_}
 use mathlib.Core.List.{List, [], _∷_}

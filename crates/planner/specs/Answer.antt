@@ -1,4 +1,4 @@
--- What the planner answers a sheet with, and what holds of every plan: demands 1 to 3, read from the bytes of sheet and plan alone.
+-- docs/SCOPE.md#the-three-demands. What the planner answers a sheet with, and what holds of every plan: demands 1 to 3, read from the bytes of sheet and plan alone.
 use mathlib.Core.Path.{_≡_}
 use Prim.Native.Nat.{ℕ, zero, suc, _≤_, _<_}
 use mathlib.Core.Bool.{Bool, false, not, _&&_, _||_}

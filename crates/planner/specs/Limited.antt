@@ -1,4 +1,4 @@
--- What the limiter answers with, and what holds of every plan out. Document 01: "The limiter takes a sheet, a plan in, a greatest number of rounds (u32) and a plan out."
+-- docs/SCOPE.md#the-limiter. What the limiter answers with, and what holds of every plan out. Document 01: "The limiter takes a sheet, a plan in, a greatest number of rounds (u32) and a plan out."
 use mathlib.Core.Path.{_≡_}
 use Prim.Native.Nat.{ℕ, zero, suc, _≤_, _<_}
 use mathlib.Core.Bool.{Bool, true, _&&_}

@@ -1,4 +1,4 @@
--- Document 01, "Sheet A and its relatives": "Proved of the definitions, as a table that one theorem covers".
+-- docs/SCOPE.md#sheet-a-and-its-relatives. Document 01, "Sheet A and its relatives": "Proved of the definitions, as a table that one theorem covers".
 use Prim.Native.Nat.{ℕ, _*_}
 use mathlib.Core.Path.{_≡_}
 use mathlib.Core.List.{List, [], _∷_, _++_}

@@ -1,4 +1,4 @@
--- Document 01, "models/customer.rs": "Depots are the leading rows marked so; row 0 counts as one even unmarked, and a depot mark after the leading rows means nothing."
+-- docs/SCOPE.md#the-sheet. Document 01, "models/customer.rs": "Depots are the leading rows marked so; row 0 counts as one even unmarked, and a depot mark after the leading rows means nothing."
 use Prim.Native.Nat.{ℕ, zero, suc, _+_}
 use mathlib.Core.Bool.{Bool, true, false}
 use mathlib.Core.List.{List}

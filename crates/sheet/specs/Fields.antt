@@ -1,4 +1,4 @@
--- Document 01, "The sheet": every field by its offset in the bytes. No other definition has a number of the sheet's sizes, offsets and greatest counts, but that an interval ends 8 bytes after it starts (Ranges); the code has them again, held to these.
+-- docs/SCOPE.md#the-sheet. Document 01, "The sheet": every field by its offset in the bytes. No other definition has a number of the sheet's sizes, offsets and greatest counts, but that an interval ends 8 bytes after it starts (Ranges); the code has them again, held to these.
 use Prim.Native.Nat.{ℕ, _+_, _*_, _/_, _%_}
 use mathlib.Core.Bool.{Bool}
 use mathlib.Core.List.{List}

@@ -1,4 +1,4 @@
--- The vehicles of a sheet, by their index: those of a depot, and the one with an id.
+-- docs/SCOPE.md#the-sheet. The vehicles of a sheet, by their index: those of a depot, and the one with an id.
 use Prim.Native.Nat.{ℕ, zero, suc, _+_}
 use mathlib.Core.Bool.{cond}
 use mathlib.Core.List.{List}

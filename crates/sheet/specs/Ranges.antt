@@ -1,4 +1,4 @@
--- Document 01, "Ranges, ends included", "An unmarked field is all zero bits" and "Vehicle ids differ": each range a test of its own, then all of a record.
+-- docs/SCOPE.md#the-sheet. Document 01, "Ranges, ends included", "An unmarked field is all zero bits" and "Vehicle ids differ": each range a test of its own, then all of a record.
 use Prim.Native.Nat.{ℕ, _+_, _^_}
 use mathlib.Core.Bool.{Bool, true, false, not, _&&_, _||_}
 use mathlib.Core.List.{List}

@@ -1,4 +1,4 @@
--- Document 01, "Turned back": the number of the first condition of the table that holds, and 0 if none does.
+-- docs/SCOPE.md#refusals. Document 01, "Turned back": the number of the first condition of the table that holds, and 0 if none does.
 use Prim.Native.Nat.{ℕ}
 use mathlib.Core.Bool.{Bool, true, false, not, _&&_, _||_}
 use mathlib.Core.List.{List}

@@ -1,4 +1,4 @@
--- Document 01's sheet A, in parts, for the examples that are computed from it.
+-- docs/SCOPE.md#sheet-a-and-its-relatives: document 01's sheet A, in parts, for the examples that are computed from it.
 use Prim.Native.Nat.{ℕ}
 use mathlib.Core.List.{List, [], _∷_, _++_}
 use lib.ListN.{replicate}

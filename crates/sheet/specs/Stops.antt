@@ -1,4 +1,4 @@
--- The stops of a sheet: its rows that are no depots.
+-- docs/SCOPE.md#the-sheet. The stops of a sheet: its rows that are no depots.
 use Prim.Native.Nat.{ℕ, _-_}
 use mathlib.Core.Bool.{Bool, true, _&&_}
 use mathlib.Core.List.{List}

@@ -1,4 +1,4 @@
--- What a stop, a vehicle and a leg are, read from the sheet's bytes. For each enum, which of document 01's marks and values make which case.
+-- docs/SCOPE.md#the-sheet. What a stop, a vehicle and a leg are, read from the sheet's bytes. For each enum, which of document 01's marks and values make which case.
 use Prim.Native.Nat.{ℕ, _+_, _*_}
 use mathlib.Core.Bool.{Bool, true, false, cond}
 use mathlib.Core.List.{List}

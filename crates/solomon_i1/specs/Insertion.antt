@@ -1,4 +1,4 @@
--- Document 01, "solomon_i1.rs": "the seed is the farthest unrouted stop, the first of equals; the first least insertion wins. Stops set aside stand in the order met."
+-- docs/SCOPE.md#the-methods. Document 01, "solomon_i1.rs": "the seed is the farthest unrouted stop, the first of equals; the first least insertion wins. Stops set aside stand in the order met."
 use Prim.Native.Nat.{ℕ, zero, suc, _+_}
 use mathlib.Core.Bool.{Bool, true, false, _&&_, cond}
 use mathlib.Core.List.{List, [], _∷_}

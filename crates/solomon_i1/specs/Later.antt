@@ -1,4 +1,4 @@
--- Document 01: a pond "is later than a round if it stands on one counted higher, or is set aside and the seed's rule would take some stop of that round before it."
+-- docs/SCOPE.md#a-lawful-round. Document 01: a pond "is later than a round if it stands on one counted higher, or is set aside and the seed's rule would take some stop of that round before it."
 use Prim.Native.Nat.{ℕ, _<_}
 use mathlib.Core.Bool.{Bool, _&&_, _||_}
 use mathlib.Core.List.{List}

@@ -1,4 +1,4 @@
--- Document 01, "sweep.rs": stops by their angle, packed into rounds in that order. "Stops set aside keep angle order."
+-- docs/SCOPE.md#the-methods. Document 01, "sweep.rs": stops by their angle, packed into rounds in that order. "Stops set aside keep angle order."
 use Prim.Native.Nat.{ℕ, _+_}
 use mathlib.Core.Bool.{Bool, true, false, not, _||_}
 use mathlib.Core.List.{List, [], _∷_, _++_}
