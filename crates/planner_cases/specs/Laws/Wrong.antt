@@ -17,9 +17,9 @@ use Rattle.constructive.specs.Outcome.{chains}
 use Rattle.clarke_wright_savings.specs.Laws.Cases.{within}
 use Rattle.solomon_i1.specs.Laws.Cases.{due}
 use Rattle.plan.specs.Read.{roundsAt, asideAt, idAt, firstStopAt, nextAt, chainFrom, roundsFrom, readPlan}
-use Rattle.planner.specs.Answer.{Standing, Once, Lawful, Alone, higher, set-aside, Closed}
+use Rattle.planner.specs.Answer.{Standing, Once, Feasibly, Lawful, Alone, higher, set-aside, Closed}
 use Rattle.planner_cases.specs.Table.{nine, twelve, twentyThree, oneTwo, twoOne, oneAndTwo, bothAside, sheetAt}
-use Rattle.planner_cases.specs.WrongPlans.{fifteen, bentSheet, oneAlone, twoMissing, twoTwice, LawfulRests}
+use Rattle.planner_cases.specs.WrongPlans.{fifteen, bentSheet, oneAlone, oneAndPadding, twoMissing, twoTwice, LawfulRests}
 use Rattle.planner_cases.specs.Laws.WholeSheets.{whole-sheets}
 
 -- ---- **once**: a stop on no round and not aside, and one on two rounds
@@ -33,6 +33,15 @@ stop-missing f = missing-stands (f refl)
 pub stop-twice : Once (sheetA 1) 0 twoTwice → ⊥
 unfolding rowsOf vehiclesOf rowMarks idField marked leading depotsOf roundsAt asideAt idAt firstStopAt nextAt chainFrom indexFrom roundsFrom readPlan chains count number bytes
 stop-twice f = let e = f refl .each 2 (omega arith) (omega arith) in omega (arith, e)
+
+-- ---- **feasible**: a second round without a stop, and a load of 2 where 1 is carried
+pub empty-round : Feasibly (within twentyThree) 0 oneAndPadding → ⊥
+unfolding rowsOf vehiclesOf idField roundsAt asideAt idAt firstStopAt nextAt chainFrom indexFrom roundsFrom readPlan number bytes
+empty-round f = omega (arith, f refl .1 .0 .some)
+
+pub overfull-round : Feasibly (sheetCarrying 1) 0 oneTwo → ⊥
+unfolding rowsOf vehiclesOf methodOf idField demandOf roundsAt asideAt idAt firstStopAt nextAt chainFrom indexFrom roundsFrom readPlan loadN keepsCapacity number bytes
+overfull-round f = f refl .0 .capacity
 
 -- ---- **lawful**: a load of 2 where 1 is carried, stop 1 reached at 14 and due 10, a distance of 24 where 23 is the most, a rest at 9 and no stop before 10
 pub over-capacity : Lawful (sheetCarrying 1) 0 oneTwo → ⊥
