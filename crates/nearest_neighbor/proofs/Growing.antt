@@ -20,13 +20,15 @@ use Rattle.evaluation.specs.Limits.{limitsAt}
 use Rattle.evaluation.specs.declared.limits.RouteLimits.{RouteLimits}
 use Rattle.evaluation.specs.Routed.{Routed}
 use Rattle.constructive.specs.Members.{part, Members}
-use Rattle.nearest_neighbor.specs.declared.choice.StopChoice.{StopChoice}
-use Rattle.nearest_neighbor.specs.declared.choice.StopChoice.the-variants.{NoStop, Best}
-use Rattle.nearest_neighbor.specs.declared.partial.Partial.{Partial}
+use Rattle.nearest_neighbor_choice.specs.declared.choice.StopChoice.{StopChoice}
+use Rattle.nearest_neighbor_choice.specs.declared.choice.StopChoice.the-variants.{NoStop, Best}
+use Rattle.nearest_neighbor_choice.specs.declared.partial.Partial.{Partial}
 use Rattle.nearest_neighbor.specs.declared.greedy.Heuristic.{Heuristic}
-use Rattle.nearest_neighbor.specs.Greedy.{choose, Trip, emptyTrip, Rule, extending, extended, extendedBy, extend, extendOn, endOfTrip, vehicleRound}
+use Rattle.nearest_neighbor_choice.specs.Choice.{choose, Trip, emptyTrip}
+use Rattle.nearest_neighbor.specs.Greedy.{Rule, extending, extended, extendedBy, extend, extendOn, endOfTrip, vehicleRound}
 use Rattle.nearest_neighbor.specs.Laws.Chosen.{Chosen, choose-chosen}
-use Rattle.nearest_neighbor.specs.Partial.{emptyPartial, ruleOf, offerBy, onwardBy, PartialRoute}
+use Rattle.nearest_neighbor_choice.specs.Partial.{emptyPartial, PartialRoute}
+use Rattle.nearest_neighbor.specs.Heuristic.{ruleOf, offerBy, onwardBy}
 use Rattle.nearest_neighbor.proofs.Leaving.{joins}
 use Rattle.nearest_neighbor.proofs.Keeping.{rideOf, Driven, offers, drives-on, stays-driven, riding, sets-out, off, choose-alike}
 

@@ -25,15 +25,17 @@ use Rattle.evaluation.specs.Feasible.{routeFeasible}
 use Rattle.evaluation.specs.Laws.Walk.{clock-kept, walked-rest, walked-place, more-clock, more-prev, more-distance}
 use Rattle.evaluation.specs.Laws.Verdict.{longer-feasible}
 use Rattle.evaluation.specs.declared.limits.RouteLimits.{RouteLimits}
-use Rattle.nearest_neighbor.specs.declared.choice.StopChoice.{StopChoice}
-use Rattle.nearest_neighbor.specs.declared.partial.Partial.{Partial}
-use Rattle.nearest_neighbor.specs.declared.partial.PartialClock.{PartialClock}
-use Rattle.nearest_neighbor.specs.declared.partial.PartialClock.the-variants.{NoClock, Kept}
+use Rattle.nearest_neighbor_choice.specs.declared.choice.StopChoice.{StopChoice}
+use Rattle.nearest_neighbor_choice.specs.declared.partial.Partial.{Partial}
+use Rattle.nearest_neighbor_choice.specs.declared.partial.PartialClock.{PartialClock}
+use Rattle.nearest_neighbor_choice.specs.declared.partial.PartialClock.the-variants.{NoClock, Kept}
 use Rattle.nearest_neighbor.specs.declared.greedy.Heuristic.{Heuristic}
 use Rattle.nearest_neighbor.specs.declared.greedy.Heuristic.the-variants.{Nearest, NearestTw}
-use Rattle.nearest_neighbor.specs.Greedy.{Offer, betterStop, choose, Trip, emptyTrip as setOff}
-use Rattle.nearest_neighbor.specs.Nearest.{allows, thereAndHome, nearestOffer, nearestOnward, arrivalAt, serviceStart, isFirst, windowOffer, windowOnward}
-use Rattle.nearest_neighbor.specs.Partial.{pushedBy, allowsBy, emptyPartial, nearestBy, partialWith, windowBy, ruleOf, offerBy, onwardBy, ClockKept, PartialRoute}
+use Rattle.nearest_neighbor_choice.specs.Choice.{Offer, betterStop, choose, Trip, emptyTrip as setOff}
+use Rattle.nearest_neighbor_choice.specs.Offers.{allows, thereAndHome, nearestOffer, arrivalAt, serviceStart, isFirst, windowOffer}
+use Rattle.nearest_neighbor.specs.Nearest.{nearestOnward, windowOnward}
+use Rattle.nearest_neighbor_choice.specs.Partial.{pushedBy, allowsBy, emptyPartial, nearestBy, windowBy, ClockKept, PartialRoute}
+use Rattle.nearest_neighbor.specs.Heuristic.{partialWith, ruleOf, offerBy, onwardBy}
 
 -- the clock after the stops
 abbrev pub clockAfter : List ℕ → ℕ → Rest → List ℕ → PartialClock

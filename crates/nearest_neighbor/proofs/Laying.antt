@@ -21,7 +21,7 @@ use Rattle.constructive.specs.Laws.Entered.{enters-one}
 use Rattle.constructive.specs.Laws.Stored.{chains-aside, chains-append, length-chains, length-ends, length-vehicles, routed-append}
 use Rattle.nearest_neighbor.specs.declared.greedy.Heuristic.{Heuristic}
 use Rattle.nearest_neighbor.specs.Greedy.{Grown, vehicleRound, withStops, roundThen, greedy}
-use Rattle.nearest_neighbor.specs.Partial.{ruleOf}
+use Rattle.nearest_neighbor.specs.Heuristic.{ruleOf}
 use Rattle.nearest_neighbor.proofs.Leaving.{joins, round-long, round-every}
 
 -- rounds before an outcome's

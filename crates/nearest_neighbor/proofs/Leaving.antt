@@ -6,15 +6,16 @@ use mathlib.Core.List.{List, [], _∷_}
 use lib.ListN.{length, getD, length-append}
 use Rattle.lists.specs.Every.{Every}
 use Rattle.lists.specs.Laws.Moved.{without-length, without-every}
-use Rattle.nearest_neighbor.specs.declared.choice.StopChoice.{StopChoice}
-use Rattle.nearest_neighbor.specs.declared.choice.StopChoice.the-variants.{NoStop, Best}
+use Rattle.nearest_neighbor_choice.specs.declared.choice.StopChoice.{StopChoice}
+use Rattle.nearest_neighbor_choice.specs.declared.choice.StopChoice.the-variants.{NoStop, Best}
 use Rattle.nearest_neighbor.specs.declared.greedy.Heuristic.{Heuristic}
 use Rattle.nearest_neighbor.specs.declared.greedy.Heuristic.the-variants.{Nearest, NearestTw}
-use Rattle.nearest_neighbor.specs.Greedy.{choose, Trip, emptyTrip, Rule, Extension, extending, extended, extendedBy, extend, extendOn, endOfTrip, vehicleRound}
+use Rattle.nearest_neighbor_choice.specs.Choice.{choose, Trip, emptyTrip}
+use Rattle.nearest_neighbor.specs.Greedy.{Rule, Extension, extending, extended, extendedBy, extend, extendOn, endOfTrip, vehicleRound}
 use Rattle.nearest_neighbor.specs.Nearest.{nearestOnward, windowOnward}
 use Rattle.nearest_neighbor.specs.Laws.Chosen.{Chosen, choose-chosen}
 use Rattle.nearest_neighbor.specs.Laws.Permutation.{Extends}
-use Rattle.nearest_neighbor.specs.Partial.{ruleOf}
+use Rattle.nearest_neighbor.specs.Heuristic.{ruleOf}
 
 -- a stop joins a round at its end
 pub joins : (s : List ℕ) (depot : ℕ) (h : Heuristic) (index : ℕ) → Extends (ruleOf s depot h index)

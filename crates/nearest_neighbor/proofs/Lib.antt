@@ -1,4 +1,3 @@
-pub mod Judging
 pub mod Keeping
 pub mod Leaving
 pub mod Growing

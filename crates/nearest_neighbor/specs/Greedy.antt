@@ -1,47 +1,14 @@
 -- docs/SCOPE.md#the-methods. What both nearest neighbours share: vehicles in order, each grows one round by the best stop left, the first of equals; what is left is set aside.
-use Prim.Native.Nat.{ℕ, zero, suc, _+_}
-use mathlib.Core.Bool.{Bool, true, cond}
+use Prim.Native.Nat.{ℕ, zero, suc}
 use mathlib.Core.List.{List, [], _∷_}
 use lib.ListN.{length, getD}
-use lib.Ieee.{Float, lt}
 use Rattle.lists.specs.Moved.{without}
-use Rattle.sheet.specs.Values.{nought}
 use Rattle.constructive.specs.Outcome.{Round, Outcome}
-use Rattle.nearest_neighbor.specs.declared.choice.StopChoice.{StopChoice}
-use Rattle.nearest_neighbor.specs.declared.choice.StopChoice.the-variants.{NoStop, Best}
-
--- ---- one choice: the best stop so far, its place among the stops left and its key
--- a stop's key, or that it cannot be taken
-pub data Offer : Type 0 where
-  out : Offer
-  key : Float → Offer
-
--- the first of equals: a later stop wins only with a smaller key
-abbrev pub winsOf : Float → StopChoice → Bool
-winsOf k NoStop = true
-winsOf k (Best i b) = lt k b
-
-abbrev pub betterStop : StopChoice → ℕ → Offer → StopChoice
-betterStop c j out = c
-betterStop c j (key k) = cond (winsOf k c) (Best j k) c
-
--- the best of the stops left from place j on
-unfoldable pub choose : (ℕ → Offer) → StopChoice → ℕ → List ℕ → StopChoice
-choose offer c j [] = c
-choose offer c j (row ∷ rows) = choose offer (betterStop c j (offer row)) (j + 1) rows
+use Rattle.nearest_neighbor_choice.specs.declared.choice.StopChoice.{StopChoice}
+use Rattle.nearest_neighbor_choice.specs.declared.choice.StopChoice.the-variants.{NoStop, Best}
+use Rattle.nearest_neighbor_choice.specs.Choice.{Offer, choose, Trip, emptyTrip}
 
 -- ---- one round
--- the round so far: its stops, the last of them or the depot, what it carries, and the two figures that the rule sums
-pub record Trip : Type 0 where
-  pub stops : List ℕ
-  pub current : ℕ
-  pub load : ℕ
-  pub travelled : Float
-  pub clock : Float
-
-abbrev pub emptyTrip : ℕ → Trip
-emptyTrip depot = record { stops = []; current = depot; load = 0; travelled = nought; clock = nought }
-
 -- a round and the stops that it leaves
 pub record Grown : Type 0 where
   pub stops : List ℕ

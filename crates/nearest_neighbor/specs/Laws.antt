@@ -2,4 +2,3 @@ pub mod Chosen
 pub mod Permutation
 pub mod Feasible
 pub mod Cases
-pub mod Choice

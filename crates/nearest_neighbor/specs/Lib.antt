@@ -1,4 +1,4 @@
 pub mod Greedy
 pub mod Nearest
-pub mod Partial
+pub mod Heuristic
 pub mod Laws

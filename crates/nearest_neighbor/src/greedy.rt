@@ -1,13 +1,13 @@
 // What both nearest neighbours share: each vehicle in turn grows one round by the best stop left.
-use crate::choice::StopChoice;
-use crate::nearest;
-use crate::nn_tw;
-use crate::partial;
-use crate::partial::Partial;
 use constructive::tables;
 use constructive::tables::Filled;
 use evaluation::limits;
 use evaluation::limits::RouteLimits;
+use nearest_neighbor_choice::choice::StopChoice;
+use nearest_neighbor_choice::nearest;
+use nearest_neighbor_choice::nn_tw;
+use nearest_neighbor_choice::partial;
+use nearest_neighbor_choice::partial::Partial;
 use sheet::customer;
 use sheet::matrix;
 use sheet::vehicle;
@@ -21,9 +21,11 @@ ghost use Rattle.sheet.specs.Fields.{rowsOf, vehiclesOf};
 ghost use Rattle.evaluation.specs.Routed.{Routed};
 ghost use Rattle.constructive.specs.Stored.{Stored, Room, filledBy};
 ghost use Rattle.constructive.specs.Members.{part, Members, Fleet};
-ghost use Rattle.nearest_neighbor.specs.declared.choice.StopChoice.the-variants.{NoStop};
-ghost use Rattle.nearest_neighbor.specs.Greedy.{choose, vehicleRound, greedy};
-ghost use Rattle.nearest_neighbor.specs.Partial.{ruleOf, offerBy, onwardBy, partialWith, PartialRoute};
+ghost use Rattle.nearest_neighbor_choice.specs.declared.choice.StopChoice.the-variants.{NoStop};
+ghost use Rattle.nearest_neighbor_choice.specs.Choice.{choose};
+ghost use Rattle.nearest_neighbor.specs.Greedy.{vehicleRound, greedy};
+ghost use Rattle.nearest_neighbor_choice.specs.Partial.{PartialRoute};
+ghost use Rattle.nearest_neighbor.specs.Heuristic.{ruleOf, offerBy, onwardBy, partialWith};
 
 // Which of the two; with windows, whether some window has a penalty.
 pub enum Heuristic {

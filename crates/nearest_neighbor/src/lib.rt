@@ -1,10 +1,6 @@
 // The nearest neighbours (with windows: Solomon 1987): each vehicle in turn drives on to the best stop left.
 // Every choice looks at each stop left once: O(n^2 + n v) for n stops and v vehicles, with a rest or without one.
-pub mod choice;
 pub mod greedy;
-mod nearest;
-pub mod nn_tw;
-pub mod partial;
 
 use constructive::tables::Filled;
 use greedy::Heuristic;

@@ -14,8 +14,10 @@ use Rattle.sheet.specs.Fleet.{fleetOf}
 use Rattle.evaluation.specs.Limits.{limitsAt, allowOf}
 use Rattle.evaluation.specs.Checks.{someWindowed, hasSoftWindows}
 use Rattle.constructive.specs.Members.{membersOf}
-use Rattle.nearest_neighbor.specs.Greedy.{choose, extend, extendOn, greedy}
-use Rattle.nearest_neighbor.specs.Nearest.{nearestOffer, nearestOnward, nearestNeighbor, windowOffer, windowOnward, nearestNeighborTw}
+use Rattle.nearest_neighbor_choice.specs.Choice.{choose}
+use Rattle.nearest_neighbor.specs.Greedy.{extend, extendOn, greedy}
+use Rattle.nearest_neighbor_choice.specs.Offers.{nearestOffer, windowOffer}
+use Rattle.nearest_neighbor.specs.Nearest.{nearestOnward, nearestNeighbor, windowOnward, nearestNeighborTw}
 use Rattle.multi_depot_offers.specs.ByDepot.{hasVehicle, sooner, askedAfter, nearestFrom, nextDepot, constructOf, plannedOf, plannedUpto, movesTo, offeredFrom, afterOffers, moved, settledIn, firstFrom, firstDepots, settledAt, gathered, byDepot, outcomeOf}
 
 abbrev rows : List ℕ

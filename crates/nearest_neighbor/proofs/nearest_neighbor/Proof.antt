@@ -1,7 +1,7 @@
 -- `nearest_neighbor::nearest_neighbor` meets its contract. Assumes nothing.
 use borrow.Author.Needs.{needs}
 use Rattle.nearest_neighbor.specs.Nearest.{nearestNeighbor}
-use Rattle.nearest_neighbor.specs.Partial.{ruleOf}
+use Rattle.nearest_neighbor.specs.Heuristic.{ruleOf}
 use Rattle.nearest_neighbor.proofs.nearest_neighbor.Statement.{statement}
 use Rattle.nearest_neighbor.proofs.nearest_neighbor.Tie as tie
 

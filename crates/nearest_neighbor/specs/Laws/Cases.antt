@@ -9,8 +9,10 @@ use Rattle.sheet.specs.SheetA.{sheetA}
 use Rattle.evaluation.specs.Limits.{limitsAt, allowOf}
 use Rattle.evaluation.specs.Checks.{someWindowed, hasSoftWindows}
 use Rattle.constructive.specs.Outcome.{Outcome}
-use Rattle.nearest_neighbor.specs.Greedy.{choose, extend, extendOn, greedy}
-use Rattle.nearest_neighbor.specs.Nearest.{nearestOffer, nearestOnward, nearestNeighbor, windowOffer, windowOnward, nearestNeighborTw}
+use Rattle.nearest_neighbor_choice.specs.Choice.{choose}
+use Rattle.nearest_neighbor.specs.Greedy.{extend, extendOn, greedy}
+use Rattle.nearest_neighbor_choice.specs.Offers.{nearestOffer, windowOffer}
+use Rattle.nearest_neighbor.specs.Nearest.{nearestOnward, nearestNeighbor, windowOnward, nearestNeighborTw}
 
 -- one round of the only vehicle: stop 1, then stop 2
 abbrev rounded : Outcome

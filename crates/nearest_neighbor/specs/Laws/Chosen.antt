@@ -14,9 +14,10 @@ use Rattle.lists.specs.Laws.Every.{every-map}
 use Rattle.lists.specs.Moved.{without}
 use Rattle.constructive.specs.Outcome.{Round}
 use Rattle.constructive.specs.Laws.Rounds.{OfFleet}
-use Rattle.nearest_neighbor.specs.declared.choice.StopChoice.{StopChoice}
-use Rattle.nearest_neighbor.specs.declared.choice.StopChoice.the-variants.{NoStop, Best}
-use Rattle.nearest_neighbor.specs.Greedy.{Offer, out, key, winsOf, betterStop, choose, Trip, emptyTrip, Rule, Extension, extending, extended, extendedBy, extend, extendOn, endOfTrip, vehicleRound, withStops, greedy}
+use Rattle.nearest_neighbor_choice.specs.declared.choice.StopChoice.{StopChoice}
+use Rattle.nearest_neighbor_choice.specs.declared.choice.StopChoice.the-variants.{NoStop, Best}
+use Rattle.nearest_neighbor_choice.specs.Choice.{Offer, out, key, winsOf, betterStop, choose, Trip, emptyTrip}
+use Rattle.nearest_neighbor.specs.Greedy.{Rule, Extension, extending, extended, extendedBy, extend, extendOn, endOfTrip, vehicleRound, withStops, greedy}
 
 -- ---- one choice
 -- an offer that can be taken

@@ -42,8 +42,9 @@ use Rattle.constructive.specs.Load.{loadOf}
 use Rattle.constructive.specs.Laws.Load.{load-append}
 use Rattle.constructive.specs.Rounds.{passes, Carried, Feasible}
 use Rattle.constructive.specs.Laws.Rounds.{OfFleet}
-use Rattle.nearest_neighbor.specs.Greedy.{Trip, emptyTrip}
-use Rattle.nearest_neighbor.specs.Nearest.{tripCarries, allows, offerIf, thereAndHome, nearestOffer, nearestOnward, nearestRule, nearestNeighbor, arrivalAt, lateAt, serviceStart, penaltyOf, missed, stopTooDear, windowOffer, windowOnward, windowRule, nearestNeighborTw}
+use Rattle.nearest_neighbor_choice.specs.Choice.{Trip, emptyTrip}
+use Rattle.nearest_neighbor_choice.specs.Offers.{tripCarries, allows, offerIf, thereAndHome, nearestOffer, arrivalAt, lateAt, serviceStart, penaltyOf, missed, stopTooDear, windowOffer}
+use Rattle.nearest_neighbor.specs.Nearest.{nearestOnward, nearestRule, nearestNeighbor, windowOnward, windowRule, nearestNeighborTw}
 use Rattle.nearest_neighbor.specs.Laws.Chosen.{Taken, Growing, greedy-every, greedy-fleet}
 
 -- a stop that is taken passes the test

@@ -9,9 +9,10 @@ use Rattle.lists.specs.Laws.Once.{count-append}
 use Rattle.lists.specs.Laws.Moved.{without-count}
 use Rattle.evaluation.specs.Checks.{hasSoftWindows}
 use Rattle.constructive.specs.Outcome.{Round, chains, stopsOf}
-use Rattle.nearest_neighbor.specs.declared.choice.StopChoice.{StopChoice}
-use Rattle.nearest_neighbor.specs.declared.choice.StopChoice.the-variants.{NoStop, Best}
-use Rattle.nearest_neighbor.specs.Greedy.{choose, Trip, emptyTrip, Grown, Rule, Extension, extending, extended, extendedBy, extend, extendOn, endOfTrip, vehicleRound, withStops, greedy}
+use Rattle.nearest_neighbor_choice.specs.declared.choice.StopChoice.{StopChoice}
+use Rattle.nearest_neighbor_choice.specs.declared.choice.StopChoice.the-variants.{NoStop, Best}
+use Rattle.nearest_neighbor_choice.specs.Choice.{choose, Trip, emptyTrip}
+use Rattle.nearest_neighbor.specs.Greedy.{Grown, Rule, Extension, extending, extended, extendedBy, extend, extendOn, endOfTrip, vehicleRound, withStops, greedy}
 use Rattle.nearest_neighbor.specs.Laws.Chosen.{Chosen, choose-chosen}
 use Rattle.nearest_neighbor.specs.Nearest.{nearestOnward, nearestRule, nearestNeighbor, windowOnward, windowRule, nearestNeighborTw}
 

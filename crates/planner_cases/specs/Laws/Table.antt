@@ -27,8 +27,10 @@ use Rattle.evaluator.specs.Record.{placedOf, readyFor, departsAt, lateAfter, co
 use Rattle.constructive.specs.Load.{loadOf}
 use Rattle.constructive.specs.Terms.{termsOf}
 use Rattle.insertion.specs.Place.{judge, tryPlaces}
-use Rattle.nearest_neighbor.specs.Greedy.{choose, extend, extendOn, greedy}
-use Rattle.nearest_neighbor.specs.Nearest.{nearestOffer, nearestOnward, nearestNeighbor, windowOffer, windowOnward, nearestNeighborTw}
+use Rattle.nearest_neighbor_choice.specs.Choice.{choose}
+use Rattle.nearest_neighbor.specs.Greedy.{extend, extendOn, greedy}
+use Rattle.nearest_neighbor_choice.specs.Offers.{nearestOffer, windowOffer}
+use Rattle.nearest_neighbor.specs.Nearest.{nearestOnward, nearestNeighbor, windowOnward, nearestNeighborTw}
 use Rattle.clarke_wright_savings.specs.Savings.{sameBack, symmetric, directedOf, savingsFrom, savingsOf, numbered, ranked, startsAlone, startsOf, slotOf, mergePasses, mergeOf, mergedBy, roundsOf, asideOf, plannedBy, clarkeWright}
 use Rattle.solomon_i1.specs.Insertion.{farthestFrom, tryStops, grow, growOn, seedStep, planOn, solomonI1}
 use Rattle.sweep.specs.Angle.{directionOf, partOf, turnsLeft, below, sweepsBefore}

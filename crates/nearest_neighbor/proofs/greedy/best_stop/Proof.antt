@@ -1,6 +1,6 @@
 -- `nearest_neighbor::greedy::best_stop` meets its contract. Assumes nothing.
 use borrow.Author.Needs.{needs}
-use Rattle.nearest_neighbor.specs.Partial.{offerBy}
+use Rattle.nearest_neighbor.specs.Heuristic.{offerBy}
 use Rattle.nearest_neighbor.proofs.greedy.best_stop.Statement.{statement}
 use Rattle.nearest_neighbor.proofs.greedy.best_stop.Tie as tie
 

@@ -1,6 +1,6 @@
 -- `nearest_neighbor::greedy::clock_at` meets its contract. Assumes nothing.
 use borrow.Author.Needs.{needs}
-use Rattle.nearest_neighbor.specs.Partial.{partialWith, onwardBy}
+use Rattle.nearest_neighbor.specs.Heuristic.{partialWith, onwardBy}
 use Rattle.nearest_neighbor.proofs.greedy.clock_at.Statement.{statement}
 use Rattle.nearest_neighbor.proofs.greedy.clock_at.Tie as tie
 

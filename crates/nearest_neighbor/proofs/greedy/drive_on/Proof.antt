@@ -1,8 +1,8 @@
 -- `nearest_neighbor::greedy::drive_on` meets its contract. Assumes nothing.
 use borrow.Author.Needs.{needs}
 use native.Mathlib.Omega.{arith}
-use Rattle.nearest_neighbor.specs.Partial.{partialWith}
-use Rattle.nearest_neighbor.proofs.Judging.{loaded}
+use Rattle.nearest_neighbor.specs.Heuristic.{partialWith}
+use Rattle.nearest_neighbor_choice.specs.Laws.Partial.{loaded}
 use Rattle.nearest_neighbor.proofs.Keeping.{stepped}
 use Rattle.nearest_neighbor.proofs.greedy.drive_on.Statement.{statement}
 use Rattle.nearest_neighbor.proofs.greedy.drive_on.Tie as tie

@@ -6,7 +6,7 @@ use borrow.Author.Needs.{needs}
 use Rattle.sheet.specs.Values.{vehicleOf}
 use Rattle.evaluation.specs.Limits.{limitsAt}
 use Rattle.evaluation.specs.declared.limits.RouteLimits.{RouteLimits}
-use Rattle.nearest_neighbor.specs.Partial.{emptyPartial}
+use Rattle.nearest_neighbor_choice.specs.Partial.{emptyPartial}
 use Rattle.nearest_neighbor.proofs.Growing.{Growing, begins, length-same, routed, rides, grown-full, inside, stop-row, goes-on, grown-out, ends-at, ends-laid}
 use Rattle.nearest_neighbor.proofs.greedy.grow_round.Statement.{statement}
 use Rattle.nearest_neighbor.proofs.greedy.grow_round.Tie as tie

@@ -1,0 +1,4 @@
+pub mod Choice
+pub mod Offers
+pub mod Partial
+pub mod Laws
