@@ -10,7 +10,7 @@ use Rattle.lists.specs.Count.{count}
 use Rattle.sorting.specs.Stable.{sorted}
 use Rattle.sorting.specs.Descending.{greater}
 use Rattle.sheet.specs.Values.{nought, distanceOf}
-use Rattle.evaluation.specs.Sums.{_⊕_, _⊖_}
+use Rattle.evaluation_clock.specs.Sums.{_⊕_, _⊖_}
 use Rattle.evaluation.specs.Feasible.{routeFeasible, effectiveCost}
 use Rattle.constructive.specs.declared.terms.Terms.{Terms}
 use Rattle.constructive.specs.Terms.{termsOf}

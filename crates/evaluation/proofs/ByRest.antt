@@ -3,7 +3,7 @@ use mathlib.Core.Path.{_≡_, sym}
 use Prim.Native.Nat.{ℕ}
 use mathlib.Core.List.{List}
 use Rattle.sheet.specs.declared.vehicle.Rest.{Rest}
-use Rattle.evaluation.specs.declared.clock.Scheduled.{Scheduled}
+use Rattle.evaluation_clock.specs.declared.clock.Scheduled.{Scheduled}
 use Rattle.evaluation.specs.declared.limits.RouteLimits.{RouteLimits}
 use Rattle.evaluation.specs.Walk.{scheduledOf}
 use Rattle.evaluation.specs.Verdict.{heldTo, verdictOn}

@@ -11,12 +11,13 @@ use Rattle.sheet.specs.Fields.{rowsOf}
 use Rattle.sheet.specs.Values.{nought, distanceOf, timeOf}
 use Rattle.sheet.specs.declared.vehicle.VehicleBreak.{VehicleBreak}
 use Rattle.sheet.specs.declared.vehicle.Rest.the-variants.{Required}
-use Rattle.evaluation.specs.declared.clock.Scheduled.the-variants.{NotFound}
-use Rattle.evaluation.specs.declared.clock.BreakClock.{BreakClock}
-use Rattle.evaluation.specs.declared.clock.Pushed.{Pushed}
-use Rattle.evaluation.specs.Sums.{_⊕_}
-use Rattle.evaluation.specs.Routed.{Routed, Clocked}
-use Rattle.evaluation.specs.Clock.{started, movedOf, aliveOf, finishOf, clockOf, breakClock, pushedOf}
+use Rattle.evaluation_clock.specs.declared.clock.Scheduled.the-variants.{NotFound}
+use Rattle.evaluation_clock.specs.declared.clock.BreakClock.{BreakClock}
+use Rattle.evaluation_clock.specs.declared.clock.Pushed.{Pushed}
+use Rattle.evaluation_clock.specs.Sums.{_⊕_}
+use Rattle.evaluation_clock.specs.Clocked.{Clocked}
+use Rattle.evaluation.specs.Routed.{Routed}
+use Rattle.evaluation_clock.specs.Clock.{started, movedOf, aliveOf, finishOf, clockOf, breakClock, pushedOf}
 use Rattle.evaluation.specs.Walk.{Position, driveTo, walkedOver, homeFrom, scheduledOf}
 use Rattle.evaluation.specs.Laws.Walk.{dead-over, dead-home}
 

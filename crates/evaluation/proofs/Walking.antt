@@ -14,16 +14,16 @@ use Rattle.sheet.specs.declared.customer.Gate.{Gate}
 use Rattle.sheet.specs.declared.customer.Gate.the-variants.{Open, Hard, Soft}
 use Rattle.sheet.specs.declared.customer.Stop.{Stop}
 use Rattle.sheet.specs.declared.vehicle.Rest.the-variants.{NoRest as restless}
-use Rattle.evaluation.specs.declared.label.RestAnswer.{RestAnswer}
-use Rattle.evaluation.specs.declared.label.RestAnswer.the-variants.{NoRest}
-use Rattle.evaluation.specs.declared.label.Label.{Label}
-use Rattle.evaluation.specs.declared.label.Served.{Served}
-use Rattle.evaluation.specs.declared.label.Served.the-variants.{Done, Refused}
-use Rattle.evaluation.specs.Sums.{_⊕_}
-use Rattle.evaluation.specs.Window.{violatedOf, latenessOf}
+use Rattle.evaluation_clock.specs.declared.label.RestAnswer.{RestAnswer}
+use Rattle.evaluation_clock.specs.declared.label.RestAnswer.the-variants.{NoRest}
+use Rattle.evaluation_clock.specs.declared.label.Label.{Label}
+use Rattle.evaluation_clock.specs.declared.label.Served.{Served}
+use Rattle.evaluation_clock.specs.declared.label.Served.the-variants.{Done, Refused}
+use Rattle.evaluation_clock.specs.Sums.{_⊕_}
+use Rattle.evaluation_clock.specs.Window.{violatedOf, latenessOf}
 use Rattle.evaluation.specs.Routed.{Routed}
-use Rattle.evaluation.specs.Serve.{leavingAt, lateBy, departureOf, pass, serveOf}
-use Rattle.evaluation.specs.Clock.{stepOf, takenOf, movedOf, aliveOf}
+use Rattle.evaluation_clock.specs.Serve.{leavingAt, lateBy, departureOf, pass, serveOf}
+use Rattle.evaluation_clock.specs.Clock.{stepOf, takenOf, movedOf, aliveOf}
 use Rattle.evaluation.specs.Walk.{Position, driveTo, walkedOver}
 use Rattle.evaluation.specs.Laws.Walk.{dead-over}
 

@@ -3,11 +3,11 @@ use Prim.Native.Nat.{ℕ}
 use mathlib.Core.Bool.{Bool, true, false}
 use mathlib.Core.List.{List}
 use lib.Ieee.{Float, inf}
-use Rattle.evaluation.specs.declared.clock.Schedule.{Schedule}
+use Rattle.evaluation_clock.specs.declared.clock.Schedule.{Schedule}
 use Rattle.evaluation.specs.declared.limits.RouteLimits.{RouteLimits}
 use Rattle.evaluation.specs.declared.RouteEval.{RouteEval}
 use Rattle.evaluation.specs.declared.RouteEval.the-variants.{Allowed, NotAllowed}
-use Rattle.evaluation.specs.Sums.{_⊕_}
+use Rattle.evaluation_clock.specs.Sums.{_⊕_}
 use Rattle.evaluation.specs.Verdict.{isFeasible, evalOf, verdictOn}
 
 -- "`route_feasible` passes the round"; the lateness that the walk sums on the way does not enter it

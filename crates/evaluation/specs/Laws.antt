@@ -1,5 +1,4 @@
 pub mod Limits
 pub mod Walk
 pub mod Verdict
-pub mod Bounds
 pub mod Finite

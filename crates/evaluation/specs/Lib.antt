@@ -1,8 +1,4 @@
-pub mod Sums
 pub mod Routed
-pub mod Window
-pub mod Serve
-pub mod Clock
 pub mod Walk
 pub mod Limits
 pub mod Verdict

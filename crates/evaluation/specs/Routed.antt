@@ -4,7 +4,6 @@ use mathlib.Core.List.{List}
 use lib.ListN.{length, getD}
 use Rattle.sheet.specs.Fields.{rowsOf, mostRows}
 use Rattle.sheet.specs.Accepted.{Accepted}
-use Rattle.evaluation.specs.declared.clock.BreakClock.{BreakClock}
 
 -- a round of rows of an accepted sheet, from a row as its depot; the rows of a depot's members are one too
 pub record Routed (s : List ℕ) (depot : ℕ) (route : List ℕ) : Type 0 where
@@ -12,9 +11,3 @@ pub record Routed (s : List ℕ) (depot : ℕ) (route : List ℕ) : Type 0 where
   pub home : depot < rowsOf s
   pub few : length route ≤ mostRows
   pub row : (k : ℕ) → k < length route → getD route k 0 < rowsOf s
-
--- a clock at a row of an accepted sheet, with room to count its next stop
-pub record Clocked (s : List ℕ) (c : BreakClock) : Type 0 where
-  pub sheet : Accepted s
-  pub from : c .prev < rowsOf s
-  pub room : c .place < 0xffff

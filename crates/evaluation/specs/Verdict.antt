@@ -5,17 +5,17 @@ use mathlib.Core.Bool.{Bool, true, false, cond}
 use mathlib.Core.List.{List}
 use lib.Ieee.{Float}
 use Rattle.sheet.specs.Values.{distanceOf, timeOf}
-use Rattle.evaluation.specs.declared.label.RestAnswer.{RestAnswer}
-use Rattle.evaluation.specs.declared.label.RestAnswer.the-variants.{NoRest}
-use Rattle.evaluation.specs.declared.clock.Schedule.{Schedule}
-use Rattle.evaluation.specs.declared.clock.Scheduled.{Scheduled}
-use Rattle.evaluation.specs.declared.clock.Scheduled.the-variants.{Found, NotFound}
+use Rattle.evaluation_clock.specs.declared.label.RestAnswer.{RestAnswer}
+use Rattle.evaluation_clock.specs.declared.label.RestAnswer.the-variants.{NoRest}
+use Rattle.evaluation_clock.specs.declared.clock.Schedule.{Schedule}
+use Rattle.evaluation_clock.specs.declared.clock.Scheduled.{Scheduled}
+use Rattle.evaluation_clock.specs.declared.clock.Scheduled.the-variants.{Found, NotFound}
 use Rattle.evaluation.specs.declared.limits.RouteLimits.{RouteLimits}
 use Rattle.evaluation.specs.declared.RouteEval.{RouteEval}
 use Rattle.evaluation.specs.declared.RouteEval.the-variants.{Allowed, NotAllowed}
-use Rattle.evaluation.specs.Sums.{_⊕_}
+use Rattle.evaluation_clock.specs.Sums.{_⊕_}
 use Rattle.evaluation.specs.Limits.{allowOf}
-use Rattle.evaluation.specs.Clock.{Clock, finishOf}
+use Rattle.evaluation_clock.specs.Clock.{Clock, finishOf}
 use Rattle.evaluation.specs.Walk.{Position, startAt, walkedOver}
 
 -- a schedule that keeps the limits, one that is over a limit, or none

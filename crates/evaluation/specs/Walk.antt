@@ -4,9 +4,9 @@ use mathlib.Core.List.{List, foldl}
 use lib.Ieee.{Float}
 use Rattle.sheet.specs.Values.{nought, distanceOf, timeOf}
 use Rattle.sheet.specs.declared.vehicle.Rest.{Rest}
-use Rattle.evaluation.specs.declared.clock.Scheduled.{Scheduled}
-use Rattle.evaluation.specs.Sums.{_⊕_}
-use Rattle.evaluation.specs.Clock.{Clock, started, nextOf, finishOf}
+use Rattle.evaluation_clock.specs.declared.clock.Scheduled.{Scheduled}
+use Rattle.evaluation_clock.specs.Sums.{_⊕_}
+use Rattle.evaluation_clock.specs.Clock.{Clock, started, nextOf, finishOf}
 
 -- the vehicle with its stops so far done: its clock, and the legs that it has driven
 pub record Position : Type 0 where

@@ -1,14 +1,11 @@
 // What a round is worth: its times, its lateness and its rest, and whether its vehicle allows it.
 pub mod checks;
-pub mod clock;
-pub mod label;
-pub mod lent;
+pub mod keeping;
 pub mod limits;
 pub mod schedule;
-pub mod window;
 
-use clock::Schedule;
-use clock::Scheduled;
+use evaluation_clock::clock::Schedule;
+use evaluation_clock::clock::Scheduled;
 use limits::RouteLimits;
 use sheet::vehicle::Rest;
 ghost use mathlib.Core.Path.{_≡_};

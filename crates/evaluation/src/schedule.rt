@@ -1,10 +1,10 @@
 // The walk of a round from `depot` and back, without a rest and with one.
-use crate::clock;
-use crate::clock::BreakClock;
-use crate::clock::Scheduled;
-use crate::label;
-use crate::label::RestAnswer;
-use crate::label::Served;
+use evaluation_clock::clock;
+use evaluation_clock::clock::BreakClock;
+use evaluation_clock::clock::Scheduled;
+use evaluation_clock::label;
+use evaluation_clock::label::RestAnswer;
+use evaluation_clock::label::Served;
 use sheet::customer;
 use sheet::matrix;
 use sheet::vehicle::VehicleBreak;

@@ -10,17 +10,17 @@ use lib.Ieee.{Float}
 use Rattle.sheet.specs.Fields.{rowsOf}
 use Rattle.sheet.specs.Values.{distanceOf, timeOf}
 use Rattle.sheet.specs.declared.vehicle.Rest.the-variants.{NoRest as restless}
-use Rattle.evaluation.specs.declared.label.RestAnswer.{RestAnswer}
-use Rattle.evaluation.specs.declared.label.RestAnswer.the-variants.{NoRest}
-use Rattle.evaluation.specs.declared.label.Label.{Label}
-use Rattle.evaluation.specs.declared.label.Served.the-variants.{Done}
-use Rattle.evaluation.specs.declared.clock.Scheduled.{Scheduled}
-use Rattle.evaluation.specs.declared.clock.Scheduled.the-variants.{Found, NotFound}
+use Rattle.evaluation_clock.specs.declared.label.RestAnswer.{RestAnswer}
+use Rattle.evaluation_clock.specs.declared.label.RestAnswer.the-variants.{NoRest}
+use Rattle.evaluation_clock.specs.declared.label.Label.{Label}
+use Rattle.evaluation_clock.specs.declared.label.Served.the-variants.{Done}
+use Rattle.evaluation_clock.specs.declared.clock.Scheduled.{Scheduled}
+use Rattle.evaluation_clock.specs.declared.clock.Scheduled.the-variants.{Found, NotFound}
 use Rattle.evaluation.specs.declared.limits.RouteLimits.{RouteLimits}
 use Rattle.evaluation_prefix.specs.declared.Prefix.{Prefix}
-use Rattle.evaluation.specs.Sums.{_⊕_}
+use Rattle.evaluation_clock.specs.Sums.{_⊕_}
 use Rattle.evaluation.specs.Routed.{Routed}
-use Rattle.evaluation.specs.Clock.{aliveOf, homeSchedule, unrested, returned}
+use Rattle.evaluation_clock.specs.Clock.{aliveOf, homeSchedule, unrested, returned}
 use Rattle.evaluation.specs.Walk.{Position, startAt, driveTo, walkedOver, homeFrom, scheduledOf}
 use Rattle.evaluation_prefix.specs.Prefix.{lostAt, labelBy, positionOf, PrefixOf, WalkedTo, WalkedBefore}
 use Rattle.evaluation.specs.Laws.Walk.{dead-over, dead-home}

@@ -7,12 +7,12 @@ use lib.ListN.{length, take}
 use Rattle.sheet.specs.Fields.{rowsOf}
 use Rattle.sheet.specs.Values.{nought}
 use Rattle.sheet.specs.declared.vehicle.Rest.the-variants.{NoRest as restless}
-use Rattle.evaluation.specs.declared.label.RestAnswer.the-variants.{NoRest}
-use Rattle.evaluation.specs.declared.label.Label.{Label}
-use Rattle.evaluation.specs.declared.label.Served.the-variants.{Done, Refused}
+use Rattle.evaluation_clock.specs.declared.label.RestAnswer.the-variants.{NoRest}
+use Rattle.evaluation_clock.specs.declared.label.Label.{Label}
+use Rattle.evaluation_clock.specs.declared.label.Served.the-variants.{Done, Refused}
 use Rattle.evaluation.specs.declared.limits.RouteLimits.{RouteLimits}
 use Rattle.evaluation_prefix.specs.declared.Prefix.{Prefix}
-use Rattle.evaluation.specs.Clock.{aliveOf}
+use Rattle.evaluation_clock.specs.Clock.{aliveOf}
 use Rattle.evaluation.specs.Walk.{Position, startAt, walkedOver}
 
 -- "It leaves the vehicle's depot at 0."

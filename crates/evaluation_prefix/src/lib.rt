@@ -1,12 +1,12 @@
 // A round walked up to some place without a rest: what all rounds with the same first stops have in common.
 use evaluation::RouteEval;
-use evaluation::clock;
-use evaluation::clock::Scheduled;
-use evaluation::label;
-use evaluation::label::Label;
-use evaluation::label::RestAnswer;
-use evaluation::label::Served;
 use evaluation::limits::RouteLimits;
+use evaluation_clock::clock;
+use evaluation_clock::clock::Scheduled;
+use evaluation_clock::label;
+use evaluation_clock::label::Label;
+use evaluation_clock::label::RestAnswer;
+use evaluation_clock::label::Served;
 use sheet::customer;
 use sheet::matrix;
 use sheet::vehicle::Rest;

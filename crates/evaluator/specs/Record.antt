@@ -10,12 +10,12 @@ use Rattle.sheet.specs.declared.customer.Gate.the-variants.{Open, Hard, Soft}
 use Rattle.sheet.specs.declared.vehicle.Rest.{Rest}
 use Rattle.sheet.specs.declared.vehicle.Rest.the-variants.{NoRest, Required}
 use Rattle.sheet.specs.declared.vehicle.Vehicle.{Vehicle}
-use Rattle.evaluation.specs.Sums.{_⊕_, _⊗_}
-use Rattle.evaluation.specs.Window.{violatedOf, latenessOf}
-use Rattle.evaluation.specs.Serve.{departureOf}
+use Rattle.evaluation_clock.specs.Sums.{_⊕_, _⊗_}
+use Rattle.evaluation_clock.specs.Window.{violatedOf, latenessOf}
+use Rattle.evaluation_clock.specs.Serve.{departureOf}
 use Rattle.evaluation.specs.Verdict.{Verdict, verdictOn, placedRest}
-use Rattle.evaluation.specs.declared.label.RestAnswer.{RestAnswer}
-use Rattle.evaluation.specs.declared.label.RestAnswer.the-variants.{NoRest as Unrested, Before}
+use Rattle.evaluation_clock.specs.declared.label.RestAnswer.{RestAnswer}
+use Rattle.evaluation_clock.specs.declared.label.RestAnswer.the-variants.{NoRest as Unrested, Before}
 use Rattle.evaluation.specs.declared.limits.RouteLimits.{RouteLimits}
 use Rattle.evaluator.specs.declared.Progress.{Progress}
 use Rattle.evaluator.specs.declared.Record.{Record}

@@ -1,9 +1,9 @@
 // A round's record: what each stop's visit and the whole round come to, and what a plan costs.
-use evaluation::clock::Scheduled;
-use evaluation::label::RestAnswer;
 use evaluation::limits::RouteLimits;
 use evaluation::schedule;
-use evaluation::window;
+use evaluation_clock::clock::Scheduled;
+use evaluation_clock::label::RestAnswer;
+use evaluation_clock::window;
 use sheet::customer;
 use sheet::customer::Gate;
 use sheet::matrix;

@@ -5,7 +5,7 @@ use mathlib.Core.List.{List, [], _∷_}
 use lib.ListN.{length}
 use lib.Ieee.{Float, lt}
 use Rattle.lists.specs.Moved.{inserted}
-use Rattle.evaluation.specs.Sums.{_⊖_}
+use Rattle.evaluation_clock.specs.Sums.{_⊖_}
 use Rattle.evaluation.specs.Limits.{limitsAt}
 use Rattle.evaluation.specs.Feasible.{effectiveCost}
 use Rattle.constructive.specs.Outcome.{Round}

@@ -14,7 +14,7 @@ use Rattle.numbers.specs.Laws.Range.{zero-upto}
 use Rattle.sheet.specs.Fields.{rowsOf, vehiclesOf}
 use Rattle.sheet.specs.Laws.Finite.{demand-bounded}
 use Rattle.sheet.specs.Values.{nought, demandOf, vehicleOf}
-use Rattle.evaluation.specs.Sums.{_⊕_, _⊖_}
+use Rattle.evaluation_clock.specs.Sums.{_⊕_, _⊖_}
 use Rattle.evaluation.specs.Limits.{limitsAt, isUnlimited}
 use Rattle.evaluation.specs.Routed.{Routed}
 use Rattle.constructive.specs.Load.{loadOf}

@@ -12,7 +12,7 @@ use lib.Ieee.Exact.{HasValue, odd-sign}
 use Rattle.numbers.specs.Laws.Upto.{Upto, Exact, exact-scaled, round-upto}
 use Rattle.sheet.specs.Fields.{vehiclesOf}
 use Rattle.sheet.specs.Laws.Finite.{vehicle-bounded}
-use Rattle.evaluation.specs.Sums.{_⊕_, _⊖_}
+use Rattle.evaluation_clock.specs.Sums.{_⊕_, _⊖_}
 use Rattle.evaluation.specs.Limits.{limitsAt}
 use Rattle.evaluation.specs.Laws.Limits.{limits-rest}
 use Rattle.evaluation.specs.Routed.{Routed}

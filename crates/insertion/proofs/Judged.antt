@@ -12,10 +12,10 @@ use Rattle.lists.specs.Moved.{inserted}
 use Rattle.lists.specs.Laws.Moved.{inserted-every}
 use Rattle.sheet.specs.Fields.{rowsOf}
 use Rattle.evaluation.specs.Routed.{Routed}
-use Rattle.evaluation.specs.Sums.{_⊖_}
+use Rattle.evaluation_clock.specs.Sums.{_⊖_}
 use Rattle.evaluation.specs.Feasible.{isAllowed, routeEval, pricedDistance, costOf, effectiveCost}
 use Rattle.evaluation.specs.Laws.Verdict.{allowed-feasible}
-use Rattle.evaluation.specs.declared.clock.Schedule.{Schedule}
+use Rattle.evaluation_clock.specs.declared.clock.Schedule.{Schedule}
 use Rattle.evaluation.specs.declared.RouteEval.{RouteEval}
 use Rattle.evaluation.specs.declared.RouteEval.the-variants.{Allowed, NotAllowed}
 use Rattle.constructive.specs.Unchecked.{Windowless}

@@ -7,7 +7,7 @@ use lib.ListN.{length, getD}
 use lib.Ieee.{Float, lt, le}
 use Rattle.lists.specs.Moved.{inserted}
 use Rattle.sheet.specs.Values.{demandOf, distanceOf}
-use Rattle.evaluation.specs.Sums.{_⊕_, _⊖_}
+use Rattle.evaluation_clock.specs.Sums.{_⊕_, _⊖_}
 use Rattle.evaluation.specs.Feasible.{routeFeasible, effectiveCost}
 use Rattle.constructive.specs.Load.{loadOf}
 use Rattle.constructive.specs.declared.terms.Terms.{Terms}

@@ -10,7 +10,7 @@ use Rattle.sheet.specs.Fields.{mostRows}
 use Rattle.lists.specs.Every.{Every}
 use Rattle.lists.specs.Moved.{inserted}
 use Rattle.sheet.specs.Values.{nought}
-use Rattle.evaluation.specs.Sums.{_⊕_, _⊖_}
+use Rattle.evaluation_clock.specs.Sums.{_⊕_, _⊖_}
 use Rattle.evaluation.specs.Limits.{isUnlimited}
 use Rattle.evaluation.specs.Routed.{Routed}
 use Rattle.constructive.specs.Unchecked.{Windowless}

@@ -6,9 +6,9 @@ use mathlib.Core.List.{List, [], _∷_}
 use lib.Dec.{T, eqb}
 use lib.ListN.{length}
 use lib.Ieee.{binary64, fits}
-use Rattle.evaluation.specs.Serve.{restPlace, restStart}
-use Rattle.evaluation.specs.declared.clock.Schedule.{Schedule}
-use Rattle.evaluation.specs.declared.label.RestAnswer.{RestAnswer}
+use Rattle.evaluation_clock.specs.Serve.{restPlace, restStart}
+use Rattle.evaluation_clock.specs.declared.clock.Schedule.{Schedule}
+use Rattle.evaluation_clock.specs.declared.label.RestAnswer.{RestAnswer}
 use Rattle.evaluator.specs.declared.Placed.{Placed}
 use Rattle.evaluator.specs.declared.Progress.{Progress}
 use Rattle.evaluator.specs.Record.{visitedOf}

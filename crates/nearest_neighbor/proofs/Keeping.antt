@@ -16,8 +16,8 @@ use Rattle.sheet.specs.declared.vehicle.VehicleBreak.{VehicleBreak}
 use Rattle.sheet.specs.declared.vehicle.Rest.{Rest}
 use Rattle.sheet.specs.declared.vehicle.Rest.the-variants.{NoRest, Required}
 use Rattle.sheet.specs.declared.vehicle.Vehicle.{Vehicle}
-use Rattle.evaluation.specs.Sums.{_⊕_}
-use Rattle.evaluation.specs.Clock.{Clock, nextOf, clockOf, breakClock}
+use Rattle.evaluation_clock.specs.Sums.{_⊕_}
+use Rattle.evaluation_clock.specs.Clock.{Clock, nextOf, clockOf, breakClock}
 use Rattle.evaluation.specs.Walk.{startAt as atStart, walkedOver}
 use Rattle.evaluation.specs.Limits.{limitsAt}
 use Rattle.evaluation.specs.Verdict.{verdictOf, isFeasible}

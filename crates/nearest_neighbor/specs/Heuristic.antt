@@ -4,7 +4,7 @@ use mathlib.Core.List.{List}
 use lib.Ieee.{Float}
 use Rattle.sheet.specs.Values.{demandOf, distanceOf}
 use Rattle.sheet.specs.declared.vehicle.Vehicle.{Vehicle}
-use Rattle.evaluation.specs.Sums.{_⊕_}
+use Rattle.evaluation_clock.specs.Sums.{_⊕_}
 use Rattle.evaluation.specs.declared.limits.RouteLimits.{RouteLimits}
 use Rattle.nearest_neighbor_choice.specs.declared.partial.Partial.{Partial}
 use Rattle.nearest_neighbor_choice.specs.Choice.{Offer}

@@ -3,7 +3,7 @@ use Prim.Native.Nat.{ℕ, _+_}
 use mathlib.Core.Bool.{Bool}
 use mathlib.Core.List.{List, [], _∷_, _++_}
 use Rattle.sheet.specs.Values.{demandOf, stopOf, vehicleOf, distanceOf, timeOf}
-use Rattle.evaluation.specs.Sums.{_⊕_}
+use Rattle.evaluation_clock.specs.Sums.{_⊕_}
 use Rattle.evaluation.specs.Limits.{limitsAt}
 use Rattle.evaluation.specs.Checks.{hasSoftWindows}
 use Rattle.constructive.specs.Outcome.{Outcome}

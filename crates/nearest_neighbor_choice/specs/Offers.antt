@@ -10,8 +10,8 @@ use Rattle.sheet.specs.declared.customer.Gate.the-variants.{Open, Hard, Soft}
 use Rattle.sheet.specs.declared.vehicle.Rest.{Rest}
 use Rattle.sheet.specs.declared.vehicle.Rest.the-variants.{NoRest, Required}
 use Rattle.sheet.specs.declared.vehicle.Vehicle.{Vehicle}
-use Rattle.evaluation.specs.Sums.{_⊕_, _⊖_, _⊗_}
-use Rattle.evaluation.specs.Window.{waitingOf, latenessOf}
+use Rattle.evaluation_clock.specs.Sums.{_⊕_, _⊖_, _⊗_}
+use Rattle.evaluation_clock.specs.Window.{waitingOf, latenessOf}
 use Rattle.evaluation.specs.Limits.{allowOf}
 use Rattle.evaluation.specs.declared.limits.RouteLimits.{RouteLimits}
 use Rattle.evaluation.specs.Feasible.{routeFeasible, effectiveCost}

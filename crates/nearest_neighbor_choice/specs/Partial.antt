@@ -10,10 +10,10 @@ use Rattle.sheet.specs.Values.{nought, stopOf, distanceOf, timeOf, fixedInDista
 use Rattle.sheet.specs.declared.vehicle.Rest.{Rest}
 use Rattle.sheet.specs.declared.vehicle.Rest.the-variants.{NoRest, Required}
 use Rattle.sheet.specs.declared.vehicle.Vehicle.{Vehicle}
-use Rattle.evaluation.specs.Sums.{_⊕_, _⊗_}
-use Rattle.evaluation.specs.Clock.{started, nextOf, clockOf, breakClock, nextBy}
+use Rattle.evaluation_clock.specs.Sums.{_⊕_, _⊗_}
+use Rattle.evaluation_clock.specs.Clock.{started, nextOf, clockOf, breakClock, nextBy}
 use Rattle.evaluation.specs.Limits.{allowOf}
-use Rattle.evaluation.specs.Routed.{Clocked}
+use Rattle.evaluation_clock.specs.Clocked.{Clocked}
 use Rattle.evaluation.specs.Verdict.{verdictOf, isFeasible}
 use Rattle.evaluation.specs.Feasible.{effectiveCost}
 use Rattle.evaluation.specs.declared.limits.RouteLimits.{RouteLimits}

@@ -11,7 +11,7 @@ ghost use mathlib.Core.Path.{_≡_};
 ghost use Prim.Native.Nat.{_<_};
 ghost use Rattle.sheet.specs.Fields.{rowsOf};
 ghost use Rattle.evaluation.specs.Routed.{Routed};
-ghost use Rattle.evaluation.specs.Sums.{_⊕_};
+ghost use Rattle.evaluation_clock.specs.Sums.{_⊕_};
 ghost use Rattle.sheet.specs.Values.{stopOf, timeOf};
 ghost use Rattle.nearest_neighbor_choice.specs.declared.choice.StopChoice.the-variants.{NoStop};
 ghost use Rattle.nearest_neighbor_choice.specs.Choice.{betterStop, choose};

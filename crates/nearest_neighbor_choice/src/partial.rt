@@ -1,6 +1,7 @@
 // A round so far, with what a next stop is judged by.
-use evaluation::clock::BreakClock;
+use evaluation::keeping;
 use evaluation::limits::RouteLimits;
+use evaluation_clock::clock::BreakClock;
 use sheet::customer;
 use sheet::vehicle::Rest;
 use sheet::vehicle::Vehicle;
@@ -86,6 +87,13 @@ pub fn allows(
 {
     match kept {
         PartialClock::NoClock => limits.allow(distance, duration),
-        PartialClock::Kept(clock) => clock.keeps_with(sheet, row, depot, distance, limits),
+        PartialClock::Kept(clock) => keeping::keeps_with(
+            clock,
+            sheet,
+            row,
+            depot,
+            distance,
+            limits,
+        ),
     }
 }

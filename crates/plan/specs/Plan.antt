@@ -8,7 +8,7 @@ use Rattle.wire.specs.Bytes.{bytes, write}
 use Rattle.sheet.specs.Fields.{rowsOf, planLength}
 use Rattle.sheet.specs.Values.{nought, vehicleOf}
 use Rattle.sheet.specs.declared.vehicle.Vehicle.{Vehicle}
-use Rattle.evaluation.specs.Serve.{restPlace, restStart}
+use Rattle.evaluation_clock.specs.Serve.{restPlace, restStart}
 use Rattle.evaluation.specs.Limits.{limitsAt}
 use Rattle.evaluation.specs.declared.limits.RouteLimits.{RouteLimits}
 use Rattle.evaluator.specs.Record.{placedOf, beginOf, visitedOf, buildRoute, priceStart, priceWith}

@@ -4,7 +4,7 @@ use Prim.Native.Nat.{ℕ, _+_}
 use mathlib.Core.List.{List}
 use Rattle.wire.specs.Bytes.{u16At, u32At, f64At}
 use Rattle.sheet.specs.Values.{vehicleOf}
-use Rattle.evaluation.specs.Serve.{restPlace, restStart}
+use Rattle.evaluation_clock.specs.Serve.{restPlace, restStart}
 use Rattle.evaluation.specs.Limits.{limitsAt}
 use Rattle.evaluator.specs.declared.Record.{Record}
 use Rattle.evaluator.specs.Record.{buildRoute}

@@ -9,7 +9,7 @@ use Rattle.sheet.specs.Fields.{rowsOf}
 use Rattle.sheet.specs.Values.{vehicleOf}
 use Rattle.sheet.specs.declared.vehicle.Vehicle.{Vehicle}
 use Rattle.sheet.specs.Accepted.{Sized}
-use Rattle.evaluation.specs.Serve.{restStart}
+use Rattle.evaluation_clock.specs.Serve.{restStart}
 use Rattle.evaluation.specs.Limits.{limitsAt}
 use Rattle.evaluation.specs.declared.limits.RouteLimits.{RouteLimits}
 use Rattle.evaluator.specs.Record.{placedOf, beginOf, visitedOf, buildRoute, priceStart}

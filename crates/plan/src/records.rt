@@ -1,12 +1,12 @@
 // The records of a plan, each written at its place.
-use evaluation::label::RestAnswer;
+use evaluation_clock::label::RestAnswer;
 use evaluator::Progress;
 use evaluator::Record;
 ghost use mathlib.Core.Path.{_≡_};
 ghost use Prim.Native.Nat.{_+_, _≤_};
 ghost use lib.ListN.{length, replicate};
 ghost use Rattle.wire.specs.Bytes.{write};
-ghost use Rattle.evaluation.specs.Serve.{restPlace, restStart};
+ghost use Rattle.evaluation_clock.specs.Serve.{restPlace, restStart};
 ghost use Rattle.plan.specs.Plan.{visitBytes, roundCounts, roundFigures, roundBytes, headerBytes};
 ghost use Rattle.plan.specs.Writable.{Number, VisitWritable, RecordWritable};
 

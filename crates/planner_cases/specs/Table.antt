@@ -8,10 +8,10 @@ use Rattle.wire.specs.Bytes.{bytes}
 use Rattle.sheet.specs.Fields.{vehicleAt}
 use Rattle.sheet.specs.Values.{restAfter}
 use Rattle.sheet.specs.SheetA.{f1, f10, f64s, sheetHeader, stopRows, tableBytes, sheetA, sheetCarrying}
-use Rattle.evaluation.specs.Serve.{restPlace}
+use Rattle.evaluation_clock.specs.Serve.{restPlace}
 use Rattle.evaluation.specs.Walk.{scheduledOf}
-use Rattle.evaluation.specs.declared.clock.Scheduled.{Scheduled}
-use Rattle.evaluation.specs.declared.clock.Scheduled.the-variants.{Found, NotFound}
+use Rattle.evaluation_clock.specs.declared.clock.Scheduled.{Scheduled}
+use Rattle.evaluation_clock.specs.declared.clock.Scheduled.the-variants.{Found, NotFound}
 use Rattle.clarke_wright_savings.specs.Laws.Cases.{relative, within}
 use Rattle.solomon_i1.specs.Laws.Cases.{due}
 use Rattle.planner.specs.Answer.{planned, answerOf}

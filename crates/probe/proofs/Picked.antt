@@ -4,8 +4,8 @@ use mathlib.Core.List.{[], _∷_}
 use Prim.Native.Nat.{ℕ}
 use lib.ListN.{getD}
 use lib.Ieee.{Float, nan}
-use Rattle.evaluation.specs.declared.label.RestAnswer.{RestAnswer}
-use Rattle.evaluation.specs.Serve.{restPlace, restStart}
+use Rattle.evaluation_clock.specs.declared.label.RestAnswer.{RestAnswer}
+use Rattle.evaluation_clock.specs.Serve.{restPlace, restStart}
 use Rattle.probe.specs.Figures.{sixOf, wholeFigure}
 
 pub picked : (a b c d : Float) (rest : RestAnswer) (place start : Float) (n : ℕ) → place ≡ wholeFigure (restPlace rest) → start ≡ restStart rest → getD (a ∷ b ∷ c ∷ d ∷ place ∷ start ∷ []) n nan ≡ getD (sixOf a b c d rest) n nan

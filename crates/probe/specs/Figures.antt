@@ -8,12 +8,12 @@ use lib.ListN.{length, getD, take}
 use lib.Ieee.{Float, nan, binary64, ofBits, ofInt}
 use Rattle.sheet.specs.Fields.{rowsOf}
 use Rattle.sheet.specs.Values.{vehicleOf}
-use Rattle.evaluation.specs.declared.clock.Schedule.{Schedule}
-use Rattle.evaluation.specs.declared.label.RestAnswer.{RestAnswer}
+use Rattle.evaluation_clock.specs.declared.clock.Schedule.{Schedule}
+use Rattle.evaluation_clock.specs.declared.label.RestAnswer.{RestAnswer}
 use Rattle.evaluation.specs.declared.limits.RouteLimits.{RouteLimits}
 use Rattle.evaluation.specs.declared.RouteEval.{RouteEval}
 use Rattle.evaluation.specs.declared.RouteEval.the-variants.{Allowed, NotAllowed}
-use Rattle.evaluation.specs.Serve.{restPlace, restStart}
+use Rattle.evaluation_clock.specs.Serve.{restPlace, restStart}
 use Rattle.evaluation.specs.Limits.{limitsAt}
 use Rattle.evaluation.specs.Feasible.{routeEval}
 use Rattle.evaluator.specs.declared.Progress.{Progress}

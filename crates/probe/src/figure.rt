@@ -1,7 +1,7 @@
 // Single figures of a round.
 use evaluation::RouteEval;
-use evaluation::label::RestAnswer;
 use evaluation::limits::RouteLimits;
+use evaluation_clock::label::RestAnswer;
 use evaluator::Placed;
 use evaluator::Progress;
 use evaluator::Record;
@@ -9,7 +9,7 @@ ghost use mathlib.Core.Path.{_≡_};
 ghost use Prim.Native.Nat.{_<_};
 ghost use lib.ListN.{getD};
 ghost use lib.Ieee.{nan};
-ghost use Rattle.evaluation.specs.Serve.{restPlace, restStart};
+ghost use Rattle.evaluation_clock.specs.Serve.{restPlace, restStart};
 ghost use Rattle.evaluation.specs.Routed.{Routed};
 ghost use Rattle.evaluator.specs.Record.{beginOf, progressOf};
 ghost use Rattle.probe.specs.Figures.{sixOf, evalFigure, recordFigure, visitFigure, visitFigures, figureOf};

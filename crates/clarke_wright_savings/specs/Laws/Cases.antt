@@ -13,8 +13,8 @@ use Rattle.sorting.specs.Stable.{insert, sorted}
 use Rattle.sheet.specs.Fields.{rowsOf, vehiclesOf, rowMarks, vehicleMarks, marked}
 use Rattle.sheet.specs.Values.{gateAt, demandOf, stopOf, limitAt, restAfter, vehicleOf, distanceOf, fixedInDistance}
 use Rattle.sheet.specs.SheetA.{f1, f3, f64s, sheetHeader, stopRows, tableBytes, sheetA}
-use Rattle.evaluation.specs.Serve.{pass, serveOf}
-use Rattle.evaluation.specs.Clock.{stepOf, takenOf, movedOf, unrested, returned}
+use Rattle.evaluation_clock.specs.Serve.{pass, serveOf}
+use Rattle.evaluation_clock.specs.Clock.{stepOf, takenOf, movedOf, unrested, returned}
 use Rattle.evaluation.specs.Walk.{driveTo}
 use Rattle.evaluation.specs.Limits.{limitsAt, isUnlimited, allowOf}
 use Rattle.evaluation.specs.Verdict.{heldTo, verdictOf, verdictFrom}

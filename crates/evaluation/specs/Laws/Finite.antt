@@ -18,27 +18,27 @@ use Rattle.sheet.specs.declared.customer.Stop.{Stop}
 use Rattle.sheet.specs.declared.vehicle.VehicleBreak.{VehicleBreak}
 use Rattle.sheet.specs.declared.vehicle.Rest.{Rest}
 use Rattle.sheet.specs.declared.vehicle.Rest.the-variants.{NoRest as restless, Required}
-use Rattle.evaluation.specs.declared.label.RestAnswer.{RestAnswer}
-use Rattle.evaluation.specs.declared.label.RestAnswer.the-variants.{NoRest, Before}
-use Rattle.evaluation.specs.declared.label.Label.{Label}
-use Rattle.evaluation.specs.declared.label.Served.{Served}
-use Rattle.evaluation.specs.declared.label.Served.the-variants.{Done, Refused}
-use Rattle.evaluation.specs.declared.clock.Schedule.{Schedule}
-use Rattle.evaluation.specs.declared.clock.Scheduled.{Scheduled}
-use Rattle.evaluation.specs.declared.clock.Scheduled.the-variants.{Found, NotFound}
+use Rattle.evaluation_clock.specs.declared.label.RestAnswer.{RestAnswer}
+use Rattle.evaluation_clock.specs.declared.label.RestAnswer.the-variants.{NoRest, Before}
+use Rattle.evaluation_clock.specs.declared.label.Label.{Label}
+use Rattle.evaluation_clock.specs.declared.label.Served.{Served}
+use Rattle.evaluation_clock.specs.declared.label.Served.the-variants.{Done, Refused}
+use Rattle.evaluation_clock.specs.declared.clock.Schedule.{Schedule}
+use Rattle.evaluation_clock.specs.declared.clock.Scheduled.{Scheduled}
+use Rattle.evaluation_clock.specs.declared.clock.Scheduled.the-variants.{Found, NotFound}
 use Rattle.evaluation.specs.declared.limits.RouteLimits.{RouteLimits}
 use Rattle.evaluation.specs.declared.RouteEval.{RouteEval}
 use Rattle.evaluation.specs.declared.RouteEval.the-variants.{Allowed, NotAllowed}
-use Rattle.evaluation.specs.Sums.{_⊕_}
+use Rattle.evaluation_clock.specs.Sums.{_⊕_}
 use Rattle.evaluation.specs.Routed.{Routed}
-use Rattle.evaluation.specs.Serve.{restStart, atDepot}
-use Rattle.evaluation.specs.Clock.{Clock, stepOf, stepRested, winsOver, earlierOf, takenOf, movedOf, homeSchedule, unrested, endOf, homeward, returned}
+use Rattle.evaluation_clock.specs.Serve.{restStart, atDepot}
+use Rattle.evaluation_clock.specs.Clock.{Clock, stepOf, stepRested, winsOver, earlierOf, takenOf, movedOf, homeSchedule, unrested, endOf, homeward, returned}
 use Rattle.evaluation.specs.Walk.{Position, startAt, driveTo, walkedOver, homeFrom, scheduledOf}
 use Rattle.evaluation.specs.Limits.{allowOf}
 use Rattle.evaluation.specs.Verdict.{Verdict, allowed, overLimit, heldTo, evalOf}
 use Rattle.evaluation.specs.Feasible.{routeEval, pricedDistance, costOf, effectiveCost}
 use Rattle.evaluation.specs.Laws.Verdict.{verdict-scheduled}
-use Rattle.evaluation.specs.Laws.Bounds.{Times, one-time, AnswerBounded, LabelBounded, ServedBounded, serve-bounded, rested-bounded}
+use Rattle.evaluation_clock.specs.Laws.Bounds.{Times, one-time, AnswerBounded, LabelBounded, ServedBounded, serve-bounded, rested-bounded}
 
 -- ---- one stop of the clock
 pub step-bounded : (a b : ℕ) (x : Served) (travel : Float) (s : Stop) → a ≤ 996 → b + 1000 < 2 ^ 40 → ServedBounded a b x → Times 1 travel → StopBounded s → ServedBounded (a + 4) (b + 1000) (stepOf x travel s)

@@ -12,17 +12,17 @@ use Rattle.sheet.specs.declared.vehicle.Limit.{Limit}
 use Rattle.sheet.specs.declared.vehicle.Limit.the-variants.{Unlimited, Max}
 use Rattle.sheet.specs.declared.vehicle.Rest.{Rest}
 use Rattle.sheet.specs.declared.vehicle.Rest.the-variants.{NoRest as restless, Required}
-use Rattle.evaluation.specs.declared.label.RestAnswer.the-variants.{NoRest}
-use Rattle.evaluation.specs.declared.label.Label.{Label}
-use Rattle.evaluation.specs.declared.label.Served.the-variants.{Done}
-use Rattle.evaluation.specs.declared.clock.Schedule.{Schedule}
-use Rattle.evaluation.specs.declared.clock.Scheduled.{Scheduled}
-use Rattle.evaluation.specs.declared.clock.Scheduled.the-variants.{Found, NotFound}
+use Rattle.evaluation_clock.specs.declared.label.RestAnswer.the-variants.{NoRest}
+use Rattle.evaluation_clock.specs.declared.label.Label.{Label}
+use Rattle.evaluation_clock.specs.declared.label.Served.the-variants.{Done}
+use Rattle.evaluation_clock.specs.declared.clock.Schedule.{Schedule}
+use Rattle.evaluation_clock.specs.declared.clock.Scheduled.{Scheduled}
+use Rattle.evaluation_clock.specs.declared.clock.Scheduled.the-variants.{Found, NotFound}
 use Rattle.evaluation.specs.declared.limits.RouteLimits.{RouteLimits}
 use Rattle.evaluation.specs.declared.RouteEval.the-variants.{Allowed}
-use Rattle.evaluation.specs.Sums.{_⊕_}
-use Rattle.evaluation.specs.Serve.{leavingAt, pass, serveOf}
-use Rattle.evaluation.specs.Clock.{Clock, stepOf, movedOf, nextOf, homeSchedule, unrested, returned}
+use Rattle.evaluation_clock.specs.Sums.{_⊕_}
+use Rattle.evaluation_clock.specs.Serve.{leavingAt, pass, serveOf}
+use Rattle.evaluation_clock.specs.Clock.{Clock, stepOf, movedOf, nextOf, homeSchedule, unrested, returned}
 use Rattle.evaluation.specs.Walk.{Position, startAt, driveTo, walkedOver, homeFrom, scheduledOf}
 use Rattle.evaluation.specs.Limits.{noMaximum, noRest, isUnlimited, withinOf, allowOf}
 use Rattle.evaluation.specs.Checks.{windowed, rowWindowed, someWindowed}

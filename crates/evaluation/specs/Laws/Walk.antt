@@ -13,13 +13,13 @@ use Rattle.sheet.specs.declared.customer.Stop.{Stop}
 use Rattle.sheet.specs.declared.vehicle.VehicleBreak.{VehicleBreak}
 use Rattle.sheet.specs.declared.vehicle.Rest.{Rest}
 use Rattle.sheet.specs.declared.vehicle.Rest.the-variants.{NoRest as restless, Required}
-use Rattle.evaluation.specs.declared.label.RestAnswer.the-variants.{NoRest}
-use Rattle.evaluation.specs.declared.label.Served.{Served}
-use Rattle.evaluation.specs.declared.label.Served.the-variants.{Done, Refused}
-use Rattle.evaluation.specs.declared.clock.Schedule.{Schedule}
-use Rattle.evaluation.specs.declared.clock.Scheduled.the-variants.{Found, NotFound}
-use Rattle.evaluation.specs.Sums.{_⊕_}
-use Rattle.evaluation.specs.Clock.{Clock, stepOf, stepRested, earlierOf, takenOf, movedOf, served, aliveOf, nextOf, homeSchedule, unrested, endOf, homeward, returned, finishOf, clockOf, breakClock}
+use Rattle.evaluation_clock.specs.declared.label.RestAnswer.the-variants.{NoRest}
+use Rattle.evaluation_clock.specs.declared.label.Served.{Served}
+use Rattle.evaluation_clock.specs.declared.label.Served.the-variants.{Done, Refused}
+use Rattle.evaluation_clock.specs.declared.clock.Schedule.{Schedule}
+use Rattle.evaluation_clock.specs.declared.clock.Scheduled.the-variants.{Found, NotFound}
+use Rattle.evaluation_clock.specs.Sums.{_⊕_}
+use Rattle.evaluation_clock.specs.Clock.{Clock, stepOf, stepRested, earlierOf, takenOf, movedOf, served, aliveOf, nextOf, homeSchedule, unrested, endOf, homeward, returned, finishOf, clockOf, breakClock}
 use Rattle.evaluation.specs.Walk.{Position, startAt, driveTo, walkedOver, homeFrom, scheduledOf}
 
 -- ---- once no label is left none comes back

@@ -4,7 +4,7 @@ use borrow.Author.Needs.{needs}
 use Rattle.sheet.specs.declared.vehicle.VehicleBreak.{VehicleBreak}
 use Rattle.sheet.specs.declared.vehicle.Rest.{Rest}
 use Rattle.sheet.specs.declared.vehicle.Rest.the-variants.{Required}
-use Rattle.evaluation.specs.declared.label.RestAnswer.{RestAnswer}
+use Rattle.evaluation_clock.specs.declared.label.RestAnswer.{RestAnswer}
 use Rattle.evaluation.specs.Verdict.{Verdict, placedRest}
 use Rattle.evaluation.proofs.ByRest.{by-rest}
 use Rattle.evaluator.specs.Record.{placedBy, placedOf}

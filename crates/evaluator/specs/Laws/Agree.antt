@@ -12,22 +12,22 @@ use Rattle.sheet.specs.declared.customer.Gate.the-variants.{Open, Hard, Soft}
 use Rattle.sheet.specs.declared.vehicle.VehicleBreak.{VehicleBreak}
 use Rattle.sheet.specs.declared.vehicle.Rest.{Rest}
 use Rattle.sheet.specs.declared.vehicle.Rest.the-variants.{NoRest as Unrested, Required}
-use Rattle.evaluation.specs.Sums.{_⊕_}
-use Rattle.evaluation.specs.Window.{violatedOf}
+use Rattle.evaluation_clock.specs.Sums.{_⊕_}
+use Rattle.evaluation_clock.specs.Window.{violatedOf}
 use Rattle.evaluation.specs.Verdict.{heldTo, verdictOn, placedRest}
 use Rattle.evaluation.specs.Feasible.{routeEval}
 use Rattle.evaluation.specs.declared.limits.RouteLimits.{RouteLimits}
 use Rattle.evaluation.specs.declared.RouteEval.the-variants.{Allowed}
-use Rattle.evaluation.specs.Serve.{pass, leavingAt, departureOf, laterOf, restedAt, serveOf, serveRested}
-use Rattle.evaluation.specs.Clock.{Clock, stepOf, stepRested, winsOver, earlierOf, takenOf, movedOf, homeSchedule, unrested, endOf, homeward, returned}
-use Rattle.evaluation.specs.declared.label.Label.{Label}
-use Rattle.evaluation.specs.declared.label.RestAnswer.{RestAnswer}
-use Rattle.evaluation.specs.declared.label.RestAnswer.the-variants.{NoRest, Before}
-use Rattle.evaluation.specs.declared.label.Served.{Served}
-use Rattle.evaluation.specs.declared.label.Served.the-variants.{Done, Refused}
-use Rattle.evaluation.specs.declared.clock.Schedule.{Schedule}
-use Rattle.evaluation.specs.declared.clock.Scheduled.{Scheduled}
-use Rattle.evaluation.specs.declared.clock.Scheduled.the-variants.{Found, NotFound}
+use Rattle.evaluation_clock.specs.Serve.{pass, leavingAt, departureOf, laterOf, restedAt, serveOf, serveRested}
+use Rattle.evaluation_clock.specs.Clock.{Clock, stepOf, stepRested, winsOver, earlierOf, takenOf, movedOf, homeSchedule, unrested, endOf, homeward, returned}
+use Rattle.evaluation_clock.specs.declared.label.Label.{Label}
+use Rattle.evaluation_clock.specs.declared.label.RestAnswer.{RestAnswer}
+use Rattle.evaluation_clock.specs.declared.label.RestAnswer.the-variants.{NoRest, Before}
+use Rattle.evaluation_clock.specs.declared.label.Served.{Served}
+use Rattle.evaluation_clock.specs.declared.label.Served.the-variants.{Done, Refused}
+use Rattle.evaluation_clock.specs.declared.clock.Schedule.{Schedule}
+use Rattle.evaluation_clock.specs.declared.clock.Scheduled.{Scheduled}
+use Rattle.evaluation_clock.specs.declared.clock.Scheduled.the-variants.{Found, NotFound}
 use Rattle.evaluation.specs.Walk.{Position, startAt, driveTo, walkedOver, homeFrom, scheduledOf}
 use Rattle.evaluation.specs.Laws.Walk.{unrested-answer}
 use Rattle.evaluation.specs.Laws.Verdict.{verdict-scheduled, allowed-figures, held-rest}

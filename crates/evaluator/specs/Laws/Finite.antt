@@ -22,20 +22,20 @@ use Rattle.sheet.specs.declared.vehicle.Rest.the-variants.{NoRest as Unrested, 
 use Rattle.sheet.specs.declared.vehicle.Vehicle.{Vehicle}
 use Rattle.sheet.specs.declared.customer.Gate.{Gate}
 use Rattle.sheet.specs.declared.customer.Gate.the-variants.{Open, Hard, Soft}
-use Rattle.evaluation.specs.Sums.{_⊕_, _⊗_}
-use Rattle.evaluation.specs.Window.{violatedOf, waitingOf, latenessOf}
-use Rattle.evaluation.specs.Laws.Bounds.{Times, one-time, one-penalty, waiting-bounded, lateness-bounded}
+use Rattle.evaluation_clock.specs.Sums.{_⊕_, _⊗_}
+use Rattle.evaluation_clock.specs.Window.{violatedOf, waitingOf, latenessOf}
+use Rattle.evaluation_clock.specs.Laws.Bounds.{Times, one-time, one-penalty, waiting-bounded, lateness-bounded}
 use Rattle.evaluation.specs.Laws.Finite.{ScheduledBounded, scheduled-bounded}
-use Rattle.evaluation.specs.Serve.{restStart}
+use Rattle.evaluation_clock.specs.Serve.{restStart}
 use Rattle.evaluation.specs.Walk.{scheduledOf}
 use Rattle.evaluation.specs.Verdict.{Verdict, heldTo, verdictOn, placedRest}
 use Rattle.evaluation.specs.Laws.Verdict.{verdict-scheduled, held-none, held-rest}
 use Rattle.evaluation.specs.declared.limits.RouteLimits.{RouteLimits}
 use Rattle.evaluation.specs.Routed.{Routed}
-use Rattle.evaluation.specs.declared.clock.Scheduled.{Scheduled}
-use Rattle.evaluation.specs.declared.clock.Scheduled.the-variants.{Found, NotFound}
-use Rattle.evaluation.specs.declared.label.RestAnswer.{RestAnswer}
-use Rattle.evaluation.specs.declared.label.RestAnswer.the-variants.{NoRest, Before}
+use Rattle.evaluation_clock.specs.declared.clock.Scheduled.{Scheduled}
+use Rattle.evaluation_clock.specs.declared.clock.Scheduled.the-variants.{Found, NotFound}
+use Rattle.evaluation_clock.specs.declared.label.RestAnswer.{RestAnswer}
+use Rattle.evaluation_clock.specs.declared.label.RestAnswer.the-variants.{NoRest, Before}
 use Rattle.evaluator.specs.declared.Progress.{Progress}
 use Rattle.evaluator.specs.declared.Placed.{Placed}
 use Rattle.evaluator.specs.declared.Record.{Record}

@@ -17,15 +17,15 @@ use Rattle.sheet.specs.Accepted.{Accepted}
 use Rattle.sheet.specs.Values.{nought, distanceOf, timeOf, stopOf, restOf, restAfter, vehicleOf}
 use Rattle.sheet.specs.declared.vehicle.Rest.{Rest}
 use Rattle.sheet.specs.declared.vehicle.VehicleBreak.{VehicleBreak}
-use Rattle.evaluation.specs.declared.label.Label.{Label}
-use Rattle.evaluation.specs.declared.label.Served.{Served}
-use Rattle.evaluation.specs.declared.label.Served.the-variants.{Done, Refused}
-use Rattle.evaluation.specs.declared.label.RestAnswer.{RestAnswer}
-use Rattle.evaluation.specs.declared.label.RestAnswer.the-variants.{NoRest, Before}
-use Rattle.evaluation.specs.declared.clock.Schedule.{Schedule}
-use Rattle.evaluation.specs.declared.clock.Scheduled.{Scheduled}
-use Rattle.evaluation.specs.declared.clock.Scheduled.the-variants.{Found, NotFound}
-use Rattle.evaluation.specs.Sums.{_⊕_}
+use Rattle.evaluation_clock.specs.declared.label.Label.{Label}
+use Rattle.evaluation_clock.specs.declared.label.Served.{Served}
+use Rattle.evaluation_clock.specs.declared.label.Served.the-variants.{Done, Refused}
+use Rattle.evaluation_clock.specs.declared.label.RestAnswer.{RestAnswer}
+use Rattle.evaluation_clock.specs.declared.label.RestAnswer.the-variants.{NoRest, Before}
+use Rattle.evaluation_clock.specs.declared.clock.Schedule.{Schedule}
+use Rattle.evaluation_clock.specs.declared.clock.Scheduled.{Scheduled}
+use Rattle.evaluation_clock.specs.declared.clock.Scheduled.the-variants.{Found, NotFound}
+use Rattle.evaluation_clock.specs.Sums.{_⊕_}
 use Rattle.evaluation.specs.declared.RouteEval.{RouteEval}
 use Rattle.evaluation.specs.declared.RouteEval.the-variants.{Allowed, NotAllowed}
 use Rattle.evaluation.specs.Routed.{Routed}
@@ -33,8 +33,8 @@ use Rattle.evaluation.specs.Limits.{limitsAt}
 use Rattle.evaluation.specs.Laws.Limits.{limits-rest}
 use Rattle.evaluation.specs.Feasible.{routeEval, isAllowed}
 use Rattle.evaluation.specs.Laws.Verdict.{allowed-feasible, allowed-figures}
-use Rattle.evaluation.specs.Serve.{restPlace, atDepot, restedAt, laterOf, pass, serveOf, serveRested}
-use Rattle.evaluation.specs.Clock.{stepOf, stepRested, takenOf, movedOf, homeSchedule, unrested, endOf, homeward, returned}
+use Rattle.evaluation_clock.specs.Serve.{restPlace, atDepot, restedAt, laterOf, pass, serveOf, serveRested}
+use Rattle.evaluation_clock.specs.Clock.{stepOf, stepRested, takenOf, movedOf, homeSchedule, unrested, endOf, homeward, returned}
 use Rattle.evaluation.specs.Walk.{driveTo, walkedOver, homeFrom, scheduledOf}
 use Rattle.evaluator.specs.Record.{buildRoute}
 use Rattle.evaluator.specs.Laws.Agree.{IfDone, either, not-done, passed, figures, eval-agree}

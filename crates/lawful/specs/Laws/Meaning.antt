@@ -14,11 +14,11 @@ use Rattle.sheet.specs.Laws.Finite.{vehicle-finite}
 use Rattle.sheet.specs.declared.vehicle.Rest.{Rest}
 use Rattle.sheet.specs.declared.vehicle.Rest.the-variants.{NoRest as restless, Required}
 use Rattle.sheet.specs.Values.{nought, limitOf, limitAt, restOf, restAfter, vehicleOf}
-use Rattle.evaluation.specs.declared.clock.Scheduled.{Scheduled}
-use Rattle.evaluation.specs.declared.clock.Scheduled.the-variants.{Found, NotFound}
-use Rattle.evaluation.specs.declared.label.Served.the-variants.{Done, Refused}
+use Rattle.evaluation_clock.specs.declared.clock.Scheduled.{Scheduled}
+use Rattle.evaluation_clock.specs.declared.clock.Scheduled.the-variants.{Found, NotFound}
+use Rattle.evaluation_clock.specs.declared.label.Served.the-variants.{Done, Refused}
 use Rattle.evaluation.specs.Routed.{Routed}
-use Rattle.evaluation.specs.Serve.{atDepot}
+use Rattle.evaluation_clock.specs.Serve.{atDepot}
 use Rattle.evaluation.specs.Limits.{limitsAt, withinOf}
 use Rattle.evaluation.specs.Laws.Limits.{limits-rest, limits-allow}
 use Rattle.evaluation.specs.Walk.{scheduledOf}

@@ -12,14 +12,14 @@ use Rattle.sheet.specs.Accepted.{Accepted}
 use Rattle.sheet.specs.Values.{distanceOf, timeOf, stopOf}
 use Rattle.sheet.specs.declared.vehicle.Rest.{Rest}
 use Rattle.sheet.specs.declared.vehicle.Rest.the-variants.{NoRest as restless, Required}
-use Rattle.evaluation.specs.declared.label.Label.{Label}
-use Rattle.evaluation.specs.declared.label.Served.{Served}
-use Rattle.evaluation.specs.declared.label.Served.the-variants.{Done, Refused}
-use Rattle.evaluation.specs.declared.label.RestAnswer.the-variants.{NoRest}
-use Rattle.evaluation.specs.declared.clock.Scheduled.{Scheduled}
-use Rattle.evaluation.specs.declared.clock.Scheduled.the-variants.{Found, NotFound}
-use Rattle.evaluation.specs.Sums.{_⊕_}
-use Rattle.evaluation.specs.Clock.{stepOf, takenOf, movedOf, homeSchedule as broughtHome, unrested, endOf, homeward as homewardOf, returned}
+use Rattle.evaluation_clock.specs.declared.label.Label.{Label}
+use Rattle.evaluation_clock.specs.declared.label.Served.{Served}
+use Rattle.evaluation_clock.specs.declared.label.Served.the-variants.{Done, Refused}
+use Rattle.evaluation_clock.specs.declared.label.RestAnswer.the-variants.{NoRest}
+use Rattle.evaluation_clock.specs.declared.clock.Scheduled.{Scheduled}
+use Rattle.evaluation_clock.specs.declared.clock.Scheduled.the-variants.{Found, NotFound}
+use Rattle.evaluation_clock.specs.Sums.{_⊕_}
+use Rattle.evaluation_clock.specs.Clock.{stepOf, takenOf, movedOf, homeSchedule as broughtHome, unrested, endOf, homeward as homewardOf, returned}
 use Rattle.evaluation.specs.Walk.{Position, driveTo, walkedOver, homeFrom}
 use Rattle.lawful.specs.Whole.{Whole, Is}
 use Rattle.lawful.specs.Lawful.{Walk, failed, left, timeN, distanceN, homeOf, earliestN, stopN, homeN, walkN, travelN}

@@ -10,12 +10,12 @@ use Rattle.wire.specs.Bytes.{f64At}
 use Rattle.sheet.specs.Fields.{rowAt, rowMarks, penaltyAt, vehicleAt, earliestAt, latestAt, restAt, marked, mostRows}
 use Rattle.sheet.specs.Values.{nought, gateAt, windowAt, stopOf, timeOf}
 use Rattle.sheet.specs.declared.vehicle.VehicleBreak.{VehicleBreak}
-use Rattle.evaluation.specs.declared.label.Label.{Label}
-use Rattle.evaluation.specs.declared.label.Served.{Served}
-use Rattle.evaluation.specs.declared.label.Served.the-variants.{Done, Refused}
-use Rattle.evaluation.specs.Sums.{_⊕_}
-use Rattle.evaluation.specs.Serve.{restedAt, visitOf, laterOf, restFrom, serveOf, serveRested}
-use Rattle.evaluation.specs.Clock.{stepOf, stepRested, winsOver, earlierOf}
+use Rattle.evaluation_clock.specs.declared.label.Label.{Label}
+use Rattle.evaluation_clock.specs.declared.label.Served.{Served}
+use Rattle.evaluation_clock.specs.declared.label.Served.the-variants.{Done, Refused}
+use Rattle.evaluation_clock.specs.Sums.{_⊕_}
+use Rattle.evaluation_clock.specs.Serve.{restedAt, visitOf, laterOf, restFrom, serveOf, serveRested}
+use Rattle.evaluation_clock.specs.Clock.{stepOf, stepRested, winsOver, earlierOf}
 use Rattle.lawful.specs.Whole.{Is}
 use Rattle.lawful.specs.Lawful.{Walk, failed, left, timeN, isWindowed, readyN, dueN, serviceN, earliestN, latestN, restN, restBegun, arrives, departs, stopN}
 use Rattle.lawful.specs.ClockN.{earlierN}

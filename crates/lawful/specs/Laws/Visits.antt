@@ -13,12 +13,12 @@ use Rattle.sheet.specs.Fields.{rowsOf, vehiclesOf, mostRows}
 use Rattle.sheet.specs.Accepted.{Accepted}
 use Rattle.sheet.specs.Values.{demandOf, timeOf, stopOf, restOf, restAfter, vehicleOf}
 use Rattle.sheet.specs.declared.vehicle.Rest.{Rest}
-use Rattle.evaluation.specs.declared.label.Served.{Served}
-use Rattle.evaluation.specs.declared.label.Served.the-variants.{Done, Refused}
-use Rattle.evaluation.specs.declared.label.RestAnswer.{RestAnswer}
-use Rattle.evaluation.specs.declared.label.RestAnswer.the-variants.{NoRest, Before}
-use Rattle.evaluation.specs.Sums.{_⊕_}
-use Rattle.evaluation.specs.Serve.{restPlace, atDepot, visitOf}
+use Rattle.evaluation_clock.specs.declared.label.Served.{Served}
+use Rattle.evaluation_clock.specs.declared.label.Served.the-variants.{Done, Refused}
+use Rattle.evaluation_clock.specs.declared.label.RestAnswer.{RestAnswer}
+use Rattle.evaluation_clock.specs.declared.label.RestAnswer.the-variants.{NoRest, Before}
+use Rattle.evaluation_clock.specs.Sums.{_⊕_}
+use Rattle.evaluation_clock.specs.Serve.{restPlace, atDepot, visitOf}
 use Rattle.evaluation.specs.declared.limits.RouteLimits.{RouteLimits}
 use Rattle.evaluation.specs.Routed.{Routed}
 use Rattle.evaluation.specs.Limits.{limitsAt}

@@ -10,12 +10,12 @@ use lib.Ieee.{Float, ofBits, ofFields, odd}
 use Rattle.sheet.specs.Fields.{mostRows}
 use Rattle.sheet.specs.Values.{nought, gateOf}
 use Rattle.sheet.specs.declared.customer.Window.{Window}
-use Rattle.evaluation.specs.declared.label.Label.{Label}
-use Rattle.evaluation.specs.declared.label.Served.{Served}
-use Rattle.evaluation.specs.declared.label.Served.the-variants.{Done, Refused}
-use Rattle.evaluation.specs.Sums.{_⊕_, _⊖_}
-use Rattle.evaluation.specs.Window.{violatedOf, waitingOf}
-use Rattle.evaluation.specs.Serve.{leavingAt, departureOf, pass}
+use Rattle.evaluation_clock.specs.declared.label.Label.{Label}
+use Rattle.evaluation_clock.specs.declared.label.Served.{Served}
+use Rattle.evaluation_clock.specs.declared.label.Served.the-variants.{Done, Refused}
+use Rattle.evaluation_clock.specs.Sums.{_⊕_, _⊖_}
+use Rattle.evaluation_clock.specs.Window.{violatedOf, waitingOf}
+use Rattle.evaluation_clock.specs.Serve.{leavingAt, departureOf, pass}
 use Rattle.lawful.specs.Whole.{Is}
 use Rattle.lawful.specs.Lawful.{Walk, failed, left}
 use Rattle.lawful.specs.Laws.Whole.{lt-whole, add-whole, sub-whole}

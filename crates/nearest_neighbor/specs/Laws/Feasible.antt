@@ -21,18 +21,18 @@ use Rattle.sheet.specs.declared.customer.Gate.the-variants.{Open, Hard, Soft}
 use Rattle.sheet.specs.declared.vehicle.Rest.{Rest}
 use Rattle.sheet.specs.declared.vehicle.Rest.the-variants.{NoRest, Required}
 use Rattle.sheet.specs.declared.vehicle.Vehicle.{Vehicle}
-use Rattle.evaluation.specs.declared.label.Label.{Label}
-use Rattle.evaluation.specs.declared.label.Served.{Served}
-use Rattle.evaluation.specs.declared.label.Served.the-variants.{Done, Refused}
-use Rattle.evaluation.specs.Sums.{_⊕_, _⊗_}
+use Rattle.evaluation_clock.specs.declared.label.Label.{Label}
+use Rattle.evaluation_clock.specs.declared.label.Served.{Served}
+use Rattle.evaluation_clock.specs.declared.label.Served.the-variants.{Done, Refused}
+use Rattle.evaluation_clock.specs.Sums.{_⊕_, _⊗_}
 use Rattle.evaluation.specs.Routed.{Routed}
-use Rattle.evaluation.specs.Window.{violatedOf, latenessOf}
-use Rattle.evaluation.specs.Serve.{atDepot, leavingAt, lateBy, departureOf, pass, serveOf}
-use Rattle.evaluation.specs.Clock.{stepOf}
+use Rattle.evaluation_clock.specs.Window.{violatedOf, latenessOf}
+use Rattle.evaluation_clock.specs.Serve.{atDepot, leavingAt, lateBy, departureOf, pass, serveOf}
+use Rattle.evaluation_clock.specs.Clock.{stepOf}
 use Rattle.evaluation.specs.Limits.{limitsAt, allowOf}
 use Rattle.evaluation.specs.Feasible.{routeFeasible}
 use Rattle.evaluation.specs.Checks.{hasSoftWindows}
-use Rattle.evaluation.specs.Laws.Bounds.{Times, LabelBounded, ServedBounded, one-time, label-widen, late-positive}
+use Rattle.evaluation_clock.specs.Laws.Bounds.{Times, LabelBounded, ServedBounded, one-time, label-widen, late-positive}
 use Rattle.evaluation.specs.Laws.Finite.{step-bounded, start-bounded}
 use Rattle.evaluation.specs.Walk.{Position, startAt as atStart, walkedOver}
 use Rattle.evaluation.specs.Laws.Walk.{more-before, more-prev, more-distance}

@@ -19,7 +19,7 @@ use Rattle.sheet.specs.Accepted.{Accepted}
 use Rattle.sheet.specs.Values.{stopOf, distanceOf, timeOf}
 use Rattle.sheet.specs.declared.vehicle.Vehicle.{Vehicle}
 use Rattle.sheet.specs.Laws.Finite.{distance-bounded}
-use Rattle.evaluation.specs.Sums.{_⊕_}
+use Rattle.evaluation_clock.specs.Sums.{_⊕_}
 use Rattle.evaluation.specs.declared.limits.RouteLimits.{RouteLimits}
 use Rattle.nearest_neighbor_choice.specs.declared.choice.StopChoice.{StopChoice}
 use Rattle.nearest_neighbor_choice.specs.declared.choice.StopChoice.the-variants.{NoStop, Best}

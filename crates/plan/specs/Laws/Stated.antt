@@ -8,7 +8,7 @@ use lib.Ieee.{Float, binary64, toBits, ofBits, fits}
 use lib.Ieee.Bits.{ofBits-toBits, toBits-lt}
 use Rattle.wire.specs.Bytes.{le, bytes, f64At}
 use Rattle.wire.specs.Laws.Bytes.{length-bytes, le-bytes}
-use Rattle.evaluation.specs.Serve.{restPlace, restStart}
+use Rattle.evaluation_clock.specs.Serve.{restPlace, restStart}
 use Rattle.evaluator.specs.declared.Record.{Record}
 use Rattle.plan.specs.Plan.{roundRecordAt, roundCounts, roundFigures, roundBytes}
 use Rattle.plan.specs.Stated.{Stated}

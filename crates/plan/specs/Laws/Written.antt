@@ -10,9 +10,9 @@ use Rattle.sheet.specs.Fields.{rowsOf, mostRows}
 use Rattle.sheet.specs.Accepted.{Accepted}
 use Rattle.sheet.specs.Laws.Finite.{vehicle-bounded}
 use Rattle.sheet.specs.Values.{vehicleOf}
-use Rattle.evaluation.specs.Serve.{restStart}
-use Rattle.evaluation.specs.declared.label.RestAnswer.{RestAnswer}
-use Rattle.evaluation.specs.declared.label.RestAnswer.the-variants.{NoRest, Before}
+use Rattle.evaluation_clock.specs.Serve.{restStart}
+use Rattle.evaluation_clock.specs.declared.label.RestAnswer.{RestAnswer}
+use Rattle.evaluation_clock.specs.declared.label.RestAnswer.the-variants.{NoRest, Before}
 use Rattle.evaluation.specs.Limits.{limitsAt}
 use Rattle.evaluation.specs.Laws.Limits.{limits-rest}
 use Rattle.evaluator.specs.Record.{placedOf, beginOf, visitedOf, buildRoute, priceStart}

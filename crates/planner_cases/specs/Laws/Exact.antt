@@ -12,7 +12,7 @@ use borrow.Author.Tests.{leb-true, leb-false, ltb-true, ltb-false, lt-ltb, le-lt
 use Rattle.sheet.specs.Fields.{rowsOf}
 use Rattle.sheet.specs.Accepted.{Accepted}
 use Rattle.sheet.specs.Values.{nought, distanceOf}
-use Rattle.evaluation.specs.Sums.{_⊕_, _⊖_}
+use Rattle.evaluation_clock.specs.Sums.{_⊕_, _⊖_}
 use Rattle.lawful.specs.Whole.{Whole, Is}
 use Rattle.lawful.specs.Lawful.{distanceN}
 use Rattle.lawful.specs.Laws.Whole.{lt-whole, add-whole, sub-whole, sub-below, add-back, add-below}

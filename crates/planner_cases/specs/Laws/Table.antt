@@ -15,9 +15,9 @@ use Rattle.sheet.specs.Ranges.{coordinate, demand, capacity, marks, amount, zer
 use Rattle.sheet.specs.Refusal.{headerRight, countsRight, methodRight, lengthsRight, needsVehicle, fleetRight, contents, refusalOf}
 use Rattle.sheet.specs.Values.{gateAt, demandOf, stopOf, limitAt, restAfter, vehicleOf, distanceOf, timeOf, fixedInDistance}
 use Rattle.sheet.specs.Fleet.{fleetOf}
-use Rattle.evaluation.specs.Window.{waitingOf, latenessOf, violatedOf}
-use Rattle.evaluation.specs.Serve.{pass, serveOf, serveRested}
-use Rattle.evaluation.specs.Clock.{stepOf, stepRested, earlierOf, takenOf, movedOf, unrested, endOf, homeward, returned}
+use Rattle.evaluation_clock.specs.Window.{waitingOf, latenessOf, violatedOf}
+use Rattle.evaluation_clock.specs.Serve.{pass, serveOf, serveRested}
+use Rattle.evaluation_clock.specs.Clock.{stepOf, stepRested, earlierOf, takenOf, movedOf, unrested, endOf, homeward, returned}
 use Rattle.evaluation.specs.Walk.{driveTo, homeFrom, scheduledOf}
 use Rattle.evaluation.specs.Limits.{limitsAt, isUnlimited, allowOf}
 use Rattle.evaluation.specs.Verdict.{heldTo, verdictOf, verdictFrom}

@@ -13,9 +13,9 @@ use Rattle.sheet.specs.Fields.{rowsOf, vehiclesOf, timesOf, rowMarks, idField, 
 use Rattle.sheet.specs.Values.{gateAt, demandOf, stopOf, limitAt, restAfter, vehicleOf, distanceOf, timeOf}
 use Rattle.sheet.specs.Fleet.{indexFrom}
 use Rattle.sheet.specs.SheetA.{f10, sheetA, sheetCarrying}
-use Rattle.evaluation.specs.Window.{waitingOf, latenessOf, violatedOf}
-use Rattle.evaluation.specs.Serve.{pass, serveOf}
-use Rattle.evaluation.specs.Clock.{stepOf, takenOf, movedOf, unrested, returned}
+use Rattle.evaluation_clock.specs.Window.{waitingOf, latenessOf, violatedOf}
+use Rattle.evaluation_clock.specs.Serve.{pass, serveOf}
+use Rattle.evaluation_clock.specs.Clock.{stepOf, takenOf, movedOf, unrested, returned}
 use Rattle.evaluation.specs.Walk.{driveTo}
 use Rattle.evaluation.specs.Limits.{limitsAt, allowOf}
 use Rattle.evaluation.specs.Verdict.{heldTo, verdictOf, verdictFrom}

@@ -8,9 +8,9 @@ use Rattle.wire.specs.Bytes.{le as number, bytes, f64At}
 use Rattle.sheet.specs.Fields.{rowsOf, vehiclesOf, timesOf, rowMarks, vehicleMarks, marked}
 use Rattle.sheet.specs.Values.{gateAt, demandOf, stopOf, limitAt, restAfter, vehicleOf, distanceOf, timeOf, fixedInDistance}
 use Rattle.sheet.specs.SheetA.{f1, f4, f10, f64s, sheetHeader, rowBytes, noTimes, vehicleBytes, tableBytes, sheetA, sheetCarrying}
-use Rattle.evaluation.specs.Window.{waitingOf, latenessOf, violatedOf}
-use Rattle.evaluation.specs.Serve.{pass, serveOf}
-use Rattle.evaluation.specs.Clock.{stepOf as served, takenOf, movedOf, unrested, returned}
+use Rattle.evaluation_clock.specs.Window.{waitingOf, latenessOf, violatedOf}
+use Rattle.evaluation_clock.specs.Serve.{pass, serveOf}
+use Rattle.evaluation_clock.specs.Clock.{stepOf as served, takenOf, movedOf, unrested, returned}
 use Rattle.evaluation.specs.Walk.{driveTo}
 use Rattle.evaluation.specs.Limits.{limitsAt, allowOf}
 use Rattle.evaluation.specs.Verdict.{heldTo, verdictOf, verdictFrom}

@@ -18,7 +18,7 @@ use Rattle.sheet.specs.Fields.{rowsOf}
 use Rattle.sheet.specs.Accepted.{Accepted}
 use Rattle.sheet.specs.Values.{distanceOf}
 use Rattle.sheet.specs.Laws.Finite.{distance-bounded}
-use Rattle.evaluation.specs.Sums.{_⊕_, _⊖_}
+use Rattle.evaluation_clock.specs.Sums.{_⊕_, _⊖_}
 use Rattle.constructive.specs.declared.terms.Terms.{Terms}
 use Rattle.insertion.specs.declared.choice.Choice.{Choice}
 use Rattle.insertion.specs.declared.choice.Choice.the-variants.{Nowhere, Best}

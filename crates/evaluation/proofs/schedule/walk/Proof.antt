@@ -3,7 +3,7 @@ use mathlib.Core.Path.{sym, _∙_}
 use Prim.Native.Nat.{_-_}
 use native.Mathlib.Omega.{arith}
 use borrow.Author.Needs.{needs}
-use Rattle.evaluation.specs.Clock.{unrested, returned}
+use Rattle.evaluation_clock.specs.Clock.{unrested, returned}
 use Rattle.evaluation.specs.Walk.{homeFrom, scheduledOf}
 use Rattle.evaluation.specs.Laws.Walk.{dead-home}
 use Rattle.evaluation.proofs.Walking.{Walking, walking, in-range, goes-on, stops, ends}

@@ -2,7 +2,7 @@
 use borrow.Author.Needs.{needs}
 use mathlib.Core.Path.{_∙_, ap}
 use lib.Ieee.{Float}
-use Rattle.evaluation.specs.Sums.{_⊖_}
+use Rattle.evaluation_clock.specs.Sums.{_⊖_}
 use Rattle.insertion.proofs.Judged.{not-allowed, too-dear, cheap-enough}
 use Rattle.fleet_cheapest.proofs.places.weigh.Statement.{statement}
 use Rattle.fleet_cheapest.proofs.places.weigh.Tie as tie

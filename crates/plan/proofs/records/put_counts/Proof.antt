@@ -1,6 +1,6 @@
 -- `plan::records::put_counts` meets its contract. Assumes nothing.
 use native.Mathlib.Omega.{arith}
-use Rattle.evaluation.specs.Serve.{restPlace}
+use Rattle.evaluation_clock.specs.Serve.{restPlace}
 use Rattle.plan.specs.Plan.{roundCounts}
 use Rattle.plan.proofs.Run.{then, wrote}
 use borrow.Author.Needs.{needs}

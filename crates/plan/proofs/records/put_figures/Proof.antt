@@ -1,7 +1,7 @@
 -- `plan::records::put_figures` meets its contract. Assumes nothing.
 use native.Mathlib.Omega.{arith}
 use lib.Ieee.{binary64, toBits}
-use Rattle.evaluation.specs.Serve.{restStart}
+use Rattle.evaluation_clock.specs.Serve.{restStart}
 use Rattle.plan.specs.Plan.{roundFigures}
 use Rattle.plan.proofs.Run.{then, wrote}
 use borrow.Author.Needs.{needs}

@@ -1,0 +1,6 @@
+pub mod Sums
+pub mod Window
+pub mod Serve
+pub mod Clock
+pub mod Clocked
+pub mod Laws
