@@ -1,3 +1,1 @@
-pub mod Merges
-pub mod Planned
 pub mod Tables

@@ -1,49 +1,28 @@
 -- The merges, as the slots have them. Assumes nothing.
-use mathlib.Core.Path.{_≡_, refl, sym, ap, _∙_, subst}
-use Prim.Native.Nat.{ℕ, zero, suc, _+_, _*_, _-_, _≤_, _<_, zero-le}
+use mathlib.Core.Path.{_≡_, refl, sym, ap, _∙_}
+use Prim.Native.Nat.{ℕ, suc, _+_, _≤_, _<_, zero-le}
 use native.Mathlib.Nat.{le-of-suc-le-suc, not-suc-le-zero, zero-lt-suc}
 use native.Mathlib.Numerals.{add-one}
 use native.Mathlib.Omega.{arith}
 use mathlib.Core.Bool.{Bool, true, false, not, and-false, cond}
 use mathlib.Core.List.{List, [], _∷_}
 use lib.Dec.{ltb, eqb}
-use lib.ListN.{length, getD, take, drop}
+use lib.ListN.{length, getD, drop}
 use lib.Seq.{drop-cons, drop-length}
 use borrow.Author.Tests.{ltb-true, eq-eqb, ne-eqb, le-leb, lt-leb}
 use Rattle.lists.specs.Count.{count}
-use Rattle.lists.specs.Every.{Every}
-use Rattle.lists.specs.Laws.Every.{every-at}
 use Rattle.sheet.specs.Fields.{rowsOf}
-use Rattle.sheet.specs.Accepted.{Accepted}
-use Rattle.sheet.specs.Laws.Finite.{demand-bounded}
-use Rattle.evaluation.specs.Routed.{Routed}
-use Rattle.constructive.specs.declared.terms.Terms.{Terms}
 use Rattle.constructive.specs.Load.{loadOf}
 use Rattle.clarke_wright_savings.specs.declared.terms.Directed.{Directed}
-use Rattle.clarke_wright_savings.specs.Savings.{routeAt, slotOf, firstIs, lastIs, Merge, apart, joined, joining, onlyIf, mayJoin, joinedPasses, mergePasses, passing, mergeOf, afterMerge}
+use Rattle.clarke_wright_savings.specs.Savings.{routeAt, slotOf, firstIs, lastIs, Merge, apart, joining, onlyIf, mayJoin, passing, mergeOf, afterMerge}
 use Rattle.clarke_wright_savings.specs.Routes.{Slots}
-use Rattle.clarke_wright_savings.specs.Laws.Joined.{JoinedStops}
-use Rattle.clarke_wright_slots.specs.Slots.{slotAt, slotsIn, routedStops, Roomy, Slotted, endToEnd, SlotTaken}
-use Rattle.clarke_wright_slots.specs.Laws.Slots.{length-slots, slots-at, slots-past, route-few, roomy-within}
-use Rattle.clarke_wright_slots.proofs.Slotting.{took-over}
-use Rattle.clarke_wright_merging.specs.declared.Way.{Way}
-use Rattle.clarke_wright_merging.specs.declared.Way.the-variants.{Apart, Join}
-use Rattle.clarke_wright_merging.specs.Ways.{meant, wayOf, WaySlots, Legs, mergedIn}
-use Rattle.clarke_wright_merging.proofs.Ways.{joining-meant, way-slots, turned-stops}
-
--- ---- how many stops a slot has, and what they ask
-two-few : (routes : List (List ℕ)) (a b : ℕ) → (a ≡ b → ⊥) → length (routeAt routes a) + length (routeAt routes b) ≤ routedStops routes
-unfolding routedStops
-two-few [] a b n = zero-le
-two-few (r ∷ rs) zero zero n = absurd (n refl)
-two-few (r ∷ rs) zero (suc b) n = let e = route-few rs b in omega arith
-two-few (r ∷ rs) (suc a) zero n = let e = route-few rs a in omega arith
-two-few (r ∷ rs) (suc a) (suc b) n = let e = two-few rs a b (λ k. n (ap suc k)) in omega arith
-
-load-most : (s : List ℕ) → Accepted s → (rows : List ℕ) → Every (λ (i : ℕ). i < rowsOf s) rows → loadOf s rows ≤ 1000000 * length rows
-unfolding loadOf
-load-most s a [] e = zero-le
-load-most s a (i ∷ is) e = omega (arith, demand-bounded s a i (e .0), load-most s a is (e .1))
+use Rattle.clarke_wright_slots.specs.Slots.{slotsIn, Slotted}
+use Rattle.clarke_wright_slots.specs.Laws.Slots.{length-slots, slots-past}
+use Rattle.clarke_wright_joining.specs.declared.Way.{Way}
+use Rattle.clarke_wright_joining.specs.Ways.{meant, wayOf, WaySlots}
+use Rattle.clarke_wright_joining.proofs.Ways.{joining-meant, way-slots}
+use Rattle.clarke_wright_joining.proofs.Joining.{only-apart, apart-stays, cut, Fitting, cut-route, loads-fit, fit}
+use Rattle.clarke_wright_merging.specs.Legs.{Legs, mergedIn}
 
 -- ---- the slot of a row
 slot-most : (x : ℕ) (routes : List (List ℕ)) → slotOf x routes ≤ length routes
@@ -78,13 +57,6 @@ joining-none false i j a b rj = rw (and-false (lastIs j rj))
 joining-onto-none : (directed : Bool) (i j a b : ℕ) (ri : List ℕ) → joining directed i j a b ri [] ≡ apart
 joining-onto-none true i j a b ri = rw (and-false (lastIs i ri))
 joining-onto-none false i j a b ri = rw (and-false (lastIs i ri), and-false (firstIs i ri))
-
-only-apart : (b : Bool) → onlyIf b apart ≡ apart
-only-apart true = refl
-only-apart false = refl
-
-apart-stays : (s : List ℕ) (t : Terms) (routes : List (List ℕ)) → passing s t routes apart ≡ apart
-apart-stays s t routes = only-apart (mergePasses s t routes apart)
 
 module _ (s : List ℕ) (t : Directed) (routes : List (List ℕ)) (i j : ℕ) where
   abbrev a : ℕ
@@ -132,58 +104,9 @@ module _ (s : List ℕ) (t : Directed) (routes : List (List ℕ)) (i j : ℕ) wh
       may-be (rw (ne-eqb a b n, le-leb (loadOf s ri + loadOf s rj) (t .common .capacity) h))
       ∙ ap (passing s (t .common) routes) (joining-meant routes a b (t .directed) i j)
 
--- ---- the stops of a slot, as the code reads them
-abbrev pub cut : List ℕ → List ℕ → ℕ → List ℕ
-cut cells lens k = take (101 * k + getD lens k 0 - 101 * k) (drop (101 * k) cells)
-
-cut-slot : (cells lens : List ℕ) (k : ℕ) → cut cells lens k ≡ slotAt cells lens k
-cut-slot cells lens k =
-    let m : 101 * k + getD lens k 0 - 101 * k ≡ getD lens k 0 = omega arith in
-    let e : 101 * k ≡ k * 101 = omega arith in
-    ap (λ (n : ℕ). take n (drop (101 * k) cells)) m ∙ ap (λ (n : ℕ). take (getD lens k 0) (drop n cells)) e
-
--- what the code's sums and reads ask of two slots
-pub record Fitting (cells lens loads : List ℕ) (into from : ℕ) : Type 0 where
-  pub into-in : into < 101
-  pub from-in : from < 101
-  pub measured : 101 ≤ length lens
-  pub into-celled : into * 101 + 101 ≤ length cells
-  pub from-celled : from * 101 + 101 ≤ length cells
-  pub loaded : 101 ≤ length loads
-  pub into-long : getD lens into 0 ≤ 101
-  pub from-long : getD lens from 0 ≤ 101
-
 module _ (s : List ℕ) (n : ℕ) (cells lens loads slots : List ℕ) (g : Slotted s n cells lens loads slots) where
   abbrev routes : List (List ℕ)
   routes = slotsIn n cells lens
-
-  cut-route : (k : ℕ) → k < n → cut cells lens k ≡ routeAt routes k
-  cut-route k h = cut-slot cells lens k ∙ sym (slots-at n cells lens k h)
-
-  rows-at : (k : ℕ) → k < n → Every (λ (i : ℕ). i < rowsOf s) (routeAt routes k)
-  rows-at k h = every-at (Every (λ (i : ℕ). i < rowsOf s)) [] routes k (omega (arith, h, length-slots n cells lens)) (g .routes .rows)
-
-  stops-fit : (a b : ℕ) → (a ≡ b → ⊥) → length (routeAt routes a) + length (routeAt routes b) ≤ 101
-  stops-fit a b d = omega (arith, two-few routes a b d, g .routes .few)
-
-  loads-fit : (a b : ℕ) → (a ≡ b → ⊥) → a < n → b < n → getD loads a 0 + getD loads b 0 < 0x1_0000_0000
-  loads-fit a b d p q =
-      omega (arith, g .load a p, g .load b q, load-most s (g .routes .sheet) (routeAt routes a) (rows-at a p), load-most s (g .routes .sheet) (routeAt routes b) (rows-at b q), stops-fit a b d)
-
-  short-at : (k : ℕ) → k < n → getD lens k 0 ≤ 101
-  short-at k h = omega (arith, g .long k h, route-few routes k, g .routes .few)
-
-  fit : (a b : ℕ) → a < n → b < n → Fitting cells lens loads a b
-  fit a b p q = record {
-    into-in = omega (arith, p, g .room .most);
-    from-in = omega (arith, q, g .room .most);
-    measured = g .room .measured;
-    into-celled = omega (arith, p, g .room .celled);
-    from-celled = omega (arith, q, g .room .celled);
-    loaded = g .room .loaded;
-    into-long = short-at a p;
-    from-long = short-at b q;
-  }
 
   -- ---- the slots of two rows
   module _ (t : Directed) (i j : ℕ) (hi : i < rowsOf s) (hj : j < rowsOf s) where
@@ -220,7 +143,7 @@ module _ (s : List ℕ) (n : ℕ) (cells lens loads slots : List ℕ) (g : Slott
       below-j = slot-in j hj q
 
       pub two-fit : Fitting cells lens loads (at i) (at j)
-      two-fit = fit (at i) (at j) below-i below-j
+      two-fit = fit s n cells lens loads slots g (at i) (at j) below-i below-j
 
       two-slots : Slots routes (at i) (at j)
       two-slots = record { differ = differ; into = omega (arith, below-i, length-slots n cells lens); from = omega (arith, below-j, length-slots n cells lens) }
@@ -228,7 +151,7 @@ module _ (s : List ℕ) (n : ℕ) (cells lens loads slots : List ℕ) (g : Slott
       some-at : (x : ℕ) → x < rowsOf s → (at x ≡ n → ⊥) → 0 < length (cut cells lens (at x))
       some-at x h p =
           let below = slot-in x h p in
-          rw (cut-route (at x) below, slot-at x h) (slot-some x routes (omega (arith, below, slot-at x h, length-slots n cells lens)))
+          rw (cut-route s n cells lens loads slots g (at x) below, slot-at x h) (slot-some x routes (omega (arith, below, slot-at x h, length-slots n cells lens)))
 
       pub both-some : (0 < length (cut cells lens (at i))) × (0 < length (cut cells lens (at j)))
       both-some = (some-at i hi p, some-at j hj q)
@@ -237,7 +160,7 @@ module _ (s : List ℕ) (n : ℕ) (cells lens loads slots : List ℕ) (g : Slott
       load-at x h p = g .load (at x) (slot-in x h p) ∙ ap (λ (k : ℕ). loadOf s (routeAt routes k)) (slot-at x h)
 
       pub load-sum : getD loads (at i) 0 + getD loads (at j) 0 < 0x1_0000_0000
-      load-sum = loads-fit (at i) (at j) differ below-i below-j
+      load-sum = loads-fit s n cells lens loads slots g (at i) (at j) differ below-i below-j
 
       pub too-much : t .common .capacity < getD loads (at i) 0 + getD loads (at j) 0 → routes ≡ afterMerge routes (mergeOf s t routes i j)
       too-much h = stays (over-apart s t routes i j (omega (arith, h, load-at i hi p, load-at j hj q)))
@@ -255,8 +178,8 @@ module _ (s : List ℕ) (n : ℕ) (cells lens loads slots : List ℕ) (g : Slott
         found : way ≡ wayAt (routeAt routes (slotOf i routes)) (routeAt routes (slotOf j routes)) (slotOf i routes) (slotOf j routes)
         found =
             e
-            ∙ ap (λ (r : List ℕ). wayAt r (cut cells lens (at j)) (at i) (at j)) (cut-route (at i) below-i)
-            ∙ ap (λ (r : List ℕ). wayAt (routeAt routes (at i)) r (at i) (at j)) (cut-route (at j) below-j)
+            ∙ ap (λ (r : List ℕ). wayAt r (cut cells lens (at j)) (at i) (at j)) (cut-route s n cells lens loads slots g (at i) below-i)
+            ∙ ap (λ (r : List ℕ). wayAt (routeAt routes (at i)) r (at i) (at j)) (cut-route s n cells lens loads slots g (at j) below-j)
             ∙ ap (λ (k : ℕ). wayAt (routeAt routes k) (routeAt routes (at j)) k (at j)) (slot-at i hi)
             ∙ ap (λ (k : ℕ). wayAt (routeAt routes (slotOf i routes)) (routeAt routes k) (slotOf i routes) k) (slot-at j hj)
 
@@ -264,93 +187,6 @@ module _ (s : List ℕ) (n : ℕ) (cells lens loads slots : List ℕ) (g : Slott
         merges h =
             both-join s t routes i j (λ k. differ (slot-at i hi ∙ k ∙ sym (slot-at j hj))) (omega (arith, h, load-at i hi p, load-at j hj q))
             ∙ ap (λ (w : Way). passing s (t .common) routes (meant routes w)) (sym found)
-
-  -- ---- a way that joins two slots
-  module _ (way : Way) (into from : ℕ) (back forth : Bool) (y : WaySlots routes way) (w : way ≡ Join into from back forth) where
-    two : Slots routes into from
-    two = subst (WaySlots routes) w y
-
-    into-in : into < n
-    into-in = omega (arith, two .into, length-slots n cells lens)
-
-    from-in : from < n
-    from-in = omega (arith, two .from, length-slots n cells lens)
-
-    pub fitting : Fitting cells lens loads into from
-    fitting = fit into from into-in from-in
-
-    pub few-stops : length (cut cells lens into) + length (cut cells lens from) ≤ 101
-    few-stops = rw (cut-route into into-in, cut-route from from-in) (stops-fit into from (two .differ))
-
-    -- the rounds joined
-    module _ (t : Terms) (home : t .depot < rowsOf s) (stops : List ℕ) (e : stops ≡ endToEnd back forth (cut cells lens into) (cut cells lens from)) where
-      joined-stops : stops ≡ endToEnd back forth (routeAt routes into) (routeAt routes from)
-      joined-stops =
-          e
-          ∙ ap (λ (r : List ℕ). endToEnd back forth r (cut cells lens from)) (cut-route into into-in)
-          ∙ ap (λ (r : List ℕ). endToEnd back forth (routeAt routes into) r) (cut-route from from-in)
-
-      same-stops : JoinedStops s (λ (i : ℕ). i < rowsOf s) (routeAt routes into) (routeAt routes from) stops
-      same-stops = rw joined-stops (turned-stops s (λ (i : ℕ). i < rowsOf s) back forth (routeAt routes into) (routeAt routes from))
-
-      stops-few : length stops ≤ 101
-      stops-few = omega (arith, ap length e, turned-stops s (λ (i : ℕ). Unit) back forth (cut cells lens into) (cut cells lens from) .long, few-stops)
-
-      routed-of : (route : List ℕ) → length route ≤ 101 → Every (λ (i : ℕ). i < rowsOf s) route → Routed s (t .depot) route
-      routed-of route l r = record {
-        sheet = g .routes .sheet;
-        home = home;
-        few = l;
-        row = λ m h. every-at (λ (i : ℕ). i < rowsOf s) 0 route m h r;
-      }
-
-      -- what the checks ask
-      pub all-routed : Routed s (t .depot) (cut cells lens into) × (Routed s (t .depot) (cut cells lens from) × Routed s (t .depot) stops)
-      all-routed = (
-        routed-of (cut cells lens into) (omega (arith, few-stops)) (rw (cut-route into into-in) (rows-at into into-in)),
-        (
-          routed-of (cut cells lens from) (omega (arith, few-stops)) (rw (cut-route from from-in) (rows-at from from-in)),
-          routed-of stops stops-few (same-stops .every (rows-at into into-in) (rows-at from from-in)),
-        ),
-      )
-
-      -- what taking over asks
-      from-row : (m : ℕ) → m < getD lens from 0 → getD (slotAt cells lens from) m 0 < 101
-      from-row m h =
-          let l = every-at (λ (i : ℕ). i < rowsOf s) 0 (routeAt routes from) m (omega (arith, h, g .long from from-in)) (rows-at from from-in) in
-          let q = ap (λ (r : List ℕ). getD r m 0) (slots-at n cells lens from from-in) in
-          omega (arith, l, q, g .routes .sheet .sized .rows)
-
-      load-fits : getD loads into 0 + getD loads from 0 < 0x1_0000_0000
-      load-fits = loads-fit into from (two .differ) into-in from-in
-
-      pub takes-over : Roomy (into + 1) cells lens loads slots × (Roomy (from + 1) cells lens loads slots × ((length stops ≤ 101) × ((getD lens from 0 ≤ 101) × (((m : ℕ) → m < getD lens from 0 → getD (slotAt cells lens from) m 0 < 101) × (getD loads into 0 + getD loads from 0 < 0x1_0000_0000)))))
-      takes-over = (roomy-within (omega (arith, into-in)) (g .room), (roomy-within (omega (arith, from-in)) (g .room), (stops-few, (fitting .from-long, (from-row, load-fits)))))
-
-      -- ---- whether it passes
-      module _ (passed : Bool) (v : passed ≡ joinedPasses s t (cut cells lens into) (cut cells lens from) stops) where
-        passing-so : passing s t routes (meant routes way) ≡ onlyIf passed (joined into from stops)
-        unfolding mergePasses
-        passing-so =
-            ap (λ (x : Way). passing s t routes (meant routes x)) w
-            ∙ ap (λ (r : List ℕ). passing s t routes (joined into from r)) (sym joined-stops)
-            ∙ ap (λ (x : Bool). onlyIf x (joined into from stops))
-            (ap (λ (r : List ℕ). joinedPasses s t r (routeAt routes from) stops) (sym (cut-route into into-in))
-            ∙ ap (λ (r : List ℕ). joinedPasses s t (cut cells lens into) r stops) (sym (cut-route from from-in))
-            ∙ sym v)
-
-        pub not-passed : passed ≡ false → routes ≡ afterMerge routes (passing s t routes (meant routes way))
-        not-passed u = sym (ap (afterMerge routes) (passing-so ∙ ap (λ (x : Bool). onlyIf x (joined into from stops)) u))
-
-        pub taken : passed ≡ true → (cells′ lens′ loads′ slots′ : List ℕ) → length slots′ ≡ length slots → SlotTaken cells lens loads slots into from stops cells′ lens′ loads′ slots′
-            → Slotted s n cells′ lens′ loads′ slots′ × (slotsIn n cells′ lens′ ≡ afterMerge routes (passing s t routes (meant routes way)))
-        taken u cells′ lens′ loads′ slots′ l d =
-            let r = took-over s n cells lens loads slots g into from stops two same-stops cells′ lens′ loads′ slots′ l d in
-            (r .0, r .1 ∙ sym (ap (afterMerge routes) (passing-so ∙ ap (λ (x : Bool). onlyIf x (joined into from stops)) u)))
-
--- a way that joins nothing
-pub way-apart : (s : List ℕ) (t : Terms) (routes : List (List ℕ)) (way : Way) → way ≡ Apart → routes ≡ afterMerge routes (passing s t routes (meant routes way))
-way-apart s t routes way e = sym (ap (afterMerge routes) (ap (λ (w : Way). passing s t routes (meant routes w)) e ∙ apart-stays s t routes))
 
 -- ---- one saving after another
 pub record Merging (s : List ℕ) (t : Directed) (n : ℕ) (from to entries cells₀ lens₀ loads₀ slots₀ trial₀ cells lens loads slots trial : List ℕ) (k end : ℕ) : Type 0 where

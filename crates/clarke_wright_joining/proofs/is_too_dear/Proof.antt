@@ -1,8 +1,8 @@
--- `clarke_wright_merging::is_too_dear` meets its contract. Assumes nothing.
+-- `clarke_wright_joining::is_too_dear` meets its contract. Assumes nothing.
 use borrow.Author.Needs.{needs}
 use borrow.Author.Tests.{not-true, not-false}
-use Rattle.clarke_wright_merging.proofs.is_too_dear.Statement.{statement}
-use Rattle.clarke_wright_merging.proofs.is_too_dear.Tie as tie
+use Rattle.clarke_wright_joining.proofs.is_too_dear.Statement.{statement}
+use Rattle.clarke_wright_joining.proofs.is_too_dear.Tie as tie
 
 returns : tie.Need-returns
 returns c = rw (not-true (c .before .before .before .before .before .before .args .terms .soft) (c .if1 .taken))

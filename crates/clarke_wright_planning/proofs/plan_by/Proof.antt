@@ -1,4 +1,4 @@
--- `clarke_wright::plan_by` meets its contract. Assumes nothing.
+-- `clarke_wright_planning::plan_by` meets its contract. Assumes nothing.
 use mathlib.Core.Path.{sym, subst}
 use native.Mathlib.Omega.{arith}
 use lib.Seq.{length-take-le}
@@ -8,9 +8,9 @@ use Rattle.constructive.specs.Terms.{termsOf}
 use Rattle.constructive.specs.Members.{part}
 use Rattle.clarke_wright_savings.specs.declared.terms.Directed.{Directed}
 use Rattle.clarke_wright_savings.specs.Savings.{directedOf}
-use Rattle.clarke_wright.proofs.Planned.{members-long, laying, aside-within, aside-fits, planned-count, planned-laid}
-use Rattle.clarke_wright.proofs.plan_by.Statement.{statement}
-use Rattle.clarke_wright.proofs.plan_by.Tie as tie
+use Rattle.clarke_wright_planning.proofs.Planned.{members-long, laying, aside-within, aside-fits, planned-count, planned-laid}
+use Rattle.clarke_wright_planning.proofs.plan_by.Statement.{statement}
+use Rattle.clarke_wright_planning.proofs.plan_by.Tie as tie
 
 sub-count : tie.Need-sub-count
 sub-count c = search needs

@@ -1,8 +1,8 @@
--- `clarke_wright_merging::way_between` meets its contract. Assumes nothing.
+-- `clarke_wright_joining::way_between` meets its contract. Assumes nothing.
 use borrow.Author.Needs.{needs}
-use Rattle.clarke_wright_merging.proofs.Ways.{first-at, last-at}
-use Rattle.clarke_wright_merging.proofs.way_between.Statement.{statement}
-use Rattle.clarke_wright_merging.proofs.way_between.Tie as tie
+use Rattle.clarke_wright_joining.proofs.Ways.{first-at, last-at}
+use Rattle.clarke_wright_joining.proofs.way_between.Statement.{statement}
+use Rattle.clarke_wright_joining.proofs.way_between.Tie as tie
 
 sub-i-last : tie.Need-sub-i-last
 sub-i-last c = search needs

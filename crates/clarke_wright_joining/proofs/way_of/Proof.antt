@@ -1,7 +1,7 @@
--- `clarke_wright_merging::way_of` meets its contract. Assumes nothing.
-use Rattle.clarke_wright_merging.proofs.Ways.{one-fails}
-use Rattle.clarke_wright_merging.proofs.way_of.Statement.{statement}
-use Rattle.clarke_wright_merging.proofs.way_of.Tie as tie
+-- `clarke_wright_joining::way_of` meets its contract. Assumes nothing.
+use Rattle.clarke_wright_joining.proofs.Ways.{one-fails}
+use Rattle.clarke_wright_joining.proofs.way_of.Statement.{statement}
+use Rattle.clarke_wright_joining.proofs.way_of.Tie as tie
 
 returns : tie.Need-returns
 returns c = rw (c .before .if1 .taken, c .if2 .taken)

@@ -18,7 +18,7 @@ use Rattle.clarke_wright_savings.specs.Savings.{Saving, savingOf, saves, saving
 use Rattle.clarke_wright_savings.specs.Laws.Ranked.{kept-every, savings-entries}
 use Rattle.clarke_wright_savings.specs.Listed.{fromsOf, tosOf, Listed}
 use Rattle.clarke_wright_savings.proofs.Ranking.{within}
-use Rattle.clarke_wright_merging.specs.Ways.{Legs, mergedIn}
+use Rattle.clarke_wright_merging.specs.Legs.{Legs, mergedIn}
 
 -- ---- legs between rows
 module _ (s : List ℕ) where

@@ -1,4 +1,4 @@
--- `clarke_wright::merge_members` meets its contract. Assumes nothing.
+-- `clarke_wright_planning::merge_members` meets its contract. Assumes nothing.
 use mathlib.Core.Path.{sym, _∙_}
 use native.Mathlib.Nat.{le-trans, mul-le-mul-left}
 use native.Mathlib.Omega.{arith}
@@ -6,9 +6,9 @@ use lib.ListN.{length}
 use lib.Seq.{length-take-le}
 use borrow.Author.Needs.{needs}
 use Rattle.clarke_wright_savings.specs.Laws.Ranked.{savings-few}
-use Rattle.clarke_wright.proofs.Merges.{ranked-legs, merged-routes}
-use Rattle.clarke_wright.proofs.merge_members.Statement.{statement}
-use Rattle.clarke_wright.proofs.merge_members.Tie as tie
+use Rattle.clarke_wright_planning.proofs.Merges.{ranked-legs, merged-routes}
+use Rattle.clarke_wright_planning.proofs.merge_members.Statement.{statement}
+use Rattle.clarke_wright_planning.proofs.merge_members.Tie as tie
 
 rank-requires : tie.Need-rank-requires
 rank-requires c κs = (c .before .before .before .before .before .before .before .before .before .before .before .before .before .before .before .before .before .pre .0, (c .before .before .before .before .before .before .before .before .before .before .before .before .before .before .before .before .before .pre .1 .1 .0, le-trans (mul-le-mul-left (length (c .before .before .before .before .before .before .before .before .before .before .before .before .before .before .before .before .before .args .members .now)) (c .before .before .before .before .before .before .before .before .before .before .before .before .before .before .before .before .before .pre .0 .few)) (c .before .before .before .before .before .before .before .before .before .before .before .before .before .before .before .before .before .pre .1 .1 .1 .0 .celled)))

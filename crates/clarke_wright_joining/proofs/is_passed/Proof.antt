@@ -1,8 +1,8 @@
--- `clarke_wright_merging::is_passed` meets its contract. Assumes nothing.
+-- `clarke_wright_joining::is_passed` meets its contract. Assumes nothing.
 use borrow.Author.Needs.{needs}
 use borrow.Author.Tests.{not-true, not-false}
-use Rattle.clarke_wright_merging.proofs.is_passed.Statement.{statement}
-use Rattle.clarke_wright_merging.proofs.is_passed.Tie as tie
+use Rattle.clarke_wright_joining.proofs.is_passed.Statement.{statement}
+use Rattle.clarke_wright_joining.proofs.is_passed.Tie as tie
 
 returns : tie.Need-returns
 returns c = rw (not-true (c .before .before .before .before .before .before .args .terms .constrained) (c .if1 .taken))

@@ -1,4 +1,4 @@
--- `clarke_wright_merging::merge_by` meets its contract. Assumes nothing.
+-- `clarke_wright_joining::merge_by` meets its contract. Assumes nothing.
 use mathlib.Core.Path.{sym}
 use native.Mathlib.Omega.{arith}
 use lib.ListN.{take}
@@ -6,9 +6,9 @@ use lib.Seq.{length-take-le}
 use borrow.Author.Needs.{needs}
 use borrow.Author.Tests.{not-true, not-false}
 use Rattle.clarke_wright_slots.specs.Slots.{slotsIn}
-use Rattle.clarke_wright_merging.proofs.Merging.{fitting, few-stops, all-routed, takes-over, not-passed, taken, way-apart}
-use Rattle.clarke_wright_merging.proofs.merge_by.Statement.{statement}
-use Rattle.clarke_wright_merging.proofs.merge_by.Tie as tie
+use Rattle.clarke_wright_joining.proofs.Joining.{fitting, few-stops, all-routed, takes-over, not-passed, taken, way-apart}
+use Rattle.clarke_wright_joining.proofs.merge_by.Statement.{statement}
+use Rattle.clarke_wright_joining.proofs.merge_by.Tie as tie
 
 enum-known-way : tie.Need-enum-known-way
 enum-known-way c = search needs

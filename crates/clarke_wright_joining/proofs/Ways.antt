@@ -18,8 +18,8 @@ use Rattle.clarke_wright_savings.specs.Savings.{routeAt, firstIs, lastIs, apart
 use Rattle.clarke_wright_savings.specs.Routes.{Slots}
 use Rattle.clarke_wright_savings.specs.Laws.Joined.{JoinedStops, count-reverse, load-reverse, every-reverse}
 use Rattle.clarke_wright_slots.specs.Slots.{orReversed, endToEnd}
-use Rattle.clarke_wright_merging.specs.declared.Way.the-variants.{Apart, Join}
-use Rattle.clarke_wright_merging.specs.Ways.{meant, wayOf, WaySlots}
+use Rattle.clarke_wright_joining.specs.declared.Way.the-variants.{Apart, Join}
+use Rattle.clarke_wright_joining.specs.Ways.{meant, wayOf, WaySlots}
 
 -- ---- a round's first and last stop
 pub first-at : (x : ℕ) (route : List ℕ) → 0 < length route → eqb (getD route 0 0) x ≡ firstIs x route
