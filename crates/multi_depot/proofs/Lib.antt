@@ -1,2 +1,1 @@
-pub mod UpdatingMarks
-pub mod Settling
+pub mod Gathering

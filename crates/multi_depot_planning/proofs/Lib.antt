@@ -1,4 +1,3 @@
-pub mod Fleets
 pub mod Sharing
 pub mod Plans
 pub mod Alone

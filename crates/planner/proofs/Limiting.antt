@@ -1,31 +1,22 @@
 -- The limiter's refusals before its plan is read, from those of the planner; and its answer. Assumes nothing.
-use mathlib.Core.Path.{_≡_, refl, sym, ap, _∙_, subst}
-use Prim.Native.Nat.{ℕ, zero, suc, _-_, _≤_, _<_}
+use mathlib.Core.Path.{_≡_, refl, sym, ap, _∙_}
+use Prim.Native.Nat.{ℕ, zero, suc, _≤_, _<_}
 use native.Mathlib.Omega.{arith}
 use mathlib.Core.Bool.{Bool, true, false, _&&_, true≢false}
 use mathlib.Core.List.{List}
-use lib.Dec.{T, leb, ltb, eqb}
-use lib.Ieee.Fits.{and-r}
+use lib.Dec.{T, ltb, eqb}
 use lib.ListN.{length, getD}
 use borrow.Author.Tests.{ne-eqb, eqb-true, ltb-true, lt-ltb, leb-true, lt-leb, le-leb}
-use Rattle.sheet.specs.Fields.{rowsOf, sheetLength, planLength}
+use Rattle.sheet.specs.Fields.{sheetLength, planLength}
 use Rattle.sheet.specs.Depots.{depotsOf}
 use Rattle.sheet.specs.Ranges.{rowsInRange, entriesInRange, vehiclesInRange}
 use Rattle.sheet.specs.Refusal.{headerRight, countsRight, methodRight, lengthsRight, fleetRight, unless, contents, refusalOf}
 use Rattle.sheet.specs.Laws.Accepted.{accepted}
 use Rattle.sheet.specs.Laws.Stops.{depots-some}
-use Rattle.constructive.specs.Outcome.{outcomeIn}
-use Rattle.constructive.specs.Right.{outcomeRight}
-use Rattle.plan.specs.Plan.{planOf}
-use Rattle.plan.specs.Read.{roundsAt, readPlan, planRight}
-use Rattle.plan_reader.specs.declared.Reading.{Reading}
-use Rattle.plan_reader.specs.declared.Reading.the-variants.{Right, Wrong}
-use Rattle.plan_reader.specs.Reading.{ReadRight, ReadAs}
-use Rattle.fleet.specs.Limit.{limitRoutes}
-use Rattle.fleet_limiter.specs.Limitable.{Limitable}
+use Rattle.plan.specs.Read.{planRight}
+use Rattle.planner_limiting.specs.Limiting.{limitedPlan, Unread, outBy, LimitDone}
 use Rattle.planner.specs.Answer.{numberOf, bytesOf}
-use Rattle.planner.specs.Limited.{orElse, oneDepot, unreadRefusal, limitRefusal, limitedPlan, limitTold, limitAnswer, LimitAnswered, LimitOnce, LimitFew, LimitStood, LimitAside}
-use Rattle.planner.specs.Limiting.{Unread, outBy, LimitDone}
+use Rattle.planner.specs.Limited.{orElse, oneDepot, unreadRefusal, limitRefusal, limitTold, limitAnswer, LimitAnswered, LimitOnce, LimitFew, LimitStood, LimitAside}
 use Rattle.planner.specs.Laws.LimitPromised.{limited-stands, limited-few, limited-stood, limited-aside}
 
 -- what the sheet holds is told of by 5 and above
@@ -195,35 +186,3 @@ module _ (s plan lent : List ℕ) (greatest n : ℕ) (told : n ≡ unreadRefusal
               ),
             ),
           )
-
--- ---- the plan in, read
-module _ (s plan lent stops ends vehicles : List ℕ) (greatest : ℕ) (x : Reading) (read : ReadAs s plan x stops ends vehicles) where
-  pub wrong-done : x ≡ Wrong → LimitDone s plan greatest lent 10 lent
-  wrong-done e = let w : planRight s plan ≡ false = subst (λ (y : Reading). ReadAs s plan y stops ends vehicles) e read in record { number = rw w; bytes = rw w }
-
-  module _ (n : ℕ) (e : x ≡ Right n) where
-    right-read : ReadRight s plan stops ends vehicles n
-    right-read = subst (λ (y : Reading). ReadAs s plan y stops ends vehicles) e read
-
-    read-right : T (outcomeRight s (readPlan s plan))
-    unfolding planRight
-    read-right = and-r (leb (roundsAt plan) (rowsOf s)) (outcomeRight s (readPlan s plan)) (subst T (sym (right-read .right)) tt)
-
-    module _ (total : ℕ) (all : total ≡ rowsOf s - depotsOf s) where
-      read-outcome : outcomeIn stops ends vehicles n total ≡ readPlan s plan
-      read-outcome = rw all (right-read .outcome)
-
-      pub limit-may : (marks trial : List ℕ) → Unread s plan lent → 101 ≤ length marks → 101 ≤ length trial → Limitable s stops ends vehicles marks trial n total
-      limit-may marks trial ok m t = record {
-        tables = rw all (right-read .tables);
-        right = rw read-outcome read-right;
-        one = ok .one;
-        all = all;
-        marked = omega (arith, ok .sheet .sized .rows);
-        tried = t;
-      }
-
-      pub limit-done : (stops′ ends′ vehicles′ : List ℕ) (left : ℕ) → outcomeIn stops′ ends′ vehicles′ left total ≡ limitRoutes s greatest (outcomeIn stops ends vehicles n total)
-          → (out : List ℕ) → out ≡ planOf s (outcomeIn stops′ ends′ vehicles′ left total) true → LimitDone s plan greatest lent 0 out
-      unfolding limitedPlan
-      limit-done stops′ ends′ vehicles′ left f out w = record { number = rw (right-read .right); bytes = rw (right-read .right, w, f, read-outcome) }

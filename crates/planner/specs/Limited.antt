@@ -1,7 +1,7 @@
 -- docs/SCOPE.md#the-limiter. What the limiter answers with, and what holds of every plan out. Document 01: "The limiter takes a sheet, a plan in, a greatest number of rounds (u32) and a plan out."
 use mathlib.Core.Path.{_≡_}
 use Prim.Native.Nat.{ℕ, zero, suc, _≤_, _<_}
-use mathlib.Core.Bool.{Bool, true, _&&_}
+use mathlib.Core.Bool.{Bool, _&&_}
 use mathlib.Core.List.{List}
 use lib.Dec.{leb}
 use lib.ListN.{length}
@@ -10,10 +10,9 @@ use Rattle.lists.specs.Every.{Every}
 use Rattle.lists.specs.Ascending.{Ascending}
 use Rattle.sheet.specs.Depots.{depotsOf}
 use Rattle.sheet.specs.Refusal.{headerRight, countsRight, methodRight, lengthsRight, unless, contents}
-use Rattle.plan.specs.Plan.{planOf}
 use Rattle.plan.specs.Read.{readPlan, planRight}
-use Rattle.fleet.specs.Limit.{limitRoutes}
 use Rattle.fleet.specs.Stood.{Stood}
+use Rattle.planner_limiting.specs.Limiting.{limitedPlan}
 use Rattle.planner.specs.Answer.{Answer, refused, planned, numberOf, bytesOf, Standing}
 
 -- ---- the refusals
@@ -42,10 +41,6 @@ unfoldable pub limitRefusal : List ℕ → List ℕ → ℕ → ℕ
 limitRefusal s plan room = orElse (unreadRefusal s (length plan) room) (unless (planRight s plan) 10 0)
 
 -- ---- the answer
--- the plan out, its figures by `build_route` and its cost by `price`; always priced
-unfoldable pub limitedPlan : List ℕ → List ℕ → ℕ → List ℕ
-limitedPlan s plan greatest = planOf s (limitRoutes s greatest (readPlan s plan)) true
-
 abbrev pub limitTold : ℕ → List ℕ → List ℕ → ℕ → Answer
 limitTold zero s plan greatest = planned (limitedPlan s plan greatest)
 limitTold (suc n) s plan greatest = refused (suc n)

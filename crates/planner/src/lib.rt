@@ -2,10 +2,8 @@
 mod limit;
 
 ghost use mathlib.Core.Path.{_≡_};
-ghost use Prim.Native.Nat.{_-_};
 ghost use lib.ListN.{length};
-ghost use Rattle.sheet.specs.Fields.{rowsOf, planLength};
-ghost use Rattle.sheet.specs.Depots.{depotsOf};
+ghost use Rattle.sheet.specs.Fields.{planLength};
 ghost use Rattle.sheet.specs.Accepted.{Sized, Accepted};
 ghost use Rattle.sheet.specs.Refusal.{refusalOf};
 ghost use Rattle.planner.specs.Answer.{priced, planFor, Answered, Once, Feasibly, Lawful, Alone, Closed};
@@ -18,16 +16,6 @@ pub extern "C" fn check_sheet(sheet: &[u8], plan_len: usize) -> u32
     ensures { λ r. ⌜ r ≡ refusalOf (now (sheet .entry)) «plan_len» ⌝ }
 {
     sheet_refusal::refusal(sheet, plan_len)
-}
-
-// How many rows are no depots.
-fn stops_in(sheet: &[u8]) -> usize
-    requires { ⌜ Sized (now sheet) ⌝ }
-    ensures { λ r. ⌜ r ≡ rowsOf (now (sheet .entry)) - depotsOf (now (sheet .entry)) ⌝ }
-{
-    let rows = sheet::rows(sheet);
-    let depots = sheet::customer::depots(sheet);
-    if depots < rows { rows - depots } else { 0 }
 }
 
 fn is_priced(sheet: &[u8]) -> bool
@@ -65,7 +53,7 @@ fn fill_by(
         ends,
         vehicles,
         rounds,
-        stops_in(sheet),
+        planner_limiting::stops_in(sheet),
         is_priced(sheet),
     );
 }
@@ -131,5 +119,5 @@ pub extern "C" fn limit_rounds(
     if told != 0 {
         return told;
     }
-    limit::limit(sheet, plan_in, greatest, plan_out)
+    planner_limiting::limit(sheet, plan_in, greatest, plan_out)
 }

@@ -1,11 +1,9 @@
-// The limiter: the plan in is read into tables, rounds are dropped there, and the plan out is written from them.
-use plan_reader::Reading;
+// What the limiter refuses before it reads the plan in.
 use sheet::customer;
 ghost use mathlib.Core.Path.{_≡_};
 ghost use mathlib.Core.Bool.{_&&_};
 ghost use lib.Dec.{ltb};
 ghost use Rattle.planner.specs.Limited.{unreadRefusal};
-ghost use Rattle.planner.specs.Limiting.{Unread, LimitTables, LimitDone};
 
 // Refusals 1 to 4, which come before what the sheet holds is looked at.
 fn is_early(number: u32) -> bool
@@ -35,63 +33,4 @@ pub fn unread_refusal(sheet: &[u8], in_len: usize, out_len: usize) -> u32
         return 9;
     }
     0
-}
-
-// The plan out by way of tables that are lent, or 10 and nothing written.
-fn limit_by(
-    sheet: &[u8],
-    plan_in: &[u8],
-    greatest: u32,
-    plan_out: &mut [u8],
-    stops: &mut [u16],
-    ends: &mut [u16],
-    vehicles: &mut [u16],
-    marks: &mut [u16],
-    trial: &mut [u16],
-) -> u32
-    requires { ⌜ Unread (now sheet) (now «plan_in») (now «plan_out») ⌝ }
-    requires { ⌜ LimitTables (now stops) (now ends) (now vehicles) (now marks) (now trial) ⌝ }
-    ensures { λ r. ⌜ LimitDone (now (sheet .entry)) (now («plan_in» .entry)) greatest (now («plan_out» .entry)) r (now («plan_out» .exit)) ⌝ }
-{
-    let Reading::Right(rounds) = plan_reader::read_plan(sheet, plan_in, stops, ends, vehicles)
-    else {
-        return 10;
-    };
-    let total = crate::stops_in(sheet);
-    let left = fleet_limiter::limit_routes(
-        sheet,
-        greatest,
-        stops,
-        ends,
-        vehicles,
-        marks,
-        trial,
-        rounds,
-        total,
-    );
-    plan::write_plan(plan_out, sheet, stops, ends, vehicles, left, total, true);
-    0
-}
-
-// The same. The tables stand here, a kilobyte in all.
-pub fn limit(sheet: &[u8], plan_in: &[u8], greatest: u32, plan_out: &mut [u8]) -> u32
-    requires { ⌜ Unread (now sheet) (now «plan_in») (now «plan_out») ⌝ }
-    ensures { λ r. ⌜ LimitDone (now (sheet .entry)) (now («plan_in» .entry)) greatest (now («plan_out» .entry)) r (now («plan_out» .exit)) ⌝ }
-{
-    let mut stops = [0u16; sheet::MOST_ROWS];
-    let mut ends = [0u16; sheet::MOST_ROWS];
-    let mut vehicles = [0u16; sheet::MOST_ROWS];
-    let mut marks = [0u16; sheet::MOST_ROWS];
-    let mut trial = [0u16; sheet::MOST_ROWS];
-    limit_by(
-        sheet,
-        plan_in,
-        greatest,
-        plan_out,
-        &mut stops,
-        &mut ends,
-        &mut vehicles,
-        &mut marks,
-        &mut trial,
-    )
 }

@@ -1,7 +1,8 @@
 -- `multi_depot::by_depot` meets its contract. Assumes nothing.
-use mathlib.Core.Path.{_≡_, sym, _∙_}
+use mathlib.Core.Path.{_≡_, refl, sym, _∙_}
 use Prim.Native.Nat.{_-_, _≤_}
 use native.Mathlib.Omega.{arith}
+use mathlib.Core.List.{[]}
 use lib.ListN.{length, replicate}
 use lib.Seq.{length-take-le}
 use borrow.Author.Tests.{not-true}
@@ -9,7 +10,8 @@ use borrow.Author.Needs.{needs}
 use Rattle.sheet.specs.Fields.{rowsOf}
 use Rattle.multi_depot_offers.specs.ByDepot.{plannedAt, byDepot}
 use Rattle.multi_depot_offers.specs.Contracts.{PlanningTables, Planned}
-use Rattle.multi_depot.proofs.Settling.{planned-still, room-aside, gathered-held}
+use Rattle.multi_depot_planning.proofs.Plans.{lent-still}
+use Rattle.multi_depot.proofs.Gathering.{planned-still, room-aside, gathered-held}
 use Rattle.multi_depot.proofs.by_depot.Statement.{statement}
 use Rattle.multi_depot.proofs.by_depot.Tie as tie
 
@@ -24,10 +26,10 @@ plan-depots-requires c κs = let p = c .before .before .before .before .before .
     (record { sheet = p .0 .sheet; rows = c .before .before .before .before .before .before .before .before .first-at .kept .1 .1 .0 ∙ p .0 .rows; fleet-long = p .0 .fleet-long; stopped = p .0 .stopped; ended = p .0 .ended; driven = p .0 .driven }, (c .before .before .before .before .before .before .before .before .before .before .depots .ensures, p .1))
 
 sub-settle : tie.Need-sub-settle
-sub-settle c = search needs
+sub-settle c = omega arith
 
 part-before-start : tie.Need-part-before-start
-part-before-start c = search needs
+part-before-start c = omega arith
 
 part-before-end : tie.Need-part-before-end
 part-before-end c = omega (arith, c .before .before .before .before .before .before .before .before .before .before .before .before .before .before .before .before .before .before .before .before .before .before .before .before .before .before .before .before .before .pre .0 .rows, c .before .before .before .before .before .before .before .before .before .before .before .before .before .before .before .before .before .before .before .before .before .before .before .before .before .before .before .before .before .pre .0 .sheet .sized .rows)
@@ -35,14 +37,7 @@ part-before-end c = omega (arith, c .before .before .before .before .before .bef
 settle-requires : tie.Need-settle-requires
 settle-requires c κs = let p = c .before .before .before .before .before .before .before .before .before .before .before .before .before .before .before .before .before .before .before .before .before .before .before .before .before .before .before .before .before .before .before .before .before .before .before .before .pre .0 in
     let w = c .before .before .before .before .before .before .before .before .before .before .before .before .before .before .before .before .before .plan-depots in (
-      record {
-        sheet = p .sheet;
-        rows = c .before .before .before .before .before .before .before .before .before .before .before .before .before .before .before .before .before .before .before .before .before .before .before .before .before .before .first-at .kept .1 .1 .0 ∙ p .rows;
-        fleet-long = omega (arith, p .fleet-long, w .kept .1 .1 .1 .1 .0);
-        stopped = omega (arith, p .stopped, w .kept .1 .1 .1 .1 .1 .0);
-        ended = omega (arith, p .ended, w .kept .1 .1 .1 .1 .1 .1 .0);
-        driven = omega (arith, p .driven, w .kept .1 .1 .1 .1 .1 .1 .1 .0);
-      },
+      lent-still {marks₀ = []} {marks = []} p (record { marked = refl; fleet-long = w .kept .1 .1 .1 .1 .0; stopped = w .kept .1 .1 .1 .1 .1 .0; ended = w .kept .1 .1 .1 .1 .1 .1 .0; driven = w .kept .1 .1 .1 .1 .1 .1 .1 .0 }) (c .before .before .before .before .before .before .before .before .before .before .before .before .before .before .before .before .before .before .before .before .before .before .before .before .before .before .first-at .kept .1 .1 .0 ∙ p .rows),
       ((c .before .before .before .before .before .before .before .before .before .before .before .before .before .before .before .before .before .before .before .before .before .before .before .before .before .before .before .before .depots .ensures, length-take-le (length (c .before .before .before .before .before .before .before .before .before .before .before .before .before .before .before .before .before .before .before .before .before .before .before .before .before .before .before .before .before .before .before .before .before .before .before .before .args .at .now) - 0) (replicate 101 0) (omega (arith, p .rows, p .sheet .sized .rows)) ∙ omega (arith, p .rows)), (c .before .before .before .before .before .before .before .before .before .before .before .before .before .before .before .before .before .before .before .before .before .before .before .before .before .before .first-at .ensures, w .ensures .turned)),
     )
 
@@ -67,14 +62,7 @@ module _ (c : tie.After-settle) where
   vehicles-long = c .settle .kept .1 .1 .1 .1 .1 .1 .1 .1 .0 ∙ c .before .before .before .before .before .before .before .before .before .before .before .before .before .before .before .before .before .before .plan-depots .kept .1 .1 .1 .1 .1 .1 .1 .0
 
   lent : PlanningTables (c .before .before .before .before .before .before .before .before .before .before .before .before .before .before .before .before .before .before .before .before .before .before .before .before .before .before .before .before .before .before .before .before .before .before .before .before .before .args .sheet .now) (c .settle .last .1 .1 .1 .0) (c .settle .last .1 .1 .1 .1 .1 .0) (c .settle .last .1 .1 .1 .1 .1 .1 .0) (c .settle .last .1 .1 .1 .1 .1 .1 .1 .0) (c .settle .last .1 .1 .1 .1 .1 .1 .1 .1 .0)
-  lent = let p = c .before .before .before .before .before .before .before .before .before .before .before .before .before .before .before .before .before .before .before .before .before .before .before .before .before .before .before .before .before .before .before .before .before .before .before .before .before .pre .0 in record {
-    sheet = p .sheet;
-    rows = at-long ∙ p .rows;
-    fleet-long = omega (arith, p .fleet-long, fleet-long);
-    stopped = omega (arith, p .stopped, stops-long);
-    ended = omega (arith, p .ended, ends-long);
-    driven = omega (arith, p .driven, vehicles-long);
-  }
+  lent = lent-still {marks₀ = []} {marks = []} (c .before .before .before .before .before .before .before .before .before .before .before .before .before .before .before .before .before .before .before .before .before .before .before .before .before .before .before .before .before .before .before .before .before .before .before .before .before .pre .0) (record { marked = refl; fleet-long = fleet-long; stopped = stops-long; ended = ends-long; driven = vehicles-long }) (at-long ∙ c .before .before .before .before .before .before .before .before .before .before .before .before .before .before .before .before .before .before .before .before .before .before .before .before .before .before .before .before .before .before .before .before .before .before .before .before .before .pre .0 .rows)
 
   marked : rowsOf (c .before .before .before .before .before .before .before .before .before .before .before .before .before .before .before .before .before .before .before .before .before .before .before .before .before .before .before .before .before .before .before .before .before .before .before .before .before .args .sheet .now) ≤ length (c .settle .last .1 .1 .1 .1 .0)
   marked = omega (arith, c .before .before .before .before .before .before .before .before .before .before .before .before .before .before .before .before .before .before .before .before .before .before .before .before .before .before .before .before .before .before .before .before .before .before .before .before .before .pre .1, marks-long)
@@ -92,19 +80,19 @@ same-length : tie.Need-same-length
 same-length c = at-long (c .before .before .before .before .before .before .before .before .before .before .before .before .before .before .before .before .before .before .before .before)
 
 same-length-2 : tie.Need-same-length-2
-same-length-2 c = search needs
+same-length-2 c = marks-long (c .before .before .before .before .before .before .before .before .before .before .before .before .before .before .before .before .before .before .before .before)
 
 same-length-3 : tie.Need-same-length-3
-same-length-3 c = search needs
+same-length-3 c = fleet-long (c .before .before .before .before .before .before .before .before .before .before .before .before .before .before .before .before .before .before .before .before)
 
 same-length-4 : tie.Need-same-length-4
-same-length-4 c = search needs
+same-length-4 c = c .before .before .lay-aside .kept .1 .1 .1 .0 ∙ stops-long (c .before .before .before .before .before .before .before .before .before .before .before .before .before .before .before .before .before .before .before .before)
 
 same-length-5 : tie.Need-same-length-5
-same-length-5 c = search needs
+same-length-5 c = ends-long (c .before .before .before .before .before .before .before .before .before .before .before .before .before .before .before .before .before .before .before .before)
 
 same-length-6 : tie.Need-same-length-6
-same-length-6 c = search needs
+same-length-6 c = vehicles-long (c .before .before .before .before .before .before .before .before .before .before .before .before .before .before .before .before .before .before .before .before)
 
 returns : tie.Need-returns
 unfolding byDepot

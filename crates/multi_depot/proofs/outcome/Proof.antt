@@ -1,7 +1,8 @@
 -- `multi_depot::outcome` meets its contract. Assumes nothing.
 use mathlib.Core.Path.{sym, _∙_}
+use native.Mathlib.Omega.{arith}
 use borrow.Author.Needs.{needs}
-use Rattle.multi_depot.proofs.Settling.{desk-lent, told, outcome-one, outcome-several}
+use Rattle.multi_depot.proofs.Gathering.{desk-lent, told, outcome-one, outcome-several}
 use Rattle.multi_depot.proofs.outcome.Statement.{statement}
 use Rattle.multi_depot.proofs.outcome.Tie as tie
 
@@ -12,10 +13,10 @@ depots-requires : tie.Need-depots-requires
 depots-requires c κs = search needs
 
 sub-one-depot : tie.Need-sub-one-depot
-sub-one-depot c = search needs
+sub-one-depot c = omega arith
 
 part-one-depot-start : tie.Need-part-one-depot-start
-part-one-depot-start c = search needs
+part-one-depot-start c = omega arith
 
 part-one-depot-end : tie.Need-part-one-depot-end
 part-one-depot-end c = search needs
@@ -27,25 +28,25 @@ same-length : tie.Need-same-length
 same-length c = search needs
 
 same-length-2 : tie.Need-same-length-2
-same-length-2 c = search needs
+same-length-2 c = c .before .before .before .before .before .before .before .before .before .before .one-depot .kept .1 .1 .0
 
 same-length-3 : tie.Need-same-length-3
-same-length-3 c = search needs
+same-length-3 c = c .before .before .before .before .before .before .before .before .before .before .one-depot .kept .1 .1 .1 .0
 
 same-length-4 : tie.Need-same-length-4
-same-length-4 c = search needs
+same-length-4 c = c .before .before .before .before .before .before .before .before .before .before .one-depot .kept .1 .1 .1 .1 .0
 
 same-length-5 : tie.Need-same-length-5
-same-length-5 c = search needs
+same-length-5 c = c .before .before .before .before .before .before .before .before .before .before .one-depot .kept .1 .1 .1 .1 .1 .0
 
 returns : tie.Need-returns
 returns c = told _ _ _ _ _ _ (c .before .before .before .before .before .before .before .before .before .before .before .before .before .before .before .before .before .before .before .before .before .before .before .before .before .before .pre .sheet) (outcome-one _ (sym (c .before .before .before .before .before .before .before .before .before .before .before .before .before .before .before .before .before .depots .ensures) ∙ c .before .before .before .before .before .before .before .before .before .before .before .before .before .before .before .before .if1 .taken)) (c .before .before .before .before .before .before .before .before .before .before .one-depot .ensures)
 
 sub-by-depot : tie.Need-sub-by-depot
-sub-by-depot c = search needs
+sub-by-depot c = omega arith
 
 part-by-depot-start : tie.Need-part-by-depot-start
-part-by-depot-start c = search needs
+part-by-depot-start c = omega arith
 
 part-by-depot-end : tie.Need-part-by-depot-end
 part-by-depot-end c = search needs
@@ -57,19 +58,19 @@ same-length-6 : tie.Need-same-length-6
 same-length-6 c = search needs
 
 same-length-7 : tie.Need-same-length-7
-same-length-7 c = search needs
+same-length-7 c = c .before .before .before .before .before .before .before .before .before .before .before .before .by-depot .kept .1 .1 .0
 
 same-length-8 : tie.Need-same-length-8
-same-length-8 c = search needs
+same-length-8 c = c .before .before .before .before .before .before .before .before .before .before .before .before .by-depot .kept .1 .1 .1 .0
 
 same-length-9 : tie.Need-same-length-9
-same-length-9 c = search needs
+same-length-9 c = c .before .before .before .before .before .before .before .before .before .before .before .before .by-depot .kept .1 .1 .1 .1 .0
 
 same-length-10 : tie.Need-same-length-10
-same-length-10 c = search needs
+same-length-10 c = c .before .before .before .before .before .before .before .before .before .before .before .before .by-depot .kept .1 .1 .1 .1 .1 .0
 
 same-length-11 : tie.Need-same-length-11
-same-length-11 c = search needs
+same-length-11 c = c .before .before .before .before .before .before .before .before .before .before .before .before .by-depot .kept .1 .1 .1 .1 .1 .1 .0
 
 returns-2 : tie.Need-returns-2
 returns-2 c = told _ _ _ _ _ _ (c .before .before .before .before .before .before .before .before .before .before .before .before .before .before .before .before .before .before .before .before .before .before .before .before .before .before .before .before .before .pre .sheet) (outcome-several _ (λ q. c .before .before .before .before .before .before .before .before .before .before .before .before .before .before .before .before .before .before .before .if1 .left (c .before .before .before .before .before .before .before .before .before .before .before .before .before .before .before .before .before .before .before .before .depots .ensures ∙ q))) (c .before .before .before .before .before .before .before .before .before .before .before .before .by-depot .ensures)

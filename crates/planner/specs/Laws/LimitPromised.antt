@@ -21,8 +21,9 @@ use Rattle.fleet.specs.Stood.{Stood}
 use Rattle.fleet.specs.Laws.Stood.{limit-kept}
 use Rattle.fleet.specs.Laws.Placed.{outcome-once, limit-counts}
 use Rattle.fleet.specs.Laws.Aside.{aside-kept, aside-ascends}
+use Rattle.planner_limiting.specs.Limiting.{limitedPlan}
 use Rattle.planner.specs.Answer.{Standing}
-use Rattle.planner.specs.Limited.{limitedPlan, LeftAside}
+use Rattle.planner.specs.Limited.{LeftAside}
 
 read-long : (s plan : List ℕ) (n k : ℕ) → length (roundsFrom s plan n k) ≡ n
 unfolding roundsFrom

@@ -1,10 +1,10 @@
--- `multi_depot_planning::by_savings` meets its contract. Assumes nothing.
+-- `multi_depot_methods::by_savings` meets its contract. Assumes nothing.
 use mathlib.Core.Path.{sym}
 use native.Mathlib.Omega.{arith}
 use borrow.Author.Needs.{needs}
-use Rattle.multi_depot_planning.proofs.Fleets.{savings-so, first-known, none-so, with-some}
-use Rattle.multi_depot_planning.proofs.by_savings.Statement.{statement}
-use Rattle.multi_depot_planning.proofs.by_savings.Tie as tie
+use Rattle.multi_depot_methods.proofs.Fleets.{savings-so, first-known, none-so, with-some}
+use Rattle.multi_depot_methods.proofs.by_savings.Statement.{statement}
+use Rattle.multi_depot_methods.proofs.by_savings.Tie as tie
 
 fleet-of-requires : tie.Need-fleet-of-requires
 fleet-of-requires c κs = search needs

@@ -1,8 +1,8 @@
--- `multi_depot_planning::construct` meets its contract. Assumes nothing.
+-- `multi_depot_methods::construct` meets its contract. Assumes nothing.
 use borrow.Author.Needs.{needs}
-use Rattle.multi_depot_planning.proofs.Fleets.{few, known, first-known, nearest-so, window-so, none-so, with-some}
-use Rattle.multi_depot_planning.proofs.construct.Statement.{statement}
-use Rattle.multi_depot_planning.proofs.construct.Tie as tie
+use Rattle.multi_depot_methods.proofs.Fleets.{few, known, first-known, nearest-so, window-so, none-so, with-some}
+use Rattle.multi_depot_methods.proofs.construct.Statement.{statement}
+use Rattle.multi_depot_methods.proofs.construct.Tie as tie
 
 fleet-of-requires : tie.Need-fleet-of-requires
 fleet-of-requires c κs = search needs

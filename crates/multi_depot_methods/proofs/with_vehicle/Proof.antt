@@ -1,9 +1,9 @@
--- `multi_depot_planning::with_vehicle` meets its contract. Assumes nothing.
+-- `multi_depot_methods::with_vehicle` meets its contract. Assumes nothing.
 use mathlib.Core.Path.{sym, _∙_}
 use borrow.Author.Needs.{needs}
-use Rattle.multi_depot_planning.proofs.Fleets.{savings-so, insertion-so, sweep-so}
-use Rattle.multi_depot_planning.proofs.with_vehicle.Statement.{statement}
-use Rattle.multi_depot_planning.proofs.with_vehicle.Tie as tie
+use Rattle.multi_depot_methods.proofs.Fleets.{savings-so, insertion-so, sweep-so}
+use Rattle.multi_depot_methods.proofs.with_vehicle.Statement.{statement}
+use Rattle.multi_depot_methods.proofs.with_vehicle.Tie as tie
 
 method-requires : tie.Need-method-requires
 method-requires c κs = search needs

@@ -1,9 +1,9 @@
--- `multi_depot::update_marks` meets its contract. Assumes nothing.
+-- `multi_depot_settling::update_marks` meets its contract. Assumes nothing.
 use native.Mathlib.Omega.{arith}
 use borrow.Author.Needs.{needs}
-use Rattle.multi_depot.proofs.UpdatingMarks.{remarked, next-alone}
-use Rattle.multi_depot.proofs.update_marks.Statement.{statement}
-use Rattle.multi_depot.proofs.update_marks.Tie as tie
+use Rattle.multi_depot_settling.proofs.UpdatingMarks.{remarked, next-alone}
+use Rattle.multi_depot_settling.proofs.update_marks.Statement.{statement}
+use Rattle.multi_depot_settling.proofs.update_marks.Tie as tie
 
 clear-requires : tie.Need-clear-requires
 clear-requires c κs = search needs

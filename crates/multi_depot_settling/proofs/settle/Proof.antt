@@ -1,4 +1,4 @@
--- `multi_depot::settle` meets its contract. Assumes nothing.
+-- `multi_depot_settling::settle` meets its contract. Assumes nothing.
 use mathlib.Core.Path.{_≡_, refl, sym, ap, _∙_, subst}
 use native.Mathlib.Omega.{arith}
 use mathlib.Core.Bool.{false, true≢false}
@@ -11,10 +11,10 @@ use Rattle.constructive.specs.Marks.{Marks}
 use Rattle.multi_depot_offers.specs.ByDepot.{plannedAt, afterOffers, moved}
 use Rattle.multi_depot_offers.specs.Laws.Settled.{attemptsLeft, length-offered}
 use Rattle.multi_depot_planning.proofs.Plans.{Kept, lent-still}
-use Rattle.multi_depot.specs.Contracts.{Untouched}
-use Rattle.multi_depot.proofs.Settling.{Settling, begins, copied, falls, goes-on, stays, ends}
-use Rattle.multi_depot.proofs.settle.Statement.{statement}
-use Rattle.multi_depot.proofs.settle.Tie as tie
+use Rattle.multi_depot_settling.specs.Contracts.{Untouched}
+use Rattle.multi_depot_settling.proofs.Settling.{Settling, begins, copied, falls, goes-on, stays, ends}
+use Rattle.multi_depot_settling.proofs.settle.Statement.{statement}
+use Rattle.multi_depot_settling.proofs.settle.Tie as tie
 
 abbrev Inv-offers : tie.InvT-offers
 Inv-offers sheet depots before₀ at₀ marks₀ fleet₀ stops₀ ends₀ vehicles₀ any₀ before at marks fleet stops ends vehicles any =

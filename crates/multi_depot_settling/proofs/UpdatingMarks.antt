@@ -21,7 +21,7 @@ use Rattle.constructive.specs.Marks.{Marks, markedBy}
 use Rattle.multi_depot_offers.specs.ByDepot.{isNoDepot, nextDepot, plannedOf, plannedUpto, plannedAt, movesTo, offeredFrom, afterOffers}
 use Rattle.multi_depot_offers.specs.Contracts.{Cleared, Alike, Next}
 use Rattle.multi_depot_planning.proofs.Plans.{aside-members}
-use Rattle.multi_depot.specs.Contracts.{MarksUpdated}
+use Rattle.multi_depot_settling.specs.Contracts.{MarksUpdated}
 
 -- ---- a row is turned down by its own depot alone
 -- a depot's stops set aside

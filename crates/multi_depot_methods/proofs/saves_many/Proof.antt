@@ -1,8 +1,8 @@
--- `multi_depot_planning::saves_many` meets its contract. Assumes nothing.
+-- `multi_depot_methods::saves_many` meets its contract. Assumes nothing.
 use mathlib.Core.Path.{_∙_}
 use borrow.Author.Needs.{needs}
-use Rattle.multi_depot_planning.proofs.saves_many.Statement.{statement}
-use Rattle.multi_depot_planning.proofs.saves_many.Tie as tie
+use Rattle.multi_depot_methods.proofs.saves_many.Statement.{statement}
+use Rattle.multi_depot_methods.proofs.saves_many.Tie as tie
 
 method-requires : tie.Need-method-requires
 method-requires c κs = search needs

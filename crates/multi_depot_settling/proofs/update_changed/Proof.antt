@@ -1,4 +1,4 @@
--- `multi_depot::update_changed` meets its contract. Assumes nothing.
+-- `multi_depot_settling::update_changed` meets its contract. Assumes nothing.
 use mathlib.Core.Path.{refl, sym, ap, _∙_}
 use Prim.Native.Nat.{_-_, _≤_}
 use native.Mathlib.Omega.{arith}
@@ -6,9 +6,9 @@ use lib.ListN.{length}
 use borrow.Author.Tests.{not-true}
 use Rattle.multi_depot_offers.specs.Laws.Settled.{length-offered}
 use Rattle.multi_depot_planning.proofs.Plans.{Kept, lent-still}
-use Rattle.multi_depot.proofs.UpdatingMarks.{UpdatingMarks, begins, passes, remarks, ends}
-use Rattle.multi_depot.proofs.update_changed.Statement.{statement}
-use Rattle.multi_depot.proofs.update_changed.Tie as tie
+use Rattle.multi_depot_settling.proofs.UpdatingMarks.{UpdatingMarks, begins, passes, remarks, ends}
+use Rattle.multi_depot_settling.proofs.update_changed.Statement.{statement}
+use Rattle.multi_depot_settling.proofs.update_changed.Tie as tie
 
 abbrev Inv-loop : tie.InvT-loop
 Inv-loop sheet depots before at marks₀ fleet₀ stops₀ ends₀ vehicles₀ depot₀ marks fleet stops ends vehicles depot =

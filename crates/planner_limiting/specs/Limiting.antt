@@ -1,4 +1,4 @@
--- What the limiter's parts ask of the bytes and tables that are lent, and what the reading and writing part answers.
+-- docs/SCOPE.md#the-limiter. The plan out; what its making asks of the bytes and tables that are lent, and what it answers.
 use mathlib.Core.Path.{_≡_}
 use Prim.Native.Nat.{ℕ, _≤_}
 use mathlib.Core.Bool.{Bool, true, false}
@@ -8,8 +8,13 @@ use Rattle.sheet.specs.Fields.{planLength, mostRows}
 use Rattle.sheet.specs.Depots.{depotsOf}
 use Rattle.sheet.specs.Refusal.{unless}
 use Rattle.sheet.specs.Accepted.{Accepted}
-use Rattle.plan.specs.Read.{planRight}
-use Rattle.planner.specs.Limited.{limitedPlan}
+use Rattle.plan.specs.Plan.{planOf}
+use Rattle.plan.specs.Read.{readPlan, planRight}
+use Rattle.fleet.specs.Limit.{limitRoutes}
+
+-- the plan out, its figures by `build_route` and its cost by `price`; always priced
+unfoldable pub limitedPlan : List ℕ → List ℕ → ℕ → List ℕ
+limitedPlan s plan greatest = planOf s (limitRoutes s greatest (readPlan s plan)) true
 
 -- an accepted sheet of one depot, a plan in and a plan out of its length
 pub record Unread (s plan lent : List ℕ) : Type 0 where

@@ -1,0 +1,2 @@
+pub mod UpdatingMarks
+pub mod Settling
