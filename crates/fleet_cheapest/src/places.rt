@@ -1,4 +1,4 @@
-// The places of one round, as insertion judges them (solomon_i1, judging.rt), written out beside it: behind one function for both,
+// The places of one round, as insertion judges them (solomon_i1_judging), written out beside it: behind one function for both,
 // which is not inlined, terms and choice go through memory for every round. Here rounds grow long, so the stops before a place
 // are walked once for all places after it (docs/BENCHMARKS.md).
 use constructive::terms::Terms;

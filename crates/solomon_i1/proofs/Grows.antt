@@ -20,8 +20,9 @@ use Rattle.insertion.specs.declared.choice.Choice.{Choice}
 use Rattle.insertion.specs.declared.choice.Choice.the-variants.{Nowhere, Best}
 use Rattle.insertion.specs.Trial.{Unwalked, Joinable}
 use Rattle.insertion.proofs.Sliding.{brought}
-use Rattle.solomon_i1.specs.Insertion.{bestOf, Growth, growing, grown, grownBy, grow, growOn, routeIn, leftIn, roundFrom}
-use Rattle.solomon_i1.specs.Laws.Chosen.{Chosen, best-chosen}
+use Rattle.solomon_i1_judging.specs.Choice.{bestOf}
+use Rattle.solomon_i1_judging.specs.Laws.Chosen.{Chosen, best-chosen}
+use Rattle.solomon_i1.specs.Insertion.{Growth, growing, grown, grownBy, grow, growOn, routeIn, leftIn, roundFrom}
 use Rattle.solomon_i1.specs.Laws.Grown.{stays}
 use Rattle.solomon_i1.specs.Tabled.{growthStops}
 

@@ -1,4 +1,3 @@
-pub mod Choosing
 pub mod Seeking
 pub mod Grows
 pub mod Laying

@@ -12,7 +12,8 @@ use Rattle.constructive.specs.declared.terms.Terms.{Terms}
 use Rattle.constructive.specs.Terms.{termsOf}
 use Rattle.insertion.specs.declared.choice.Choice.{Choice}
 use Rattle.insertion.specs.declared.choice.Choice.the-variants.{Nowhere, Best}
-use Rattle.insertion.specs.Place.{feasibleIn, tryPlaces, carries}
+use Rattle.insertion.specs.Place.{feasibleIn}
+use Rattle.solomon_i1_judging.specs.Choice.{bestOf}
 
 -- ---- the seed
 -- the farthest stop so far, by its place among those unrouted, and its leg from the depot
@@ -39,19 +40,6 @@ seedOf s depot left = farthestFrom s depot unseen 0 left .place
 -- a stop that a round can take alone: within capacity, and "`route_feasible` passes" it
 abbrev pub goesAlone : List ℕ → Terms → ℕ → Bool
 goesAlone s t row = leb (demandOf s row) (t .capacity) && feasibleIn s t (row ∷ [])
-
--- ---- one choice
--- "from before its first stop to after its last"
-abbrev pub tryStop : List ℕ → Terms → List ℕ → Choice → ℕ → ℕ → Choice
-tryStop s t route c j row = cond (carries s t route row) (tryPlaces s t route j row c (suc (length route)) 0) c
-
--- the stops unrouted, from place j on
-unfoldable pub tryStops : List ℕ → Terms → List ℕ → Choice → ℕ → List ℕ → Choice
-tryStops s t route c j [] = c
-tryStops s t route c j (row ∷ rows) = tryStops s t route (tryStop s t route c j row) (j + 1) rows
-
-abbrev pub bestOf : List ℕ → Terms → List ℕ → List ℕ → Choice
-bestOf s t route left = tryStops s t route Nowhere 0 left
 
 -- ---- one round
 -- a round that may grow on, or that no stop left can join, with the stops left

@@ -1,6 +1,5 @@
 pub mod Cases
 pub mod Free
-pub mod Chosen
 pub mod Grown
 pub mod Planned
 pub mod Permutation
@@ -8,4 +7,3 @@ pub mod Feasible
 pub mod Alone
 pub mod First
 pub mod Closed
-pub mod Choice

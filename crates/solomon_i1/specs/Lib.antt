@@ -1,5 +1,4 @@
 pub mod Insertion
 pub mod Later
 pub mod Tabled
-pub mod Figures
 pub mod Laws

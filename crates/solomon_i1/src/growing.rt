@@ -1,5 +1,4 @@
 // Rounds that grow from their seeds.
-use crate::judging;
 use crate::seed;
 use constructive::tables;
 use constructive::tables::Filled;
@@ -15,7 +14,8 @@ ghost use Rattle.constructive.specs.Outcome.{stopsOf};
 ghost use Rattle.constructive.specs.Stored.{Room};
 ghost use Rattle.constructive.specs.Entered.{Entered};
 ghost use Rattle.insertion.specs.Trial.{Joinable};
-ghost use Rattle.solomon_i1.specs.Insertion.{bestOf, roundFrom, routeIn, planOn};
+ghost use Rattle.solomon_i1_judging.specs.Choice.{bestOf};
+ghost use Rattle.solomon_i1.specs.Insertion.{roundFrom, routeIn, planOn};
 ghost use Rattle.solomon_i1.specs.Tabled.{growthStops};
 
 // The best insertion of a stop from `end` on into the round of those before it.
@@ -24,7 +24,7 @@ fn best_joining(sheet: &[u8], terms: Terms, stops: &[u16], end: usize, trial: &m
     requires { ⌜ (end < length (now stops)) × (length (now stops) ≤ length (now trial)) ⌝ }
     ensures { λ r. ⌜ r ≡ bestOf (now (sheet .entry)) terms (take end (now (stops .entry))) (drop end (now (stops .entry))) ⌝ }
 {
-    judging::best_insertion(
+    solomon_i1_judging::best_insertion(
         sheet,
         terms,
         &stops[..end],

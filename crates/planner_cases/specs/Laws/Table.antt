@@ -32,7 +32,8 @@ use Rattle.nearest_neighbor.specs.Greedy.{extend, extendOn, greedy}
 use Rattle.nearest_neighbor_choice.specs.Offers.{nearestOffer, windowOffer}
 use Rattle.nearest_neighbor.specs.Nearest.{nearestOnward, nearestNeighbor, windowOnward, nearestNeighborTw}
 use Rattle.clarke_wright_savings.specs.Savings.{sameBack, symmetric, directedOf, savingsFrom, savingsOf, numbered, ranked, startsAlone, startsOf, slotOf, mergePasses, mergeOf, mergedBy, roundsOf, asideOf, plannedBy, clarkeWright}
-use Rattle.solomon_i1.specs.Insertion.{farthestFrom, tryStops, grow, growOn, seedStep, planOn, solomonI1}
+use Rattle.solomon_i1_judging.specs.Choice.{tryStops}
+use Rattle.solomon_i1.specs.Insertion.{farthestFrom, grow, growOn, seedStep, planOn, solomonI1}
 use Rattle.sweep.specs.Angle.{directionOf, partOf, turnsLeft, below, sweepsBefore}
 use Rattle.sweep.specs.Sweep.{routeFits, unservable, closes, stepped, sweptFrom, sweptBy, sweep}
 use Rattle.multi_depot_offers.specs.ByDepot.{withVehicle, constructOf, plannedOf, outcomeOf}

@@ -20,7 +20,8 @@ use Rattle.constructive.specs.Outcome.{Outcome}
 use Rattle.constructive.specs.Load.{loadOf}
 use Rattle.constructive.specs.Terms.{termsOf}
 use Rattle.insertion.specs.Place.{judge, tryPlaces}
-use Rattle.solomon_i1.specs.Insertion.{farthestFrom, tryStops, grow, growOn, seedStep, planOn, solomonI1}
+use Rattle.solomon_i1_judging.specs.Choice.{tryStops}
+use Rattle.solomon_i1.specs.Insertion.{farthestFrom, grow, growOn, seedStep, planOn, solomonI1}
 
 -- sheet A with a due time of stop 1
 abbrev pub due : ℕ → List ℕ

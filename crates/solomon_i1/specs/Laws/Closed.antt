@@ -29,8 +29,8 @@ use Rattle.insertion.specs.Place.{feasibleIn, carries, detour, unfit, judged}
 use Rattle.insertion.specs.Laws.Judging.{hard-judge}
 use Rattle.insertion.specs.Lawful.{ClosedTo}
 use Rattle.insertion.specs.Laws.Lawful.{terms-place, both-not}
+use Rattle.solomon_i1_judging.specs.Laws.Chosen.{Shut}
 use Rattle.solomon_i1.specs.Insertion.{growing, routeIn, leftIn, seedOf, solomonI1}
-use Rattle.solomon_i1.specs.Laws.Chosen.{Shut}
 use Rattle.solomon_i1.specs.Laws.Grown.{grow-on-kept, grow-on-shut}
 use Rattle.solomon_i1.specs.Laws.Planned.{seedIn, restIn, roundIn, Seeds, planned}
 use Rattle.solomon_i1.specs.Laws.Permutation.{Same, seeds-same}

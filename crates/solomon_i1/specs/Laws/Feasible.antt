@@ -23,8 +23,8 @@ use Rattle.constructive.specs.declared.terms.Terms.{Terms}
 use Rattle.constructive.specs.Terms.{termsOf}
 use Rattle.constructive.specs.Laws.Terms.{Meant, terms-meant}
 use Rattle.insertion.specs.Place.{feasibleIn, addedCost, placeTooDear, judged, placeFits, judge}
+use Rattle.solomon_i1_judging.specs.Laws.Chosen.{Fit}
 use Rattle.solomon_i1.specs.Insertion.{goesAlone, growing, routeIn, solomonI1}
-use Rattle.solomon_i1.specs.Laws.Chosen.{Fit}
 use Rattle.solomon_i1.specs.Laws.Grown.{Keeps, grow-on-kept}
 use Rattle.solomon_i1.specs.Laws.Planned.{seedIn, restIn, roundIn, Seeds, planned}
 

@@ -10,8 +10,9 @@ use Rattle.lists.specs.Laws.Moved.{without-length}
 use Rattle.constructive.specs.declared.terms.Terms.{Terms}
 use Rattle.insertion.specs.declared.choice.Choice.{Choice}
 use Rattle.insertion.specs.declared.choice.Choice.the-variants.{Nowhere, Best}
-use Rattle.solomon_i1.specs.Insertion.{bestOf, Growth, growing, grown, grownBy, grow, growOn, routeIn, leftIn}
-use Rattle.solomon_i1.specs.Laws.Chosen.{Place, Chosen, best-chosen, Shut, none-shut}
+use Rattle.solomon_i1_judging.specs.Choice.{bestOf}
+use Rattle.solomon_i1_judging.specs.Laws.Chosen.{Place, Chosen, best-chosen, Shut, none-shut}
+use Rattle.solomon_i1.specs.Insertion.{Growth, growing, grown, grownBy, grow, growOn, routeIn, leftIn}
 
 -- ---- what each insertion keeps of the round and the stops left
 abbrev pub Keeps : List ℕ → Terms → (List ℕ → List ℕ → Type 0) → Type 0

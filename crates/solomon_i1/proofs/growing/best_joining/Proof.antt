@@ -2,7 +2,7 @@
 use mathlib.Core.Path.{_∙_, ap}
 use lib.ListN.{take}
 use borrow.Author.Needs.{needs}
-use Rattle.solomon_i1.specs.Insertion.{bestOf}
+use Rattle.solomon_i1_judging.specs.Choice.{bestOf}
 use Rattle.solomon_i1.proofs.Grows.{front-long, trial-long, back-part, joining, trial-room}
 use Rattle.solomon_i1.proofs.growing.best_joining.Statement.{statement}
 use Rattle.solomon_i1.proofs.growing.best_joining.Tie as tie

@@ -1,11 +1,11 @@
--- `solomon_i1::judging::try_stops` meets its contract. Assumes nothing.
+-- `solomon_i1_judging::try_stops` meets its contract. Assumes nothing.
 use borrow.Author.Needs.{needs}
 use mathlib.Core.Path.{refl}
 use Prim.Native.Nat.{_-_}
 use native.Mathlib.Omega.{arith}
-use Rattle.solomon_i1.proofs.Choosing.{Stopping, stops, stopped, long-still, one-joins}
-use Rattle.solomon_i1.proofs.judging.try_stops.Statement.{statement}
-use Rattle.solomon_i1.proofs.judging.try_stops.Tie as tie
+use Rattle.solomon_i1_judging.proofs.Choosing.{Stopping, stops, stopped, long-still, one-joins}
+use Rattle.solomon_i1_judging.proofs.try_stops.Statement.{statement}
+use Rattle.solomon_i1_judging.proofs.try_stops.Tie as tie
 
 abbrev Inv-loop : tie.InvT-loop
 Inv-loop sheet terms figures route left trial₀ tried₀ j₀ j-end trial tried j = Stopping sheet terms route left tried trial j j-end

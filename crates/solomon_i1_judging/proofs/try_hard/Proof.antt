@@ -1,4 +1,4 @@
--- `solomon_i1::judging::try_hard` meets its contract. Assumes nothing.
+-- `solomon_i1_judging::try_hard` meets its contract. Assumes nothing.
 use borrow.Author.Needs.{needs}
 use mathlib.Core.Path.{refl, sym, ap, _∙_}
 use native.Mathlib.Omega.{arith}
@@ -7,8 +7,8 @@ use borrow.Author.Tests.{not-true, not-false}
 use Rattle.insertion.specs.Place.{feasibleIn}
 use Rattle.insertion.proofs.Trying.{trial-long, slides, joins, routed}
 use Rattle.insertion.proofs.Judged.{hard-lost, hard-out, hard-won, free-passes}
-use Rattle.solomon_i1.proofs.judging.try_hard.Statement.{statement}
-use Rattle.solomon_i1.proofs.judging.try_hard.Tie as tie
+use Rattle.solomon_i1_judging.proofs.try_hard.Statement.{statement}
+use Rattle.solomon_i1_judging.proofs.try_hard.Tie as tie
 
 detour-requires : tie.Need-detour-requires
 detour-requires c κs = let o = c .before .before .before in (o .pre .0 .round, (joins _ _ _ _ (o .pre .0), o .pre .1 .1 .1))

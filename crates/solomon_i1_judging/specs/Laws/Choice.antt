@@ -23,7 +23,7 @@ use Rattle.constructive.specs.declared.terms.Terms.{Terms}
 use Rattle.insertion.specs.declared.choice.Choice.{Choice}
 use Rattle.insertion.specs.declared.choice.Choice.the-variants.{Nowhere, Best}
 use Rattle.insertion.specs.Place.{rowBefore, rowAfter, detour, addedCost, Judged, unfit, costs, judged, placeFits, judge, betterPlace, tryPlaces, carries}
-use Rattle.solomon_i1.specs.Insertion.{tryStop, tryStops, bestOf}
+use Rattle.solomon_i1_judging.specs.Choice.{tryStop, tryStops, bestOf}
 
 -- where a stop may go: the stop's place among those unrouted, and the place in the round
 pub record Spot : Type 0 where

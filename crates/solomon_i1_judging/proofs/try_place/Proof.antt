@@ -1,4 +1,4 @@
--- `solomon_i1::judging::try_place` meets its contract. Assumes nothing.
+-- `solomon_i1_judging::try_place` meets its contract. Assumes nothing.
 use borrow.Author.Needs.{needs}
 use mathlib.Core.Path.{ap, _∙_}
 use native.Mathlib.Omega.{arith}
@@ -6,8 +6,8 @@ use borrow.Author.Tests.{not-true, not-false}
 use Rattle.insertion.specs.Place.{betterPlace}
 use Rattle.insertion.proofs.Trying.{trial-long, slides, routed}
 use Rattle.insertion.proofs.Judged.{soft-told}
-use Rattle.solomon_i1.proofs.judging.try_place.Statement.{statement}
-use Rattle.solomon_i1.proofs.judging.try_place.Tie as tie
+use Rattle.solomon_i1_judging.proofs.try_place.Statement.{statement}
+use Rattle.solomon_i1_judging.proofs.try_place.Tie as tie
 
 try-hard-requires : tie.Need-try-hard-requires
 try-hard-requires c κs = let o = c .before .before .before .before .before .before in (o .pre .0, (o .pre .1 .0, (not-true _ (c .before .if1 .taken), o .pre .1 .1 .1)))

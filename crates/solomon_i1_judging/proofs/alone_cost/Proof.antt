@@ -1,7 +1,7 @@
--- `solomon_i1::judging::alone_cost` meets its contract. Assumes nothing.
+-- `solomon_i1_judging::alone_cost` meets its contract. Assumes nothing.
 use borrow.Author.Needs.{needs}
-use Rattle.solomon_i1.proofs.judging.alone_cost.Statement.{statement}
-use Rattle.solomon_i1.proofs.judging.alone_cost.Tie as tie
+use Rattle.solomon_i1_judging.proofs.alone_cost.Statement.{statement}
+use Rattle.solomon_i1_judging.proofs.alone_cost.Tie as tie
 
 slice-aggregate-soft-cost : tie.Need-slice-aggregate-soft-cost
 slice-aggregate-soft-cost c = search needs

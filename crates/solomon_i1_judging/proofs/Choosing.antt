@@ -21,9 +21,9 @@ use Rattle.insertion.specs.declared.place.Tried.{Tried}
 use Rattle.insertion.specs.Place.{tryPlaces}
 use Rattle.insertion.specs.Trial.{Trial, Joinable}
 use Rattle.insertion.proofs.Trying.{trial-long, joins}
-use Rattle.solomon_i1.specs.declared.judging.Figures.{Figures}
-use Rattle.solomon_i1.specs.Insertion.{tryStop, tryStops}
-use Rattle.solomon_i1.specs.Figures.{figuresOf}
+use Rattle.solomon_i1_judging.specs.declared.Figures.{Figures}
+use Rattle.solomon_i1_judging.specs.Choice.{tryStop, tryStops}
+use Rattle.solomon_i1_judging.specs.Figures.{figuresOf}
 
 -- ---- one stop
 module _ (s : List ℕ) (t : Terms) (route : List ℕ) (row : ℕ) (figures : Figures) (told : figures ≡ figuresOf s t route) (demand : ℕ) (e : demand ≡ demandOf s row) where

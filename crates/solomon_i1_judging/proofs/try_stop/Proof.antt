@@ -1,11 +1,11 @@
--- `solomon_i1::judging::try_stop` meets its contract. Assumes nothing.
+-- `solomon_i1_judging::try_stop` meets its contract. Assumes nothing.
 use borrow.Author.Needs.{needs}
 use mathlib.Core.Path.{sym, _∙_}
 use native.Mathlib.Omega.{arith}
 use Rattle.insertion.proofs.Trying.{trial-long, any-stop, written, joins}
-use Rattle.solomon_i1.proofs.Choosing.{load-fits, left-out, taken-in}
-use Rattle.solomon_i1.proofs.judging.try_stop.Statement.{statement}
-use Rattle.solomon_i1.proofs.judging.try_stop.Tie as tie
+use Rattle.solomon_i1_judging.proofs.Choosing.{load-fits, left-out, taken-in}
+use Rattle.solomon_i1_judging.proofs.try_stop.Statement.{statement}
+use Rattle.solomon_i1_judging.proofs.try_stop.Tie as tie
 
 demand-requires : tie.Need-demand-requires
 demand-requires c κs = let o = c .before .before .before in (o .pre .0 .round .sheet, joins _ _ _ _ (o .pre .0))

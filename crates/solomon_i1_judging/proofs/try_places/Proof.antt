@@ -1,12 +1,12 @@
--- `solomon_i1::judging::try_places` meets its contract. Assumes nothing.
+-- `solomon_i1_judging::try_places` meets its contract. Assumes nothing.
 use borrow.Author.Needs.{needs}
 use mathlib.Core.Path.{sym, _∙_}
 use Prim.Native.Nat.{_-_}
 use native.Mathlib.Omega.{arith}
 use Rattle.insertion.proofs.Trying.{trial-long}
 use Rattle.insertion.proofs.Placing.{Placing, placing, places, placed}
-use Rattle.solomon_i1.proofs.judging.try_places.Statement.{statement}
-use Rattle.solomon_i1.proofs.judging.try_places.Tie as tie
+use Rattle.solomon_i1_judging.proofs.try_places.Statement.{statement}
+use Rattle.solomon_i1_judging.proofs.try_places.Tie as tie
 
 abbrev Inv-loop : tie.InvT-loop
 Inv-loop sheet terms prices route row trial₀ j done₀ k₀ k-end trial done k = Placing sheet terms route j row done₀ done trial k k-end

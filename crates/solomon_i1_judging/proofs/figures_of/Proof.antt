@@ -1,6 +1,6 @@
--- `solomon_i1::judging::figures_of` meets its contract. Assumes nothing.
-use Rattle.solomon_i1.proofs.judging.figures_of.Statement.{statement}
-use Rattle.solomon_i1.proofs.judging.figures_of.Tie as tie
+-- `solomon_i1_judging::figures_of` meets its contract. Assumes nothing.
+use Rattle.solomon_i1_judging.proofs.figures_of.Statement.{statement}
+use Rattle.solomon_i1_judging.proofs.figures_of.Tie as tie
 
 soft-cost-requires : tie.Need-soft-cost-requires
 soft-cost-requires c κs = c .before .before .pre

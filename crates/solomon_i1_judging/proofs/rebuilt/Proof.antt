@@ -1,7 +1,7 @@
--- `solomon_i1::judging::rebuilt` meets its contract. Assumes nothing.
+-- `solomon_i1_judging::rebuilt` meets its contract. Assumes nothing.
 use borrow.Author.Needs.{needs}
-use Rattle.solomon_i1.proofs.judging.rebuilt.Statement.{statement}
-use Rattle.solomon_i1.proofs.judging.rebuilt.Tie as tie
+use Rattle.solomon_i1_judging.proofs.rebuilt.Statement.{statement}
+use Rattle.solomon_i1_judging.proofs.rebuilt.Tie as tie
 
 rebuilt-requires : tie.Need-rebuilt-requires
 rebuilt-requires c κs = search needs

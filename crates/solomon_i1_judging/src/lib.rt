@@ -20,8 +20,8 @@ ghost use Rattle.constructive.specs.Load.{loadOf};
 ghost use Rattle.insertion.specs.declared.choice.Choice.the-variants.{Nowhere};
 ghost use Rattle.insertion.specs.Place.{rowBefore, rowAfter, detour, judge, betterPlace, tryPlaces};
 ghost use Rattle.insertion.specs.Trial.{Trial, Joinable, softCost, aloneCost, pricesOf, judgeTrial};
-ghost use Rattle.solomon_i1.specs.Insertion.{tryStop, tryStops, bestOf};
-ghost use Rattle.solomon_i1.specs.Figures.{figuresOf};
+ghost use Rattle.solomon_i1_judging.specs.Choice.{tryStop, tryStops, bestOf};
+ghost use Rattle.solomon_i1_judging.specs.Figures.{figuresOf};
 
 // A round's load, and with soft windows its cost.
 pub struct Figures {

@@ -13,7 +13,7 @@ use Rattle.constructive.specs.declared.terms.Terms.{Terms}
 use Rattle.insertion.specs.declared.choice.Choice.{Choice}
 use Rattle.insertion.specs.declared.choice.Choice.the-variants.{Nowhere, Best}
 use Rattle.insertion.specs.Place.{Judged, unfit, costs, judge, wins, betterPlace, tryPlaces, carries}
-use Rattle.solomon_i1.specs.Insertion.{tryStop, tryStops, bestOf}
+use Rattle.solomon_i1_judging.specs.Choice.{tryStop, tryStops, bestOf}
 
 -- ---- what is chosen
 abbrev pub Fit : Judged → Type 0

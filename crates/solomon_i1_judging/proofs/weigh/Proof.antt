@@ -1,11 +1,11 @@
--- `solomon_i1::judging::weigh` meets its contract. Assumes nothing.
+-- `solomon_i1_judging::weigh` meets its contract. Assumes nothing.
 use borrow.Author.Needs.{needs}
 use mathlib.Core.Path.{_∙_, ap}
 use lib.Ieee.{Float}
 use Rattle.evaluation_clock.specs.Sums.{_⊖_}
 use Rattle.insertion.proofs.Judged.{not-allowed, too-dear, cheap-enough}
-use Rattle.solomon_i1.proofs.judging.weigh.Statement.{statement}
-use Rattle.solomon_i1.proofs.judging.weigh.Tie as tie
+use Rattle.solomon_i1_judging.proofs.weigh.Statement.{statement}
+use Rattle.solomon_i1_judging.proofs.weigh.Tie as tie
 
 route-eval-requires : tie.Need-route-eval-requires
 route-eval-requires c κs = search needs

@@ -1,0 +1,3 @@
+pub mod Choice
+pub mod Figures
+pub mod Laws
