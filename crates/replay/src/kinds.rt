@@ -1,9 +1,9 @@
 // A function for each kind of record. It reads what follows the kind's byte, numbers as u32,
 // little-endian, makes the call and prints its answer; and it answers whether to go on.
-use crate::line;
-use crate::record;
-use crate::record::ROOM;
 use libc::STDIN_FILENO;
+use replay_io::line;
+use replay_io::record;
+use replay_io::record::ROOM;
 
 // One byte more than the longest sheet, so that a sample can hold a sheet that is too long.
 const LONG: usize = 169_233;

@@ -3,10 +3,9 @@
 // cut short, or has more bytes than there is room for, ends the run with `cut`, and one of another
 // kind with `unknown kind` and its byte.
 mod kinds;
-mod line;
-mod record;
 
 use libc::STDIN_FILENO;
+use replay_io::line;
 
 // Replays one record, and answers whether to go on.
 fn replay_record() -> bool {

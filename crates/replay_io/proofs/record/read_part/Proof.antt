@@ -1,10 +1,10 @@
--- `replay::record::read_part` meets its contract: what is read is the start of the part, and the part that of the room. Assumes nothing.
+-- `replay_io::record::read_part` meets its contract: what is read is the start of the part, and the part that of the room. Assumes nothing.
 use native.Mathlib.Omega.{arith}
 use lib.ListN.{length-append}
 use borrow.Author.Needs.{needs}
 use Rattle.io.proofs.Counting.{counts}
-use Rattle.replay.proofs.record.read_part.Statement.{statement}
-use Rattle.replay.proofs.record.read_part.Tie as tie
+use Rattle.replay_io.proofs.record.read_part.Statement.{statement}
+use Rattle.replay_io.proofs.record.read_part.Tie as tie
 
 room-for-requires : tie.Need-room-for-requires
 room-for-requires c κs = search needs

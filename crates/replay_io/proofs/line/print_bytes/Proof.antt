@@ -1,10 +1,10 @@
--- `replay::line::print_bytes` meets its contract. The loop's invariant: the bytes that are printed lie in the room. Assumes nothing.
+-- `replay_io::line::print_bytes` meets its contract. The loop's invariant: the bytes that are printed lie in the room. Assumes nothing.
 use Prim.Native.Nat.{_≤_, _-_}
 use native.Mathlib.Omega.{arith}
 use lib.ListN.{length}
 use borrow.Author.Needs.{needs}
-use Rattle.replay.proofs.line.print_bytes.Statement.{statement}
-use Rattle.replay.proofs.line.print_bytes.Tie as tie
+use Rattle.replay_io.proofs.line.print_bytes.Statement.{statement}
+use Rattle.replay_io.proofs.line.print_bytes.Tie as tie
 
 abbrev Inv-loop : tie.InvT-loop
 Inv-loop len room n i₀ t5 i = n ≤ length room
