@@ -34,7 +34,7 @@ slot-most x (r ∷ rs) = go (ltb 0 (count x r)) (slot-most x rs)
     go true h = zero-le
     go false h = omega (arith, h)
 
--- it has stops
+-- the slot of a row has stops
 slot-some : (x : ℕ) (routes : List (List ℕ)) → slotOf x routes < length routes → 0 < length (routeAt routes (slotOf x routes))
 unfolding slotOf count
 slot-some x [] h = absurd (not-suc-le-zero h)
@@ -71,7 +71,7 @@ module _ (s : List ℕ) (t : Directed) (routes : List (List ℕ)) (i j : ℕ) wh
   abbrev rj : List ℕ
   rj = routeAt routes b
 
-  -- a merge that may be
+  -- two rounds that may be joined
   may-be : mayJoin s (t .common) a b ri rj ≡ true → mergeOf s t routes i j ≡ passing s (t .common) routes (joining (t .directed) i j a b ri rj)
   unfolding mergeOf
   may-be e = ap (λ (x : Bool). passing s (t .common) routes (onlyIf x (joining (t .directed) i j a b ri rj))) e

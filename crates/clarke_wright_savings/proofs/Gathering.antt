@@ -60,7 +60,7 @@ module _
     (end k last : ℕ)
     (g : Gathering savings members from₀ to₀ values₀ entries₀ at from to values entries end k last)
   where
-    -- room is kept
+    -- the tables have room for as many savings as before
     space-left : (most : ℕ) → Space from₀ to₀ values₀ entries₀ most → (n : ℕ) → n ≤ most → Space from to values entries n
     space-left most r n h = record {
       starts = omega (arith, r .starts, g .starts);

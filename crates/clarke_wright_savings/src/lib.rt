@@ -59,7 +59,7 @@ fn value_of(
     home + out - leg + terms.fixed
 }
 
-// A saving more.
+// Adds a saving to the tables.
 fn push(
     from: &mut [u16],
     to: &mut [u16],

@@ -12,7 +12,7 @@ use Rattle.wire.specs.Bytes.{write}
 use Rattle.wire.specs.Laws.Bytes.{length-write, take-write, write-write, write-byte}
 use Rattle.clarke_wright_slots.specs.Slots.{orReversed, endToEnd}
 
--- nothing is written
+-- to write no number changes nothing
 write-none : (s : List ℕ) (at : ℕ) → s ≡ write s at []
 unfolding write
 write-none s at = sym (ap (λ (n : ℕ). take at s ++ drop n s) (add-zero at) ∙ take-append-drop at s)

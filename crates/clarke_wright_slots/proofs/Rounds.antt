@@ -46,7 +46,7 @@ module _ (v : ℕ) where
   rounds-routed ([] ∷ routes) = rounds-routed routes ∙ omega arith
   rounds-routed ((row ∷ rows) ∷ routes) = ap (λ (n : ℕ). length (row ∷ rows) + n) (rounds-routed routes)
 
-  -- each has a stop
+  -- each round has a stop, so there are no more rounds than stops
   rounds-few : (routes : List (List ℕ)) → length (roundsOf v routes) ≤ routedStops routes
   unfolding roundsOf routedStops
   rounds-few [] = omega arith
@@ -84,7 +84,7 @@ pub record Filling (n : ℕ) (cells lens : List ℕ) (v : ℕ) (stops₀ ends₀
   pub laid : Stored stops₀ ends₀ vehicles₀ f₀ (laidSo (roundsOf v (slotsIn k cells lens)) []) stops ends vehicles
   pub count : f ≡ filledBy f₀ (roundsOf v (slotsIn k cells lens))
 
--- nothing at first
+-- before the first slot nothing is laid down
 pub begins : (n : ℕ) (cells lens : List ℕ) (v : ℕ) (stops ends vehicles : List ℕ) (f : Filled) → Laying n cells lens stops ends vehicles f → Filling n cells lens v stops ends vehicles f stops ends vehicles f 0
 unfolding slotsFrom roundsOf endsFrom vehiclesFrom routedIn chains
 begins n cells lens v stops ends vehicles f room = record {
@@ -176,7 +176,7 @@ module _ {n : ℕ} {cells lens : List ℕ} {v : ℕ} {stops₀ ends₀ vehicles�
     pub copy-room : length (take (101 * k + many - 101 * k) (drop (101 * k) cells)) ≤ length (take (length stops - f .routed) (drop (f .routed) stops))
     copy-room = omega (arith, ap length lent, long-route, fits .1, lent-long stops (f .routed))
 
-    -- it has no stop
+    -- a slot without stops makes no round
     module _ (none : many ≡ 0) where
       passed : roundsOf v (slotsIn (k + 1) cells lens) ≡ done
       unfolding roundsOf
@@ -185,7 +185,7 @@ module _ {n : ℕ} {cells lens : List ℕ} {v : ℕ} {stops₀ ends₀ vehicles�
       pub passes-on : Filling n cells lens v stops₀ ends₀ vehicles₀ f₀ stops ends vehicles f (k + 1)
       passes-on = record { room = g .room; within = omega arith; laid = rw passed (g .laid); count = rw passed (g .count) }
 
-    -- its round is closed
+    -- a slot with stops is closed as a round
     module _ (none : many ≡ 0 → ⊥) where
       some : 0 < many
       some = go many refl

@@ -63,7 +63,7 @@ unfolding slotOf countInRoutes count
 slot-seated row [] qs z = rw (eq-eqb row row refl)
 slot-seated row (r ∷ rs) qs z = rw (le-ltb 0 (count row r) (omega arith)) (ap suc (slot-seated row rs qs (omega arith)))
 
--- another
+-- the slot of another row stays
 slot-other : (x row : ℕ) (rs qs : List (List ℕ)) → (x ≡ row → ⊥) → slotOf x (rs ++ ((row ∷ []) ∷ qs)) ≡ slotOf x (rs ++ ([] ∷ qs))
 unfolding slotOf count
 slot-other x row [] qs h = rw (ne-eqb x row h)
@@ -153,7 +153,7 @@ module _ (s : List ℕ) (t : Terms) (members : List ℕ) (k : ℕ) (here : k < l
       omega (arith, a, b, c, d, once row)
 
   module _ (cells lens loads slots : List ℕ) (g : StartingRoutes s t members cells lens loads slots k) (measured : k < length lens) (loaded : k < length loads) where
-    -- with its slot
+    -- a stop that starts a round, with its slot
     seating-more : (b : Bool) → startsAlone s t row ≡ b → (cells′ slots′ : List ℕ)
         → ((j : ℕ) → j < k → slotAt cells′ (set lens k (length (loneRoute b row))) j ≡ slotAt cells lens j)
         → slotAt cells′ (set lens k (length (loneRoute b row))) k ≡ loneRoute b row
@@ -246,7 +246,7 @@ module _ {s : List ℕ} {t : Terms} {members cells₀ lens₀ loads₀ slots₀ 
     pub row-known : getD members k 0 < rowsOf s
     row-known = g .routed .row k here
 
-    -- it has a round
+    -- the stop makes a round alone
     module _ (alone : startsAlone s t (getD members k 0) ≡ true) where
       seated-slot : slotAt (set cells (101 * k) newcomer) (set lens k 1) k ≡ newcomer ∷ []
       seated-slot =
@@ -307,7 +307,7 @@ module _ {s : List ℕ} {t : Terms} {members cells₀ lens₀ loads₀ slots₀ 
           let load : demandOf s newcomer ≡ loadOf s (newcomer ∷ []) = sym (add-zero (demandOf s newcomer)) in
           rw (u .celled, u .measured, u .loaded, u .known, load) seats-so
 
-    -- it has none
+    -- the stop cannot go alone, and is set aside
     pub sets-aside : startsAlone s t (getD members k 0) ≡ false
         → Starting s t members cells₀ lens₀ loads₀ slots₀ aside₀ n cells (set lens k 0) (set loads k 0) slots (set aside end (getD members k 0)) (end + 1) (k + 1)
     unfolding loadOf

@@ -58,7 +58,7 @@ pub fn join(into: &[u16], from: &[u16], back: bool, forth: bool, trial: &mut [u1
     half + from.len()
 }
 
-// The rows of a round have another slot.
+// Notes for each row of a round that it is in this slot.
 fn relabel(slots: &mut [u16], route: &[u16], slot: u16)
     requires { ⌜ ((k : ℕ) → k < length (now route) → getD (now route) k 0 < length (now slots)) ⌝ }
     ensures { λ _. ⌜ ((x : ℕ) → x < length (now (slots .entry)) → getD (now (slots .exit)) x 0 ≡ cond (ltb 0 (count x (now (route .entry)))) slot (getD (now (slots .entry)) x 0)) ⌝ }
@@ -69,7 +69,7 @@ fn relabel(slots: &mut [u16], route: &[u16], slot: u16)
     }
 }
 
-// A slot takes the stops of another, and has these then.
+// Empties slot `from` into slot `into`, which then has these stops.
 pub fn take_over(
     cells: &mut [u16],
     lens: &mut [u16],

@@ -43,7 +43,7 @@ module _ (s route : List ℕ) (load i end : ℕ) (g : Loading s route load i end
       let none : loadOf s (drop i route) ≡ 0 = rw (e, drop-length route) in
       omega (arith, none, g .same)
 
--- and a bound on it
+-- a bound on a load
 pub load-few : (s : List ℕ) → Accepted s → (route : List ℕ) → Every (λ (i : ℕ). i < rowsOf s) route → loadOf s route ≤ 1000000 * length route
 unfolding loadOf
 load-few s a [] e = omega arith

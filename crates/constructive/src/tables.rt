@@ -13,7 +13,7 @@ pub struct Filled {
     pub routed: usize,
 }
 
-// A round more in the tables.
+// Adds a round to the tables.
 pub fn close_round(
     ends: &mut [u16],
     vehicles: &mut [u16],

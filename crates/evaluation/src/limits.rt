@@ -15,7 +15,7 @@ pub struct RouteLimits {
     pub rest: Rest,
 }
 
-// An end that is reached is kept.
+// Limits are inclusive: a figure that equals its maximum keeps it.
 fn within(max: Limit, x: f64) -> bool
     ensures { λ r. ⌜ r ≡ withinOf max x ⌝ }
 {
@@ -64,7 +64,7 @@ impl RouteLimits {
         if let Rest::NoRest = rest { true } else { false }
     }
 
-    // Whether a round keeps both maxima.
+    // Whether a round of these figures keeps the limits.
     pub fn allow(self, distance: f64, duration: f64) -> bool
         ensures { λ r. ⌜ r ≡ allowOf self distance duration ⌝ }
     {

@@ -1,4 +1,4 @@
-// An arrival at a window. What these three say is known to their callers by its definition alone.
+// An arrival at a window. Callers know these three functions by their definitions alone.
 use sheet::customer::Window;
 ghost use mathlib.Core.Path.{_≡_};
 ghost use Rattle.evaluation_clock.specs.Window.{violatedOf, waitingOf, latenessOf};

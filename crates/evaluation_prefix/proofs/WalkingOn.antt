@@ -92,7 +92,7 @@ module _ (s : List ℕ) (depot : ℕ) (limits : RouteLimits) (round : List ℕ) 
       ∙ ap (λ (p : Position). walkedOver s p part) (g .stands .there m) in
       record { from = f .from; place = omega (arith, at); unrested = λ _. r; stands = subst (PrefixOf b) (sym same) (f .stands) }
 
-  -- walked to its end
+  -- the round walked to its end
   pub whole : (x : Scheduled) → ((p : Position) → PrefixOf a p → x ≡ homeFrom s depot (walkedOver s p (take (length round - a .stops) (drop (a .stops) round)))) → x ≡ scheduledOf s depot restless round
   unfolding scheduledOf
   whole x f =

@@ -143,7 +143,7 @@ pub fn towards(sheet: &[u8], round: &[u16], from: Prefix, k: usize, limits: Rout
     }
 }
 
-// `route_feasible` of the round, by the stops that are not behind yet.
+// `route_feasible` of the round, walked from the kept position over the stops after it.
 pub fn feasible_on(
     sheet: &[u8],
     round: &[u16],

@@ -20,7 +20,7 @@ pub stop-demand : (s : List ℕ) → Accepted s → (i : ℕ) → i < rowsOf s �
 unfolding stopOf
 stop-demand s a i h t e = subst (λ (u : Stop). u .demand ≤ 1000000) (sym e) (demand-bounded s a i h)
 
--- after i stops
+-- what holds after i stops
 pub record Going (s : List ℕ) (depot : ℕ) (t : Placed) (route : List ℕ) (p : Progress) (i : ℕ) : Type 0 where
   pub few : i ≤ length route
   pub from : p .prev < rowsOf s

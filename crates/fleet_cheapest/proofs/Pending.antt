@@ -12,7 +12,7 @@ use Rattle.fleet.specs.declared.Pick.{Pick}
 use Rattle.fleet.specs.declared.Pick.the-variants.{Nothing}
 use Rattle.fleet.specs.Cheapest.{cheapestInsertion, pickWith, pickFrom, pickOf}
 
--- after j stops
+-- what holds after j of the stops pending
 pub record Picking (s : List ℕ) (soft : Bool) (rounds : List Round) (pending trial₀ trial : List ℕ) (best : Pick) (j end : ℕ) : Type 0 where
   pub last : end ≡ length pending
   pub within : j ≤ end

@@ -37,7 +37,7 @@ plus-endless n nan u = absurd u
 plus-endless n (inf s) u = absurd u
 plus-endless n (fin s m e) u = refl
 
--- what has a value
+-- a float with a value is below infinity
 value-below : (x : Float) (s : Bool) (a c : ℕ) → HasValue x s a c → le (inf false) x ≡ false
 unfolding le lt eq
 value-below nan s a c h = absurd h

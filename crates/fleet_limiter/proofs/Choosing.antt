@@ -47,7 +47,7 @@ module _ (s stops ends vehicles : List ℕ) (n total : ℕ) (ok : Tables s stops
     alone : TablesOf (take routed stops) ends vehicles n routed (record { rounds = whole .rounds; aside = [] })
     alone = rw e (rounds-tabled s stops ends vehicles n total whole held)
 
-    -- the rounds alone
+    -- the tables of the rounds without the stops behind them
     pub alone-tables : Tables s (take routed stops) ends vehicles n (length (take routed stops))
     alone-tables = rw routed-long
         (sound-tables s (take routed stops) ends vehicles n routed (record { rounds = whole .rounds; aside = [] }) alone (alone-sound s whole (tables-sound s stops ends vehicles n total ok)) (ok .sheet) (ok .few) (omega (arith, routed-within, ok .most)))

@@ -59,7 +59,7 @@ module _ (s stops₀ ends₀ vehicles₀ marks₀ trial₀ : List ℕ) (rounds t
     start-so : from ≡ routedIn (limited .rounds)
     start-so = e ∙ held .holds .routed
 
-    -- what the call asks
+    -- what the call of `order_aside` asks
     pub aside : (marks : List ℕ) → length marks ≡ rowsOf s → Aside s stops marks from total
     aside marks m = record {
       sheet = g .tables .sheet;
@@ -70,7 +70,7 @@ module _ (s stops₀ ends₀ vehicles₀ marks₀ trial₀ : List ℕ) (rounds t
       once = rw aside-so (omega (arith, start-so, all-there, g .tables .all));
     }
 
-    -- what it leaves
+    -- what that call leaves
     module _ (stops′ : List ℕ) (ordered : stops′ ≡ write stops from (ascending s (part stops from total))) where
       written : stops′ ≡ write stops from (ascending s (limited .aside))
       written = rw aside-so at ordered

@@ -48,7 +48,7 @@ module _ (s : List ℕ) (soft : Bool) (stops₀ ends₀ vehicles trial₀ : List
   tabled : TablesOf stops ends vehicles n (length stops) o
   tabled = held s stops ends vehicles n (length stops) (g .tables)
 
-  -- nothing is picked
+  -- no stop is picked: the outcome stays
   pub rests : p ≡ Nothing → TablesHold s stops ends vehicles n (length stops₀) (refitOutcome s soft (pendingFirst (outcomeIn stops₀ ends₀ vehicles n (length stops₀))))
   rests e =
       let z = at-rest s soft (pendingFirst o) (sym e ∙ told) (length (o .aside)) in
@@ -57,7 +57,7 @@ module _ (s : List ℕ) (soft : Bool) (stops₀ ends₀ vehicles trial₀ : List
         outcome = ap (λ (k : ℕ). outcomeIn stops ends vehicles n k) (sym (g .stopped)) ∙ sym (ap setDown z) ∙ g .same;
       }
 
-  -- a stop is
+  -- a stop is picked, and put in
   module _ (j i k : ℕ) (cost : Float) (e : p ≡ Put j i k cost) where
     place : Picked s soft (o .rounds) (o .aside) (Put j i k cost)
     place = subst (Picked s soft (o .rounds) (o .aside)) (sym told ∙ e) (pick-picked s soft (o .rounds) (o .aside))

@@ -53,7 +53,7 @@ module _ (s : List ℕ) (t : Terms) (route : List ℕ) (row k : ℕ) (hard : t .
   pub hard-lost : wins cost c ≡ false → c ≡ betterPlace c j k (judge s t route row k)
   hard-lost w = sym (ap (betterPlace c j k) told ∙ dear-skipped c j k (feasibleIn s t (inserted k row route)) cost w)
 
-  -- walked
+  -- a place that is walked
   module _ (b : Bool) (f : b ≡ feasibleIn s t (inserted k row route)) where
     pub hard-out : b ≡ false → c ≡ betterPlace c j k (judge s t route row k)
     hard-out g = sym (ap (betterPlace c j k) (told ∙ ap (λ (x : Bool). judged x cost) (sym f ∙ g)))

@@ -93,7 +93,7 @@ module _ {s : List ℕ} {depot : ℕ} {fleet stops ends vehicles : List ℕ} {f 
     unfolding constructOf
     window-so e = rw (hers, ne-eqb (methodOf s) 2 (λ q. omega (arith, told, e, q)), eq-eqb (methodOf s) 3 (sym told ∙ e))
 
-    -- with the first
+    -- a method that uses the first vehicle alone
     module _ (not-nearest : method ≡ 2 → ⊥) (not-window : method ≡ 3 → ⊥) where
       first : constructAt s depot members ≡ withFirst s depot members (fleetOf s depot)
       unfolding constructOf

@@ -80,7 +80,7 @@ module _ {s at fleet stops ends vehicles : List ℕ} {depot : ℕ} {f : Filled} 
     still : (rounds : List Round) → HoldsRounds stops ends vehicles f rounds → HoldsRounds stops₁ ends vehicles f rounds
     still rounds h = rw written (holds-behind stops ends vehicles f rounds h (membersOf s at depot) within)
 
-    -- without members
+    -- the outcome of a depot without members is empty
     unassigned : total ≡ f .routed → plannedOf s depot (membersOf s at depot) ≡ record { rounds = []; aside = [] }
     unfolding plannedOf
     unassigned e = go (membersOf s at depot) (omega arith)

@@ -38,7 +38,7 @@ unfolding extendOn extend
 stays-grown rule zero trip left = refl
 stays-grown rule (suc n) trip left = stays-grown rule n trip left
 
--- one choice
+-- one choice of the rule
 grows : (rule : Rule) (n : ℕ) (trip : Trip) (left : List ℕ) (c : StopChoice) → choose (rule .offer trip) NoStop 0 left ≡ c → extendOn rule (suc n) (extending trip left) ≡ extendOn rule n (extendedBy rule trip left c)
 unfolding extendOn extend
 grows rule n trip left c e = ap (λ (x : StopChoice). extendOn rule n (extendedBy rule trip left x)) e

@@ -260,7 +260,7 @@ pub fn nearest(
     best
 }
 
-// The clock waits.
+// The clock after the stop, waiting counted.
 pub fn clock_at(sheet: &[u8], partial: Partial, row: usize) -> f64
     requires { ⌜ PartialRoute (now sheet) partial ⌝ }
     requires { ⌜ row < rowsOf (now sheet) ⌝ }

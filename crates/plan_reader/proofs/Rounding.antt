@@ -102,13 +102,13 @@ module _ (s plan stops ends vehicles : List ℕ) (k at : ℕ) (g : RoundsRead s 
     on : at ≤ end
     on = let e = reaches stops after (chainOf s plan (firstStopAt plan k)) at end here there (f .same) in omega arith
 
-    -- a round before
+    -- a round that was read before stays
     kept : (j : ℕ) → j < k → RoundRead s plan after (set ends k end) (set vehicles k index) end j
     kept j h =
         round-kept s plan (g .read j h) (getD-set-other ends k j end 0 (λ q. omega arith)) (start-kept ends k end j (omega arith)) (getD-set-other vehicles k j index 0 (λ q. omega arith)) on here (omega (arith, on, there))
         (keeps stops after (chainOf s plan (firstStopAt plan k)) at end here there (f .same))
 
-    -- this one
+    -- the round that is read
     new : index ≡ indexOf s (idAt plan k) → index < vehiclesOf s → RoundRead s plan after (set ends k end) (set vehicles k index) end k
     new i h =
         let e = getD-set-same ends k end 0 ended in

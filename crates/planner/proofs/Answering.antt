@@ -28,7 +28,7 @@ module _ (s lent : List ℕ) (n : ℕ) (told : n ≡ refusalOf s (length lent)) 
     pub refused-parts : Once s n lent × (Feasibly s n lent × (Lawful s n lent × (Alone s n lent × Closed s n lent)))
     refused-parts = (λ e. absurd (refused e), (λ e. absurd (refused e), (λ e. absurd (refused e), (λ e. absurd (refused e), λ e. absurd (refused e)))))
 
-  -- an accepted one
+  -- a sheet that is accepted
   module _ (none : n ≡ 0) where
     pub asks : Accepted s × (length lent ≡ planLength s)
     asks = accepted s (length lent) (sym told ∙ none)

@@ -73,7 +73,7 @@ module _ (s : List ℕ) (t : Terms) (route left : List ℕ) (tried : Tried) (tri
   pub long-still : (trial₀ : List ℕ) (x : ℕ) → Trial route x (length route) trial₀ → length trial ≡ length trial₀
   long-still trial₀ x h = trial-long route _ (tried .at) trial (g .holds) ∙ sym (trial-long route x (length route) trial₀ h)
 
--- one of the stops
+-- one of the stops may join the round
 pub one-joins : (s : List ℕ) (t : Terms) (route left : List ℕ) (j : ℕ) → Joinable s t route left → j < length left → Joinable s t route (getD left j 0 ∷ [])
 one-joins s t route left j ok h = record {
   round = ok .round;

@@ -194,7 +194,7 @@ module _ (s : List ℕ) (t : Terms) (stops₀ ends₀ vehicles₀ : List ℕ) (f
       ∙ ap (drop (length (x .route) + 1)) (drop-part stops (p .filled .routed) total (omega (arith, tail-ends)) inside ∙ at-tail)
       ∙ drop-append-add (x .route) (row ∷ behind) 1
 
-  -- set aside
+  -- the tables after a stop is set aside
   aside-stands : Standing s stops₀ ends₀ vehicles₀ f₀ total (write stops (p .end) (part stops (p .end + 1) total ++ (nextIn stops p ∷ []))) ends vehicles
       (record { filled = p .filled; end = p .end; load = p .load; mid = p .mid - 1 }) (record { closed = x .closed; route = x .route; aside = x .aside ++ (row ∷ []) }) rows
   aside-stands =

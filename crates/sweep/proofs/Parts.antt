@@ -78,7 +78,7 @@ carried s depot stops start end h k r =
     let e = ap (loadOf s) (part-more stops start end h k) ∙ load-append s (part stops start end) (getD stops end 0 ∷ []) in
     omega (arith, u, e, r .few)
 
--- some stops
+-- a part of the table that is not empty
 pub part-some : (stops : List ℕ) (start end : ℕ) → start ≤ end → end ≤ length stops → (start ≡ end → ⊥) → 0 < length (part stops start end)
 part-some stops start end h k n = go (end - start) refl
   where

@@ -30,11 +30,11 @@ abbrev pub relative : ℕ → ℕ → ℕ → List ℕ
 relative capacity marks max =
     sheetHeader 3 1 0 ++ (stopRows ++ (bytes 4 7 ++ (bytes 4 0 ++ (bytes 4 capacity ++ (bytes 4 marks ++ (f64s (f1 ∷ 0 ∷ max ∷ []) ++ (replicate 32 0 ++ tableBytes)))))))
 
--- a max distance
+-- sheet A by savings with a maximum distance
 abbrev pub within : ℕ → List ℕ
 within max = relative 2 1 max
 
--- of the only vehicle
+-- both stops on one round of the only vehicle
 abbrev together : Outcome
 together = record { rounds = record { vehicle = 0; stops = 1 ∷ 2 ∷ [] } ∷ []; aside = [] }
 

@@ -43,7 +43,7 @@ slots-alike n cells lens cells′ lens′ f =
     routes-same (slotsIn n cells′ lens′) (slotsIn n cells lens) (length-slots n cells′ lens′ ∙ sym (length-slots n cells lens))
     (λ k h. let l : k < n = omega (arith, h, length-slots n cells′ lens′) in slots-at n cells′ lens′ k l ∙ f k l ∙ sym (slots-at n cells lens k l))
 
--- one slot more
+-- the rounds of the slots with one slot more
 from-more : (cells lens : List ℕ) (n k : ℕ) → slotsFrom cells lens (suc n) k ≡ slotsFrom cells lens n k ++ (slotAt cells lens (k + n) ∷ [])
 unfolding slotsFrom
 from-more cells lens zero k = ap (λ (i : ℕ). slotAt cells lens i ∷ []) (sym (add-zero k))

@@ -12,7 +12,7 @@ use Rattle.constructive.specs.Outcome.{Round}
 abbrev pub OfFleet : List ℕ → Round → Type 0
 OfFleet fleet r = 0 < count (r .vehicle) fleet
 
--- as its first is
+-- a round of the fleet's first vehicle is the fleet's
 pub of-first : (v : ℕ) (fleet : List ℕ) (r : Round) → r .vehicle ≡ v → OfFleet (v ∷ fleet) r
 unfolding count
 of-first v fleet r e = let here : one (eqb (r .vehicle) v) ≡ 1 = ap one (eq-eqb (r .vehicle) v e) in omega arith

@@ -142,7 +142,7 @@ module _ (s : List ℕ) (depot : ℕ) (fine : Accepted s) (D : depot < rowsOf s)
   leg-time : (i j : ℕ) → i < rowsOf s → j < rowsOf s → Times 1 (timeOf s i j)
   leg-time i j h k = one-time (timeOf s i j) (time-bounded s fine i j h k)
 
-  -- one leg further
+  -- the distance with one leg more
   further : (n : ℕ) (distance : Float) (i j : ℕ) → n < 1000 → i < rowsOf s → j < rowsOf s → Times n distance → Times (n + 1) (distance ⊕ distanceOf s i j)
   further n distance i j l h k u = add-units 30 n 1 distance (distanceOf s i j) (omega arith) (omega arith) u (one-time (distanceOf s i j) (distance-bounded s fine i j h k))
 

@@ -64,7 +64,7 @@ pub allowed-figures : (s : List ℕ) (depot : ℕ) (limits : RouteLimits) (route
 unfolding routeEval
 allowed-figures s depot limits route k e = held-figures limits (scheduledOf s depot (limits .rest) route) k (sym (ap evalOf (verdict-scheduled s depot limits route)) ∙ e)
 
--- where there is none
+-- where there is no schedule
 pub held-none : (limits : RouteLimits) → heldTo limits NotFound ≡ noSchedule
 unfolding heldTo
 held-none limits = refl

@@ -29,7 +29,7 @@ pub record Place (s : List ℕ) (soft : Bool) (rounds : List Round) (row i k : �
   pub taken : T (takes s soft (roundAt rounds i .vehicle) (roundAt rounds i .stops) row)
   pub passed : T (passes s 0 (roundAt rounds i .vehicle) (inserted k row (roundAt rounds i .stops)))
 
--- and it is lawful
+-- a place that is taken is lawful
 pub place-lawful : (s : List ℕ) (soft : Bool) (rounds : List Round) (row i k : ℕ) → Place s soft rounds row i k → T (lawfulPlace s 0 (roundAt rounds i .vehicle) (roundAt rounds i .stops) row k)
 unfolding takes
 place-lawful s soft rounds row i k p =

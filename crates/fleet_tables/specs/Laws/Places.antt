@@ -54,7 +54,7 @@ module _ (stops ends vehicles : List ℕ) (n total : ℕ) (o : Outcome) (held : 
       let l = length-take-le (total - startIn ends n) (drop (startIn ends n) stops) (omega (arith, held .from, held .within, length-drop (startIn ends n) stops)) in
       omega (arith, l, ap length (held .aside), held .from, held .holds .routed)
 
-  -- all stops
+  -- all stops of the outcome, in the order of the table
   pub stops-upto : take total stops ≡ chains (o .rounds) [] ++ o .aside
   stops-upto =
       let e : startIn ends n + (total - startIn ends n) ≡ total = omega (arith, held .from) in

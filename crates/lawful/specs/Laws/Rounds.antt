@@ -109,7 +109,7 @@ module _ (s : List ℕ) (v : ℕ) (a : Accepted s) (whole : Whole s) (is-vehicle
       (step-same s v i (row-amounts s a whole i (rows .0)) rest n (omega arith) prev (time-amount s a whole prev i from (rows .0)) w x u)
       (drive n d (distanceN s prev i) distance (distanceOf s prev i) (omega arith) r (distance-amount s a whole prev i from (rows .0))))
 
-  -- with one
+  -- with a rest
   pub clock-comes : (n d place prev : ℕ) (w z : Walk) (x y : Served) (distance : Float) (is : List ℕ) → n + length is ≤ mostRows → prev < rowsOf s → Rows s is
       → Same n w x → Same n z y → Driven n d distance
       → Comes (d + travelN s v prev is) (onwardN s v (record { before = w; after = z }) prev is) (homeFrom s (homeOf s v) (walkedOver s (positionAt (Required (breakOf s v)) place prev x y distance) is))

@@ -8,7 +8,7 @@ use lib.ListN.{length, drop, getD, drop-of-length-le}
 use lib.Seq.{drop-cons}
 
 module _ {S A : Type 0} (step : S → A → S) where
-  -- one more
+  -- a fold over a list with one element more
   pub fold-more : (x : S) (l : List A) (a : A) → foldl step x (l ++ (a ∷ [])) ≡ step (foldl step x l) a
   fold-more x l a = foldl-append step x l (a ∷ [])
 

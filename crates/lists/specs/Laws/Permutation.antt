@@ -14,7 +14,7 @@ abbrev orElse : Bool → ℕ → List ℕ → List ℕ → List ℕ
 orElse true y ys zs = ys
 orElse false y ys zs = y ∷ zs
 
--- without the first x
+-- a list without its first x
 less : ℕ → List ℕ → List ℕ
 less x [] = []
 less x (y ∷ ys) = orElse (eqb x y) y ys (less x ys)

@@ -37,7 +37,7 @@ pub record Rows : Type 0 where
   pub tie : firstDepots (sheet 2 (vehicleBytes 0 ++ vehicleBytes 1) f3) ≡ 0 ∷ 1 ∷ 0 ∷ 0 ∷ []
   -- no other depot has a vehicle
   pub last : outcomeOf (sheet 1 (vehicleBytes 0) f4) ≡ record { rounds = record { vehicle = 0; stops = 2 ∷ [] } ∷ []; aside = 3 ∷ [] }
-  -- none has
+  -- no depot has a vehicle
   pub unassigned : outcomeOf (sheet 0 [] f4) ≡ record { rounds = []; aside = 2 ∷ 3 ∷ [] }
 
 pub cases : Rows

@@ -61,7 +61,7 @@ started-loaded : (s : List ℕ) (v depot : ℕ) → Loaded s v (emptyTrip depot)
 unfolding loadOf
 started-loaded s v depot = record { load = refl; carried = zero-le }
 
--- with a stop more
+-- the load with a stop more
 load-more : (s : List ℕ) (trip : Trip) (i : ℕ) → trip .load ≡ loadOf s (trip .stops) → trip .load + demandOf s i ≡ loadOf s (trip .stops ++ (i ∷ []))
 unfolding loadOf
 load-more s trip i e = let a = load-append s (trip .stops) (i ∷ []) in omega arith

@@ -101,7 +101,7 @@ module _ (s : List ℕ) (fine : Accepted s) (insertion : methodOf s ≡ 1) (sing
   home-first : (v : ℕ) → v < vehiclesOf s → homeOf s v ≡ 0
   home-first v h = omega (arith, fine .vehicle v h .depot)
 
-  -- and there is one
+  -- there is a vehicle
   some-vehicle : 0 < vehiclesOf s
   unfolding needsVehicle
   some-vehicle = go (vehiclesOf s) refl

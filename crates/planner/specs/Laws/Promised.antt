@@ -118,7 +118,7 @@ module _ (s : List ℕ) (fine : Accepted s) where
     known : r .vehicle < vehiclesOf s
     feasible : FeasibleRound s r
 
-  -- from a depot
+  -- a round of depot d keeps what is promised
   record Sound (d : ℕ) (r : Round) : Type 0 where
     feasible : (methodOf s ≡ 2 → ⊥) → T (passes s d (r .vehicle) (r .stops))
     capacity : T (capacityKept s r)

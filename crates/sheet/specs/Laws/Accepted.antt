@@ -10,7 +10,7 @@ use lib.Ieee.Fits.{and-l, and-r}
 use lib.ListN.{length}
 use Rattle.numbers.specs.Range.{whole}
 use Rattle.numbers.specs.Laws.All.{all-at, all-of}
-use Rattle.sheet.specs.Fields.{rowsOf, vehiclesOf, methodOf, timesOf, spareOf, rowAt, xField, yField, demandField, rowMarks, serviceAt, readyAt, vehicleAt, idField, depotField, capacityField, vehicleMarks, costAt, fixedAt, maxDistanceAt, earliestAt, entriesOf, entryAt, sheetLength, planLength, marked, mostRows}
+use Rattle.sheet.specs.Fields.{rowsOf, vehiclesOf, methodOf, timesOf, spareOf, rowAt, xField, yField, demandField, rowMarks, serviceAt, readyAt, vehicleAt, idField, depotField, capacityField, vehicleMarks, costAt, fixedAt, maxDistanceAt, earliestAt, entriesOf, entryAt, sheetLength, planLength, marked, headerSize, mostRows, mostVehicles}
 use Rattle.sheet.specs.Depots.{depotsOf}
 use Rattle.sheet.specs.Ranges.{coordinate, demand, capacity, marks, amount, optional, interval, costPerDistance, servingInRange, rowInRange, maximaInRange, restInRange, vehicleInRange, sameId, newId, rowsInRange, entriesInRange, vehiclesInRange}
 use Rattle.sheet.specs.Refusal.{headerRight, countsRight, methodRight, lengthsRight, needsVehicle, fleetRight, unless, contents, refusalOf}
@@ -129,15 +129,15 @@ module _ (s : List ℕ) where
   unfolding fleetRight
   fleet-of t e n = unless-not (eqb (vehiclesOf s) 0) (needsVehicle (methodOf s)) t (subst T (sym (eq-eqb (vehiclesOf s) 0 e)) tt) n
 
-  pub header-of : T (headerRight s) → (16 ≤ length s) × (timesOf s ≤ 1) × (spareOf s ≡ 0)
+  pub header-of : T (headerRight s) → (headerSize ≤ length s) × (timesOf s ≤ 1) × (spareOf s ≡ 0)
   unfolding headerRight
   header-of t =
-      let u = and-r (leb 16 (length s)) _ t in
-      (leb→le 16 (length s) (and-l (leb 16 (length s)) _ t), leb→le (timesOf s) 1 (and-l (leb (timesOf s) 1) _ u), eqb→eq (spareOf s) 0 (and-r (leb (timesOf s) 1) _ u))
+      let u = and-r (leb headerSize (length s)) _ t in
+      (leb→le headerSize (length s) (and-l (leb headerSize (length s)) _ t), leb→le (timesOf s) 1 (and-l (leb (timesOf s) 1) _ u), eqb→eq (spareOf s) 0 (and-r (leb (timesOf s) 1) _ u))
 
-  pub counts-of : T (countsRight s) → (rowsOf s ≤ mostRows) × (vehiclesOf s ≤ 16)
+  pub counts-of : T (countsRight s) → (rowsOf s ≤ mostRows) × (vehiclesOf s ≤ mostVehicles)
   unfolding countsRight
-  counts-of t = (leb→le (rowsOf s) mostRows (and-l (leb (rowsOf s) mostRows) _ t), leb→le (vehiclesOf s) 16 (and-r (leb (rowsOf s) mostRows) _ t))
+  counts-of t = (leb→le (rowsOf s) mostRows (and-l (leb (rowsOf s) mostRows) _ t), leb→le (vehiclesOf s) mostVehicles (and-r (leb (rowsOf s) mostRows) _ t))
 
   method-of : T (methodRight s) → methodOf s ≤ 4
   unfolding methodRight
@@ -183,12 +183,12 @@ module _ (s : List ℕ) (a : Accepted s) where
   header-right : T (headerRight s)
   unfolding headerRight
   header-right =
-      both (leb 16 (length s)) _ (le→leb 16 (length s) (omega (arith, a .sized .long)))
+      both (leb headerSize (length s)) _ (le→leb headerSize (length s) (omega (arith, a .sized .long)))
       (both (leb (timesOf s) 1) _ (le→leb (timesOf s) 1 (a .sized .times)) (subst T (sym (eq-eqb (spareOf s) 0 (a .spare))) tt))
 
   counts-right : T (countsRight s)
   unfolding countsRight
-  counts-right = both (leb (rowsOf s) mostRows) _ (le→leb (rowsOf s) mostRows (a .sized .rows)) (le→leb (vehiclesOf s) 16 (a .sized .vehicles))
+  counts-right = both (leb (rowsOf s) mostRows) _ (le→leb (rowsOf s) mostRows (a .sized .rows)) (le→leb (vehiclesOf s) mostVehicles (a .sized .vehicles))
 
   method-right : T (methodRight s)
   unfolding methodRight

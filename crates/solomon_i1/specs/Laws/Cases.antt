@@ -56,7 +56,7 @@ pub record Softly : Type 0 where
   pub late : planned (soft f4) ≡ rounded (1 ∷ 2 ∷ []) []
   -- at 20: it adds as much as it costs alone
   pub dear : planned (soft 0x4034_0000_0000_0000) ≡ record { rounds = record { vehicle = 0; stops = 1 ∷ [] } ∷ record { vehicle = 0; stops = 2 ∷ [] } ∷ []; aside = [] }
-  -- at 19: less
+  -- at 19: it adds less than it costs alone
   pub cheap : planned (soft 0x4033_0000_0000_0000) ≡ rounded (1 ∷ 2 ∷ []) []
 
 pub softly : Softly

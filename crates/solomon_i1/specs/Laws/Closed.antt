@@ -70,7 +70,7 @@ module _ (s : List ℕ) (t : Terms) (m : Meant s t) (hard : t .soft ≡ false) w
   abbrev roundBy : List ℕ → Round
   roundBy left = record { vehicle = t .vehicle; stops = routeIn (roundIn s t left) }
 
-  -- to the stops left
+  -- a round is closed to the stops that it leaves
   round-closed : (left : List ℕ) (row : ℕ) → 0 < count row (leftIn (roundIn s t left)) → ClosedTo s (t .depot) (roundBy left) row
   round-closed left row h =
       let g = roundIn s t left in

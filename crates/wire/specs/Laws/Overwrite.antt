@@ -47,6 +47,6 @@ module _ (s : List ℕ) (at : ℕ) (xs ys : List ℕ) (room : at + length (xs ++
       ∙ ap (λ (t : List ℕ). take at s ++ xs ++ (zs ++ t)) rest
       ∙ sym (rw long (simp append-assoc))
 
-  -- and over all of it
+  -- a write over all of what was written
   pub write-over : (zs : List ℕ) → length zs ≡ length ys → write (write s at (xs ++ ys)) (at + length xs) zs ≡ write s at (xs ++ zs)
   write-over zs e = write-within zs (omega arith) ∙ ap (λ (t : List ℕ). write s at (xs ++ (zs ++ t))) (ap (λ (n : ℕ). drop n ys) e ∙ drop-length ys) ∙ ap (λ (t : List ℕ). write s at (xs ++ t)) (append-nil zs)
