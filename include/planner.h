@@ -13,15 +13,18 @@
  *             Without PLANNER_PENALTY the window is hard: a later arrival breaks it.
  *             With it the window is soft: a later arrival is allowed and costs the
  *             penalty times the lateness. A penalty without a window does nothing.
- *             A depot's window switches the checks on, with a penalty the rules of
- *             soft windows too, and binds nothing: no round has to be home by it.
+ *             A depot's window is the depot's own: its due is the latest return, with
+ *             or without a penalty, and its ready does nothing. It switches the checks
+ *             on, with a penalty the rules of soft windows too. Plain nearest
+ *             neighbour passes over it on a vehicle without a rest.
  *   rest      Due on a vehicle with PLANNER_REST, unless the round without it is
  *             back by earliest. It stands right before the service of one stop, any
  *             one, and never on the way home; it starts at the later of arrival and
  *             earliest, not after latest, and its end is what the stop's window is
  *             held against.
  *   limits    Demands sum to at most the capacity; distance and duration are at most
- *             the marked maxima, the maximum itself included.
+ *             the marked maxima, the maximum itself included, and the duration at most
+ *             the due of the vehicle's depot, where that row has a window.
  *   cost      Fixed cost + cost per distance * (distance + lateness cost), where the
  *             lateness cost sums penalty * lateness. Time alone costs nothing.
  *   units     Any, the same throughout: one for distances and the maximum distance;
@@ -59,9 +62,9 @@
 
 /* The major number rises where bytes that a version accepts are refused or get another
    meaning, the minor one where something is added. */
-#define PLANNER_VERSION_MAJOR 1
+#define PLANNER_VERSION_MAJOR 2
 #define PLANNER_VERSION_MINOR 0
-#define PLANNER_VERSION "1.0"
+#define PLANNER_VERSION "2.0"
 
 /* Bytes of stack to keep free for a call, beside what its thread takes otherwise:
    half as much again, or more, as any call was seen to take (tests/c/stack.c).

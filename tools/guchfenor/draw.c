@@ -333,6 +333,8 @@ const struct command draw_command = {
     "cover each other are moved apart a little), and under it a\n"
     "strip for each round over time: driving, waiting, service and rest, and over them a\n"
     "bracket for each stop's window with a dot where the stop could be served from. A\n"
-    "missed window, and a soft one that was late, is red. Stops and bars have titles.\n\n"
+    "missed window, and a soft one that was late, is red. A tick through the bar is the\n"
+    "due of the round's depot, red where the round is back after it. Stops and bars have\n"
+    "titles.\n\n"
     "A plan whose counts or links do not fit the sheet is told and not drawn. One whose\n"
     "figures are not what the sheet gives is drawn, and told; the status is then 1.\n"};

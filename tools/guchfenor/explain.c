@@ -49,6 +49,22 @@ static void count_row(struct tally *t, const uint8_t *sheet, unsigned row)
         t->most_demand = demand;
 }
 
+/* A depot's window, where it has one: its due is the latest return. */
+static void print_depot(const uint8_t *sheet, unsigned row)
+{
+    uint32_t marks = planner_row_marks(sheet, row);
+    if (!(marks & PLANNER_WINDOW))
+        return;
+    printf("depot %u: rounds are home by %s", row, plain(planner_row_due(sheet, row)));
+    if (planner_row_ready(sheet, row) > 0)
+        printf("; its ready, %s, has no effect", plain(planner_row_ready(sheet, row)));
+    if (marks & PLANNER_PENALTY)
+        fputs("; its penalty switches the rules of soft windows on", stdout);
+    if (planner_sheet_method(sheet) == PLANNER_NEAREST_NEIGHBOR)
+        fputs("; not asked of vehicles without a rest by this method", stdout);
+    putchar('\n');
+}
+
 static void print_rows(const uint8_t *sheet)
 {
     unsigned rows = planner_rows(sheet), depots = planner_depots(sheet);
@@ -59,6 +75,8 @@ static void print_rows(const uint8_t *sheet)
     printf("%u row%s: %u depot%s, %u stop%s\n", rows, plural(rows), there, plural(there), rows - there, plural(rows - there));
     printf("demand %ld in all, %ld at most\n", t.demand, t.most_demand);
     printf("windows: %u hard, %u soft (with a penalty)\n", t.hard, t.soft);
+    for (unsigned row = 0; row < there; row++)
+        print_depot(sheet, row);
     if (t.useless > 0)
         printf("note: %u stop%s a penalty and no window, which has no effect\n", t.useless, t.useless == 1 ? " has" : "s have");
     if (t.far_depots > 0)

@@ -203,6 +203,9 @@ static void take_figures(struct reading *r, unsigned k)
     round->lateness_cost = planner_round_lateness_cost(plan, k);
     round->rest_start = planner_round_rest_start(plan, k);
     round->rest_end = round->rest_start + planner_vehicle_rest_duration(sheet, round->vehicle);
+    round->closes = (planner_row_marks(sheet, round->depot) & PLANNER_WINDOW) != 0;
+    round->due = planner_row_due(sheet, round->depot);
+    round->is_late = round->closes && round->duration > round->due;
     round->first = r->visits;
 }
 

@@ -24,6 +24,8 @@ struct round {
     unsigned vehicle, depot, rest_place;
     unsigned first, stops; /* its visits */
     long load, capacity;
+    int closes, is_late; /* whether its depot has a window, and it is back after the due */
+    double due;          /* of the depot */
     double distance, duration, lateness, lateness_cost, rest_start, rest_end;
 };
 

@@ -88,7 +88,8 @@ static void print_limits(FILE *out, const uint8_t *sheet, unsigned vehicle)
 
 static void print_end(FILE *out, const struct reading *r, const struct round *round)
 {
-    fprintf(out, "  back at depot %u at %s; distance %s", round->depot, plain(round->duration), plain(round->distance));
+    fprintf(out, "  back at depot %u at %s%s; distance %s", round->depot, plain(round->duration),
+            round->is_late ? " AFTER ITS DUE" : "", plain(round->distance));
     if (round->rest_place > 0)
         fprintf(out, "; rest before stop %u, %s to %s", r->visit[round->first + round->rest_place - 1].stop,
                 plain(round->rest_start), plain(round->rest_end));
@@ -103,6 +104,8 @@ static void print_round(FILE *out, const struct reading *r, unsigned k)
     fprintf(out, "\nround %u: vehicle %lu from depot %u, load %ld of %ld%s", k + 1, (unsigned long)round->id, round->depot,
             round->load, round->capacity, round->load > round->capacity ? " OVER" : "");
     print_limits(out, r->sheet.bytes, round->vehicle);
+    if (round->closes)
+        fprintf(out, ", home by %s", plain(round->due));
     fputc('\n', out);
     if (round->stops == 0) {
         fputs("  empty\n", out);
@@ -140,6 +143,11 @@ static void print_missed(FILE *out, const struct reading *r)
         missed += r->visit[i].late > 0 && !r->visit[i].is_soft;
     if (missed > 0)
         fprintf(out, "hard windows missed: %u\n", missed);
+    missed = 0;
+    for (unsigned k = 0; k < r->rounds; k++)
+        missed += r->round[k].is_late != 0;
+    if (missed > 0)
+        fprintf(out, "rounds back after their depot's due: %u\n", missed);
 }
 
 /* A vehicle's rounds, where it makes several. */
@@ -192,7 +200,8 @@ static int run_show(const struct call *call)
 const struct command show_command = {
     "show", "show SHEET PLAN", "print a plan's rounds as tables", 2, 2, 0, run_show,
     "Reads a sheet and a plan of it and prints a table for each round: its vehicle and\n"
-    "depot, load against capacity, and for each stop the arrival, the rest and the\n"
+    "depot, load against capacity, its limits and when it has to be home (the depot's\n"
+    "due: AFTER ITS DUE where it is not), and for each stop the arrival, the rest and the\n"
     "waiting, the start of service, the departure, the load after it, its window and how\n"
     "late it is (MISSED: a hard window; a soft one costs); then totals, vehicles that make\n"
     "several rounds, and the stops set aside. Times are in the sheet's unit, up to three\n"

@@ -261,6 +261,17 @@ static void draw_windows(unsigned k, double top)
             draw_window(&strips.r->visit[i], top + LANE * strips.lane[i] + LANE / 2.0, colour_of(k));
 }
 
+/* ---- when the depot closes */
+
+static void draw_closing(const struct round *round, double y)
+{
+    if (!round->closes || round->due > strips.end)
+        return;
+    fprintf(strips.out, "<path d=\"M%.1f %.1fv%d\" stroke=\"%s\" stroke-width=\"2\"><title>depot %u closes at %s%s</title></path>\n",
+            x_of(round->due), y - 3, BAR + 6, round->is_late ? ALARM : INK, round->depot, plain(round->due),
+            round->is_late ? ", back after it" : "");
+}
+
 /* ---- a strip, and all of them */
 
 static void draw_strip(unsigned k, int top)
@@ -274,6 +285,7 @@ static void draw_strip(unsigned k, int top)
         plain(round->duration));
     draw_windows(k, top);
     draw_bars(k, bars);
+    draw_closing(round, bars);
     label_visits(k, bars);
 }
 
@@ -318,7 +330,13 @@ static void draw_key(int y)
     x = draw_key_bar(REST, x, y, "rest");
     x = draw_key_window(x, y, FAINTER_INK, "", "window", 0);
     x = draw_key_window(x, y, FAINTER_INK, " stroke-dasharray=\"4 2\"", "soft window", 0);
-    draw_key_window(x + 10, y, ALARM, "", "missed, or late", 1);
+    x = draw_key_window(x + 10, y, ALARM, "", "missed, or late", 1);
+    for (unsigned k = 0; k < strips.r->rounds; k++)
+        if (strips.r->round[k].closes) {
+            fprintf(strips.out, "<path d=\"M%.1f %dv%d\" stroke=\"" INK "\" stroke-width=\"2\"/>\n", x + 25, y - 14, BAR + 6);
+            letter(strips.out, x + 31, y, 12, FAINT_INK, "start", "depot closes");
+            return;
+        }
 }
 
 void draw_strips(FILE *out, const struct reading *r, int top)

@@ -1,9 +1,12 @@
 -- docs/SCOPE.md#the-walk-of-a-round. What a vehicle asks of a round besides its capacity.
 use Prim.Native.Nat.{ℕ}
-use mathlib.Core.Bool.{Bool, true, false, _&&_}
+use mathlib.Core.Bool.{Bool, true, false, _&&_, cond}
 use mathlib.Core.List.{List}
-use lib.Ieee.{Float, le}
-use Rattle.sheet.specs.Values.{vehicleOf}
+use lib.Ieee.{Float, lt, le}
+use Rattle.sheet.specs.Values.{stopOf, vehicleOf}
+use Rattle.sheet.specs.declared.customer.Window.{Window}
+use Rattle.sheet.specs.declared.customer.Gate.{Gate}
+use Rattle.sheet.specs.declared.customer.Gate.the-variants.{Open, Hard, Soft}
 use Rattle.sheet.specs.declared.vehicle.Limit.{Limit}
 use Rattle.sheet.specs.declared.vehicle.Limit.the-variants.{Unlimited, Max}
 use Rattle.sheet.specs.declared.vehicle.Rest.{Rest}
@@ -15,9 +18,25 @@ use Rattle.evaluation.specs.declared.limits.RouteLimits.{RouteLimits}
 abbrev pub limitsOf : Vehicle → RouteLimits
 limitsOf v = record { «max_distance» = v .«max_distance»; «max_duration» = v .«max_duration»; rest = v .rest }
 
--- read from a sheet: the vehicle is told by its index
+-- "trucks must be home by its due time": a depot's due, where its row has a window, whatever its penalty
+abbrev pub latestReturn : Gate → Limit
+latestReturn Open = Unlimited
+latestReturn (Hard w) = Max (w .due)
+latestReturn (Soft w penalty) = Max (w .due)
+
+-- two limits in one: the lower, which is kept exactly where both are (Laws/Limits)
+abbrev pub lowerOf : Limit → Limit → Limit
+lowerOf Unlimited b = b
+lowerOf (Max x) Unlimited = Max x
+lowerOf (Max x) (Max y) = cond (lt y x) (Max y) (Max x)
+
+-- "a round's duration must also be no later than its depot's due"
+abbrev pub returningBy : Limit → RouteLimits → RouteLimits
+returningBy due l = record { «max_distance» = l .«max_distance»; «max_duration» = lowerOf (l .«max_duration») due; rest = l .rest }
+
+-- read from a sheet: the vehicle is told by its index, and its depot is its own
 unfoldable pub limitsAt : List ℕ → ℕ → RouteLimits
-limitsAt s v = limitsOf (vehicleOf s v)
+limitsAt s v = returningBy (latestReturn (stopOf s (vehicleOf s v .depot) .gate)) (limitsOf (vehicleOf s v))
 
 abbrev pub noMaximum : Limit → Bool
 noMaximum Unlimited = true

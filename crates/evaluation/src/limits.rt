@@ -1,4 +1,6 @@
-// What a vehicle asks of a round besides its capacity.
+// What a vehicle and its depot ask of a round besides the capacity.
+use sheet::customer;
+use sheet::customer::Gate;
 use sheet::vehicle;
 use sheet::vehicle::Limit;
 use sheet::vehicle::Rest;
@@ -6,8 +8,8 @@ use sheet::vehicle::Vehicle;
 ghost use mathlib.Core.Path.{_≡_};
 ghost use Prim.Native.Nat.{_<_};
 ghost use Rattle.sheet.specs.Accepted.{Accepted};
-ghost use Rattle.sheet.specs.Fields.{vehiclesOf};
-ghost use Rattle.evaluation.specs.Limits.{limitsOf, limitsAt, isUnlimited, withinOf, allowOf};
+ghost use Rattle.sheet.specs.Fields.{rowsOf, vehiclesOf};
+ghost use Rattle.evaluation.specs.Limits.{limitsOf, latestReturn, lowerOf, returningBy, limitsAt, isUnlimited, withinOf, allowOf};
 
 pub struct RouteLimits {
     pub max_distance: Limit,
@@ -25,7 +27,8 @@ fn within(max: Limit, x: f64) -> bool
     }
 }
 
-fn limits_of(vehicle: Vehicle) -> RouteLimits
+// The vehicle's own limits, without its depot's due.
+pub fn limits_of(vehicle: Vehicle) -> RouteLimits
     ensures { λ r. ⌜ r ≡ limitsOf vehicle ⌝ }
 {
     let max_distance = vehicle.max_distance;
@@ -38,13 +41,54 @@ fn limits_of(vehicle: Vehicle) -> RouteLimits
     }
 }
 
+// When a round has to be home by the gate of its depot. A penalty there changes nothing.
+fn latest_return(gate: Gate) -> Limit
+    ensures { λ r. ⌜ r ≡ latestReturn gate ⌝ }
+{
+    match gate {
+        Gate::Open => Limit::Unlimited,
+        Gate::Hard(w) => Limit::Max(w.due),
+        Gate::Soft(w, _) => Limit::Max(w.due),
+    }
+}
+
+fn lower(a: Limit, b: Limit) -> Limit
+    ensures { λ r. ⌜ r ≡ lowerOf a b ⌝ }
+{
+    let Limit::Max(x) = a else {
+        return b;
+    };
+    let Limit::Max(y) = b else {
+        return a;
+    };
+    if y < x { b } else { a }
+}
+
+fn returning_by(due: Limit, limits: RouteLimits) -> RouteLimits
+    ensures { λ r. ⌜ r ≡ returningBy due limits ⌝ }
+{
+    let max_distance = limits.max_distance;
+    let own = limits.max_duration;
+    let max_duration = lower(own, due);
+    let rest = limits.rest;
+    RouteLimits {
+        max_distance,
+        max_duration,
+        rest,
+    }
+}
+
 // The limits of the vehicle at `index` of the sheet.
 pub fn limits_at(sheet: &[u8], index: usize) -> RouteLimits
     requires { ⌜ Accepted (now sheet) ⌝ }
-    requires { ⌜ index < vehiclesOf (now sheet) ⌝ }
+    requires { ⌜ (index < vehiclesOf (now sheet)) × (0 < rowsOf (now sheet)) ⌝ }
     ensures { λ r. ⌜ r ≡ limitsAt (now (sheet .entry)) index ⌝ }
 {
-    limits_of(vehicle::vehicle_at(sheet, index))
+    let vehicle = vehicle::vehicle_at(sheet, index);
+    let depot = vehicle.depot as usize;
+    let home = customer::stop_at(sheet, depot);
+    let gate = home.gate;
+    returning_by(latest_return(gate), limits_of(vehicle))
 }
 
 impl RouteLimits {

@@ -34,7 +34,7 @@ pub struct Windows {
 // What a vehicle's rounds are judged by. A stop that no round takes does not go alone: that costs without end.
 fn terms_at(sheet: &[u8], windows: Windows, index: u16) -> Terms
     requires { ⌜ Accepted (now sheet) ⌝ }
-    requires { ⌜ index < vehiclesOf (now sheet) ⌝ }
+    requires { ⌜ (index < vehiclesOf (now sheet)) × (0 < rowsOf (now sheet)) ⌝ }
     ensures { λ r. ⌜ r ≡ termsAt (now (sheet .entry)) windows index ⌝ }
 {
     let own = vehicle::vehicle_at(sheet, index as usize);

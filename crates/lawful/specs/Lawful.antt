@@ -113,11 +113,15 @@ notOver n (fin false m e) = leb (n * down e) (m * up e)
 abbrev pub withinMaximum : ℕ → List ℕ → ℕ → ℕ → ℕ → Bool
 withinMaximum mark s v field n = cond (marked mark (vehicleMarks s (vehicleAt s v))) (notOver n (f64At s field)) true
 
+-- "a lawful schedule means home in time": by the due of the vehicle's depot, where its row has a window
+abbrev pub homeInTime : List ℕ → ℕ → ℕ → Bool
+homeInTime s v duration = cond (isWindowed s (homeOf s v)) (leb duration (dueN s (homeOf s v))) true
+
 abbrev pub keepsMaxima : List ℕ → ℕ → List ℕ → Walk → Bool
 keepsMaxima s v is failed = false
 keepsMaxima s v is (left duration) =
     withinMaximum 1 s v (maxDistanceAt (vehicleAt s v)) (travelN s v (homeOf s v) is)
-    && withinMaximum 2 s v (maxDurationAt (vehicleAt s v)) duration
+    && (withinMaximum 2 s v (maxDurationAt (vehicleAt s v)) duration && homeInTime s v duration)
 
 -- ---- "A round has a lawful schedule if one of these walks does not fail"
 -- "the one without rest, if the vehicle has no rest mark or the duration is ≤ earliest"

@@ -16,7 +16,6 @@ use Rattle.wire.specs.Laws.Overwrite.{write-same, part-write, write-within}
 use Rattle.sheet.specs.Fields.{rowsOf}
 use Rattle.sheet.specs.Values.{vehicleOf}
 use Rattle.sheet.specs.declared.vehicle.Vehicle.{Vehicle}
-use Rattle.evaluation.specs.Limits.{limitsAt}
 use Rattle.evaluation.specs.declared.limits.RouteLimits.{RouteLimits}
 use Rattle.evaluation.specs.Routed.{Routed}
 use Rattle.constructive.specs.Members.{part, Members}
@@ -28,7 +27,7 @@ use Rattle.nearest_neighbor_choice.specs.Choice.{choose, Trip, emptyTrip}
 use Rattle.nearest_neighbor.specs.Greedy.{Rule, extending, extended, extendedBy, extend, extendOn, endOfTrip, vehicleRound}
 use Rattle.nearest_neighbor.specs.Laws.Chosen.{Chosen, choose-chosen}
 use Rattle.nearest_neighbor_choice.specs.Partial.{emptyPartial, PartialRoute}
-use Rattle.nearest_neighbor.specs.Heuristic.{ruleOf, offerBy, onwardBy}
+use Rattle.nearest_neighbor.specs.Heuristic.{limitsBy, ruleOf, offerBy, onwardBy}
 use Rattle.nearest_neighbor.proofs.Leaving.{joins}
 use Rattle.nearest_neighbor.proofs.Keeping.{rideOf, Driven, offers, drives-on, stays-driven, riding, sets-out, off, choose-alike}
 
@@ -51,12 +50,12 @@ pub record Growing (s : List ℕ) (depot : ℕ) (h : Heuristic) (index : ℕ) (s
   pub laid : stops ≡ write stops₀ start (trip .stops ++ left)
   pub at : end ≡ start + length (trip .stops)
   pub all : end + length left ≡ total
-  pub kept : partial ≡ rideOf s depot (limitsAt s index .rest) trip
+  pub kept : partial ≡ rideOf s depot (limitsBy s h index .rest) trip
   pub driven : Driven s depot trip
   pub rows : Every (λ (i : ℕ). i < rowsOf s) left
   pub same : vehicleRound (ruleOf s depot h index) depot (part stops₀ start total) ≡ endOfTrip (extendOn (ruleOf s depot h index) (length left) (extending trip left))
 
-pub begins : (s : List ℕ) (depot : ℕ) (h : Heuristic) (index : ℕ) (stops : List ℕ) (start total : ℕ) (partial : Partial) → Members s depot stops start total → partial ≡ emptyPartial (limitsAt s index .rest) depot → Growing s depot h index stops start total stops partial start
+pub begins : (s : List ℕ) (depot : ℕ) (h : Heuristic) (index : ℕ) (stops : List ℕ) (start total : ℕ) (partial : Partial) → Members s depot stops start total → partial ≡ emptyPartial (limitsBy s h index .rest) depot → Growing s depot h index stops start total stops partial start
 begins s depot h index stops start total partial ok e =
     let long : length (part stops start total) ≡ total - start = length-take-le (total - start) (drop start stops) (omega (arith, length-drop start stops, ok .within, ok .from)) in
     record {
@@ -66,7 +65,7 @@ begins s depot h index stops start total partial ok e =
       laid = sym (write-same stops start (total - start) (omega (arith, ok .within, ok .from)));
       at = omega arith;
       all = omega (arith, long, ok .from);
-      kept = e ∙ sets-out s depot (limitsAt s index .rest);
+      kept = e ∙ sets-out s depot (limitsBy s h index .rest);
       driven = off s depot (ok .routed .home);
       rows = every-of (λ (i : ℕ). i < rowsOf s) 0 (part stops start total) (ok .routed .row);
       same = refl;
@@ -100,19 +99,19 @@ module _ (s : List ℕ) (depot : ℕ) (h : Heuristic) (index : ℕ) (stops₀ : 
   })
 
   pub rides : end < total → PartialRoute s partial
-  rides k = rw (g .kept) (riding s depot (limitsAt s index .rest) (g .trip) (g .members .routed .sheet) (g .driven) (omega (arith, g .at, g .members .most)))
+  rides k = rw (g .kept) (riding s depot (limitsBy s h index .rest) (g .trip) (g .members .routed .sheet) (g .driven) (omega (arith, g .at, g .members .most)))
 
   -- the choice is the rule's
-  module _ (c : StopChoice) (v : Vehicle) (limits : RouteLimits) (told : v ≡ vehicleOf s index) (held : limits ≡ limitsAt s index) (e : c ≡ choose (offerBy s depot h v limits partial) NoStop 0 (part stops end total)) where
+  module _ (c : StopChoice) (v : Vehicle) (limits : RouteLimits) (told : v ≡ vehicleOf s index) (held : limits ≡ limitsBy s h index) (e : c ≡ choose (offerBy s depot h v limits partial) NoStop 0 (part stops end total)) where
     chosen : choose (rule .offer (g .trip)) NoStop 0 (g .left) ≡ c
     chosen =
         sym (e
         ∙ ap (choose (offerBy s depot h v limits partial) NoStop 0) left-part
         ∙ ap (λ (x : Vehicle). choose (offerBy s depot h x limits partial) NoStop 0 (g .left)) told
         ∙ ap (λ (x : RouteLimits). choose (offerBy s depot h (vehicleOf s index) x partial) NoStop 0 (g .left)) held
-        ∙ ap (λ (x : Partial). choose (offerBy s depot h (vehicleOf s index) (limitsAt s index) x) NoStop 0 (g .left)) (g .kept)
-        ∙ choose-alike (offerBy s depot h (vehicleOf s index) (limitsAt s index) (rideOf s depot (limitsAt s index .rest) (g .trip))) (rule .offer (g .trip))
-        (λ i. offers s depot (vehicleOf s index) (limitsAt s index) (g .trip) (g .driven) i h index refl refl) NoStop 0 (g .left))
+        ∙ ap (λ (x : Partial). choose (offerBy s depot h (vehicleOf s index) (limitsBy s h index) x) NoStop 0 (g .left)) (g .kept)
+        ∙ choose-alike (offerBy s depot h (vehicleOf s index) (limitsBy s h index) (rideOf s depot (limitsBy s h index .rest) (g .trip))) (rule .offer (g .trip))
+        (λ i. offers s depot (vehicleOf s index) (limitsBy s h index) (g .trip) (g .driven) i h index refl refl) NoStop 0 (g .left))
 
     -- no stop can join: the round is grown
     none-joins : (n : ℕ) → c ≡ NoStop → endOfTrip (extendOn rule n (extending (g .trip) (g .left))) ≡ record { stops = taken; left = g .left }
@@ -172,7 +171,7 @@ module _ (s : List ℕ) (depot : ℕ) (h : Heuristic) (index : ℕ) (stops₀ : 
             laid = p ∙ brought ∙ ap (λ (l : List ℕ). write stops₀ start (l ++ without j (g .left))) (sym more);
             at = omega (arith, long, g .at);
             all = omega (arith, g .all, without-length (g .left) j inside);
-            kept = q ∙ rw (stop-at, g .kept) (drives-on s depot (limitsAt s index .rest) (g .trip) h index stop);
+            kept = q ∙ rw (stop-at, g .kept) (drives-on s depot (limitsBy s h index .rest) (g .trip) h index stop);
             driven = stays-driven s depot (g .trip) h index stop (g .members .routed .sheet) (g .driven) (every-at (λ (i : ℕ). i < rowsOf s) 0 (g .left) j inside (g .rows));
             rows = every-append (λ (i : ℕ). i < rowsOf s) (take j (g .left)) (drop (j + 1) (g .left)) (every-take (λ (i : ℕ). i < rowsOf s) j (g .left) (g .rows)) (every-drop (λ (i : ℕ). i < rowsOf s) (j + 1) (g .left) (g .rows));
             same = g .same ∙ grown-on;

@@ -3,6 +3,7 @@ use mathlib.Core.Path.{_≡_, refl, sym, ap, _∙_}
 use Prim.Native.Nat.{ℕ, suc, _+_, _*_, _≤_, _<_}
 use native.Mathlib.Nat.{suc-ne-zero}
 use native.Mathlib.Omega.{arith}
+use mathlib.Core.Bool.{cond}
 use mathlib.Core.List.{List, [], _∷_, _++_}
 use borrow.Author.Tests.{ne-eqb}
 use lib.Dec.{eqb}
@@ -19,7 +20,7 @@ use Rattle.sheet.specs.declared.vehicle.Vehicle.{Vehicle}
 use Rattle.evaluation_clock.specs.Sums.{_⊕_}
 use Rattle.evaluation_clock.specs.Clock.{Clock, nextOf, clockOf, breakClock}
 use Rattle.evaluation.specs.Walk.{startAt as atStart, walkedOver}
-use Rattle.evaluation.specs.Limits.{limitsAt}
+use Rattle.evaluation.specs.Limits.{limitsOf, limitsAt}
 use Rattle.evaluation.specs.Verdict.{verdictOf, isFeasible}
 use Rattle.evaluation.specs.Feasible.{routeFeasible}
 use Rattle.evaluation.specs.Laws.Walk.{clock-kept, walked-rest, walked-place, more-clock, more-prev, more-distance}
@@ -33,9 +34,9 @@ use Rattle.nearest_neighbor.specs.declared.greedy.Heuristic.{Heuristic}
 use Rattle.nearest_neighbor.specs.declared.greedy.Heuristic.the-variants.{Nearest, NearestTw}
 use Rattle.nearest_neighbor_choice.specs.Choice.{Offer, betterStop, choose, Trip, emptyTrip as setOff}
 use Rattle.nearest_neighbor_choice.specs.Offers.{allows, thereAndHome, nearestOffer, arrivalAt, serviceStart, isFirst, windowOffer}
-use Rattle.nearest_neighbor.specs.Nearest.{nearestOnward, windowOnward}
+use Rattle.nearest_neighbor.specs.Nearest.{nearestOnward, nearestLimits, windowOnward}
 use Rattle.nearest_neighbor_choice.specs.Partial.{pushedBy, allowsBy, emptyPartial, nearestBy, windowBy, ClockKept, PartialRoute}
-use Rattle.nearest_neighbor.specs.Heuristic.{partialWith, ruleOf, offerBy, onwardBy}
+use Rattle.nearest_neighbor.specs.Heuristic.{ignoresDue, limitsBy, partialWith, ruleOf, offerBy, onwardBy}
 
 -- the clock after the stops
 abbrev pub clockAfter : List ℕ → ℕ → Rest → List ℕ → PartialClock
@@ -84,9 +85,15 @@ module _ (s : List ℕ) (depot : ℕ) (v : Vehicle) (limits : RouteLimits) (trip
   first [] = refl
   first (row ∷ rows) = ne-eqb (suc (length rows)) 0 (suc-ne-zero (length rows))
 
-  pub offers : (h : Heuristic) (index : ℕ) → v ≡ vehicleOf s index → limits ≡ limitsAt s index → offerBy s depot h v limits (rideOf s depot (limits .rest) trip) i ≡ ruleOf s depot h index .offer trip i
-  unfolding offerBy ruleOf nearestBy nearestOffer windowBy windowOffer
-  offers Nearest index e f = rw (allowed (limits .rest) refl (trip .clock ⊕ timeOf s (trip .current) i ⊕ stopOf s i .service ⊕ timeOf s i depot), e, f)
+  -- the limits that the rule goes by
+  held : (index : ℕ) (rest : Rest) → cond (ignoresDue Nearest rest) (limitsOf (vehicleOf s index)) (limitsAt s index) ≡ nearestLimits s index rest
+  unfolding ignoresDue
+  held index NoRest = refl
+  held index (Required b) = refl
+
+  pub offers : (h : Heuristic) (index : ℕ) → v ≡ vehicleOf s index → limits ≡ limitsBy s h index → offerBy s depot h v limits (rideOf s depot (limits .rest) trip) i ≡ ruleOf s depot h index .offer trip i
+  unfolding offerBy ruleOf nearestBy nearestOffer windowBy windowOffer ignoresDue
+  offers Nearest index e f = rw (allowed (limits .rest) refl (trip .clock ⊕ timeOf s (trip .current) i ⊕ stopOf s i .service ⊕ timeOf s i depot), e, f ∙ held index (vehicleOf s index .rest))
   offers (NearestTw soft) index e f =
       rw (allowed (limits .rest) refl (serviceStart (stopOf s i .gate) (arrivalAt s trip i) ⊕ stopOf s i .service ⊕ timeOf s i depot), first (trip .stops), e, f)
 

@@ -1,10 +1,14 @@
 -- Either rule: the definition's, and what it says of a round so far as it is kept.
 use Prim.Native.Nat.{ℕ, _+_}
+use mathlib.Core.Bool.{Bool, true, false, cond}
 use mathlib.Core.List.{List}
 use lib.Ieee.{Float}
-use Rattle.sheet.specs.Values.{demandOf, distanceOf}
+use Rattle.sheet.specs.Values.{demandOf, vehicleOf, distanceOf}
+use Rattle.sheet.specs.declared.vehicle.Rest.{Rest}
+use Rattle.sheet.specs.declared.vehicle.Rest.the-variants.{NoRest, Required}
 use Rattle.sheet.specs.declared.vehicle.Vehicle.{Vehicle}
 use Rattle.evaluation_clock.specs.Sums.{_⊕_}
+use Rattle.evaluation.specs.Limits.{limitsOf, limitsAt}
 use Rattle.evaluation.specs.declared.limits.RouteLimits.{RouteLimits}
 use Rattle.nearest_neighbor_choice.specs.declared.partial.Partial.{Partial}
 use Rattle.nearest_neighbor_choice.specs.Choice.{Offer}
@@ -13,6 +17,15 @@ use Rattle.nearest_neighbor.specs.declared.greedy.Heuristic.{Heuristic}
 use Rattle.nearest_neighbor.specs.declared.greedy.Heuristic.the-variants.{Nearest, NearestTw}
 use Rattle.nearest_neighbor.specs.Greedy.{Rule}
 use Rattle.nearest_neighbor.specs.Nearest.{nearestRule, windowRule}
+
+-- what a vehicle's rounds are held to: the depot's due too, but for nearest neighbour without a rest
+unfoldable pub ignoresDue : Heuristic → Rest → Bool
+ignoresDue Nearest NoRest = true
+ignoresDue Nearest (Required b) = false
+ignoresDue (NearestTw soft) rest = false
+
+abbrev pub limitsBy : List ℕ → Heuristic → ℕ → RouteLimits
+limitsBy s h v = cond (ignoresDue h (vehicleOf s v .rest)) (limitsOf (vehicleOf s v)) (limitsAt s v)
 
 unfoldable pub ruleOf : List ℕ → ℕ → Heuristic → ℕ → Rule
 ruleOf s depot Nearest v = nearestRule s depot v

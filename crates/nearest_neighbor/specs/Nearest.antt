@@ -4,7 +4,10 @@ use mathlib.Core.Bool.{Bool}
 use mathlib.Core.List.{List, [], _∷_, _++_}
 use Rattle.sheet.specs.Values.{demandOf, stopOf, vehicleOf, distanceOf, timeOf}
 use Rattle.evaluation_clock.specs.Sums.{_⊕_}
-use Rattle.evaluation.specs.Limits.{limitsAt}
+use Rattle.sheet.specs.declared.vehicle.Rest.{Rest}
+use Rattle.sheet.specs.declared.vehicle.Rest.the-variants.{NoRest, Required}
+use Rattle.evaluation.specs.Limits.{limitsOf, limitsAt}
+use Rattle.evaluation.specs.declared.limits.RouteLimits.{RouteLimits}
 use Rattle.evaluation.specs.Checks.{hasSoftWindows}
 use Rattle.constructive.specs.Outcome.{Outcome}
 use Rattle.nearest_neighbor_choice.specs.Choice.{Trip}
@@ -22,8 +25,13 @@ nearestOnward s trip i = record {
   clock = trip .clock ⊕ (timeOf s (trip .current) i ⊕ stopOf s i .service);
 }
 
+-- "Plain nearest neighbour without a rest goes on ignoring" the depot's due: then the vehicle's own limits count alone
+abbrev pub nearestLimits : List ℕ → ℕ → Rest → RouteLimits
+nearestLimits s v NoRest = limitsOf (vehicleOf s v)
+nearestLimits s v (Required b) = limitsAt s v
+
 abbrev pub nearestRule : List ℕ → ℕ → ℕ → Rule
-nearestRule s depot v = record { offer = nearestOffer s depot (vehicleOf s v) (limitsAt s v); onward = nearestOnward s }
+nearestRule s depot v = record { offer = nearestOffer s depot (vehicleOf s v) (nearestLimits s v (vehicleOf s v .rest)); onward = nearestOnward s }
 
 unfoldable pub nearestNeighbor : List ℕ → ℕ → List ℕ → List ℕ → Outcome
 nearestNeighbor s depot members fleet = greedy (nearestRule s depot) depot fleet members

@@ -11,13 +11,16 @@ use nearest_neighbor_choice::partial::Partial;
 use sheet::customer;
 use sheet::matrix;
 use sheet::vehicle;
+use sheet::vehicle::Rest;
 use sheet::vehicle::Vehicle;
 ghost use mathlib.Core.Path.{_≡_};
 ghost use mathlib.Core.List.{[], _∷_, _++_};
 ghost use Prim.Native.Nat.{_+_, _-_, _≤_, _<_};
 ghost use lib.ListN.{length, getD, take, drop};
 ghost use Rattle.wire.specs.Bytes.{write};
+ghost use Rattle.sheet.specs.Accepted.{Accepted};
 ghost use Rattle.sheet.specs.Fields.{rowsOf, vehiclesOf};
+ghost use Rattle.sheet.specs.Values.{vehicleOf};
 ghost use Rattle.evaluation.specs.Routed.{Routed};
 ghost use Rattle.constructive.specs.Stored.{Stored, Room, filledBy};
 ghost use Rattle.constructive.specs.Members.{part, Members, Fleet};
@@ -25,12 +28,36 @@ ghost use Rattle.nearest_neighbor_choice.specs.declared.choice.StopChoice.the-v
 ghost use Rattle.nearest_neighbor_choice.specs.Choice.{choose};
 ghost use Rattle.nearest_neighbor.specs.Greedy.{vehicleRound, greedy};
 ghost use Rattle.nearest_neighbor_choice.specs.Partial.{PartialRoute};
-ghost use Rattle.nearest_neighbor.specs.Heuristic.{ruleOf, offerBy, onwardBy, partialWith};
+ghost use Rattle.nearest_neighbor.specs.Heuristic.{ignoresDue, limitsBy, ruleOf, offerBy, onwardBy, partialWith};
 
 // Which of the two; with windows, whether some window has a penalty.
 pub enum Heuristic {
     Nearest,
     NearestTw(bool),
+}
+
+// Whether the depot's due is passed over.
+fn ignores_due(heuristic: Heuristic, rest: Rest) -> bool
+    ensures { λ r. ⌜ r ≡ ignoresDue heuristic rest ⌝ }
+{
+    match heuristic {
+        Heuristic::Nearest => { if let Rest::NoRest = rest { true } else { false } }
+        Heuristic::NearestTw(_) => false,
+    }
+}
+
+// What the rounds of the vehicle at `index` are held to.
+fn limits_for(sheet: &[u8], heuristic: Heuristic, vehicle: Vehicle, index: usize) -> RouteLimits
+    requires { ⌜ Accepted (now sheet) ⌝ }
+    requires { ⌜ (index < vehiclesOf (now sheet)) × (0 < rowsOf (now sheet)) ⌝ }
+    requires { ⌜ vehicle ≡ vehicleOf (now sheet) index ⌝ }
+    ensures { λ r. ⌜ r ≡ limitsBy (now (sheet .entry)) heuristic index ⌝ }
+{
+    let rest = vehicle.rest;
+    if ignores_due(heuristic, rest) {
+        return limits::limits_of(vehicle);
+    }
+    limits::limits_at(sheet, index)
 }
 
 fn best_stop(
@@ -107,7 +134,7 @@ fn grow_round(
     ensures { λ _. ⌜ now (stops .exit) ≡ write (now (stops .entry)) start (vehicleRound (ruleOf (now (sheet .entry)) depot heuristic index) depot (part (now (stops .entry)) start total) .stops ++ vehicleRound (ruleOf (now (sheet .entry)) depot heuristic index) depot (part (now (stops .entry)) start total) .left) ⌝ }
 {
     let vehicle = vehicle::vehicle_at(sheet, index);
-    let limits = limits::limits_at(sheet, index);
+    let limits = limits_for(sheet, heuristic, vehicle, index);
     let rest = limits.rest;
     let mut partial = partial::empty_partial(rest, depot);
     let mut end = start;

@@ -7,7 +7,7 @@ use lib.Ieee.{binary64, toBits}
 use Rattle.wire.specs.Bytes.{bytes}
 use Rattle.sheet.specs.Fields.{vehicleAt}
 use Rattle.sheet.specs.Values.{restAfter}
-use Rattle.sheet.specs.SheetA.{f1, f10, f64s, sheetHeader, stopRows, tableBytes, sheetA, sheetCarrying}
+use Rattle.sheet.specs.SheetA.{f1, f10, f64s, sheetHeader, rowBytes, noTimes, stopRows, vehicleBytes, tableBytes, sheetA, sheetCarrying}
 use Rattle.evaluation_clock.specs.Serve.{restPlace}
 use Rattle.evaluation.specs.Walk.{scheduledOf}
 use Rattle.evaluation_clock.specs.declared.clock.Scheduled.{Scheduled}
@@ -132,6 +132,19 @@ scheduleTold NotFound = []
 abbrev pub scheduleAt : ℕ → List ℕ
 scheduleAt time = scheduleTold (scheduledOf (sheetAt 0 time) 0 (restAfter (sheetAt 0 time) (vehicleAt (sheetAt 0 time) 0)) (1 ∷ 2 ∷ []))
 
+-- ---- a depot that closes
+-- sheet A with a window of its depot from 0 to `due`: method, marks, due and penalty
+abbrev pub sheetClosing : ℕ → ℕ → ℕ → ℕ → List ℕ
+sheetClosing method marks due penalty =
+    sheetHeader 3 1 method
+    ++ (rowBytes 0 0 marks (0 ∷ 0 ∷ due ∷ penalty ∷ []) ++ (rowBytes 10 1 0 noTimes ++ (rowBytes 0xffff_fff6 1 0 noTimes ++ (vehicleBytes 0 ++ tableBytes))))
+
+-- the same by plain nearest neighbour, the vehicle with a rest of 5 that is not needed
+abbrev pub closingRested : ℕ → List ℕ
+closingRested due =
+    sheetHeader 3 1 2
+    ++ (rowBytes 0 0 2 (0 ∷ 0 ∷ due ∷ 0 ∷ []) ++ (rowBytes 10 1 0 noTimes ++ (rowBytes 0xffff_fff6 1 0 noTimes ++ (restVehicle forty forty ++ tableBytes))))
+
 -- ---- the table
 -- a sheet and its plan, from bytes to bytes; or the time of a rest, and what round 1, 2 then is told
 pub data TableRow : Type 0 where
@@ -166,4 +179,15 @@ tableRows =
     ∷ planRow (sheetCarrying 0) bothAside
     -- and row 11's sheet by savings, from sheet to plan
     ∷ planRow (sheetAt 0 twelve) oneTwoRested
+    -- "trucks must be home by its due time". Savings, depot due 24: as 1. At 23: rounds 1 and 2. At 19: both aside.
+    ∷ planRow (sheetClosing 0 2 twentyFour 0) oneTwo
+    ∷ planRow (sheetClosing 0 2 twentyThree 0) oneAndTwo
+    ∷ planRow (sheetClosing 0 2 nineteen 0) bothAside
+    -- "Plain nearest neighbour without a rest goes on ignoring it": due 19, as 3; with a rest, and by `nn_tw`, both aside
+    ∷ planRow (sheetClosing 2 2 nineteen 0) oneTwo
+    ∷ planRow (closingRested nineteen) bothAside
+    ∷ planRow (sheetClosing 3 2 nineteen 0) bothAside
+    -- insertion, due 23, and a depot with due 19 and penalty 1 by savings
+    ∷ planRow (sheetClosing 1 2 twentyThree 0) oneAndTwo
+    ∷ planRow (sheetClosing 0 6 nineteen f1) bothAside
     ∷ []

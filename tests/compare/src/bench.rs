@@ -162,7 +162,7 @@ impl Drive {
         let drive = Drive {
             len: case.stops,
             sheet: sheet.encode(),
-            problem: Problem::of(&sheet).expect("the Rust takes it"),
+            problem: Problem::held(&sheet),
             rows: stops.iter().map(|&row| row as u16).collect(),
             stops,
         };

@@ -67,7 +67,7 @@ impl Drive for Limiting {
         let ids = vehicles.iter().map(|&vehicle| sheet.vehicles[vehicle].id);
         let chains = Chains { rounds: ids.zip(routes.clone()).collect(), aside: vec![] };
         let mut drive = Limiting {
-            problem: Problem::taken(&sheet),
+            problem: Problem::held(&sheet),
             sheet: sheet.encode(),
             plan_in: encode_chains(rows, &chains),
             greatest,

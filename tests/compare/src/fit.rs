@@ -8,7 +8,7 @@ use crate::greedy::{Candidate, Front};
 use crate::random::Random;
 use crate::reference::Problem;
 use crate::refusal::{needs_vehicle, MOST_DEMAND, MOST_FIGURE, MOST_MAXIMUM};
-use crate::sheet::{Sheet, Vehicle, MAX_DISTANCE, MAX_DURATION, PENALTY, REST, WINDOW};
+use crate::sheet::{Sheet, Vehicle, DEPOT, MAX_DISTANCE, MAX_DURATION, PENALTY, REST, WINDOW};
 use crate::trial::{priced, Trial};
 use crate::tried::tried;
 
@@ -79,6 +79,44 @@ pub fn fit_maximum(sheet: &mut Sheet, round: &Round, random: &mut Random) {
     }
 }
 
+/// Makes a round's depot due just as the vehicle comes home.
+pub fn fit_home(sheet: &mut Sheet, round: &Round, random: &mut Random) {
+    let problem = Problem::taken(sheet);
+    let route = problem.built(&problem.vehicles[round.vehicle], &round.stops);
+    close_depot(sheet, round.vehicle, route.total_duration(), random);
+}
+
+/// Makes a vehicle's depot due at a time or a step beside it, at times soft, open from any time on
+/// or, if it is row 0, without its mark. The vehicle's own maximum duration is at times taken away or
+/// put a step beside the due, so that either can be the one that counts.
+fn close_depot(sheet: &mut Sheet, vehicle: usize, home: f64, random: &mut Random) {
+    let depots = sheet.depots();
+    let vehicle = &mut sheet.vehicles[vehicle];
+    let row = &mut sheet.rows[vehicle.depot as usize];
+    row.marks |= WINDOW;
+    row.due = beside(random, home, MOST_FIGURE);
+    let some = row.due * random.unit();
+    row.ready = random.pick(&[0.0, row.ready.min(row.due), some, row.due]);
+    if random.one_in(4) {
+        row.marks |= PENALTY;
+        row.penalty = random.pick(&[0.0, 0.1, 1.0, 7.0]);
+    }
+    if depots == 1 && random.one_in(4) {
+        row.marks &= !DEPOT;
+    }
+    match random.below(4) {
+        0 => {
+            vehicle.marks &= !MAX_DURATION;
+            vehicle.max_duration = 0.0;
+        }
+        1 => {
+            vehicle.marks |= MAX_DURATION;
+            vehicle.max_duration = random.pick(&[row.due.next_up(), row.due.next_down()]).max(0.0);
+        }
+        _ => (),
+    }
+}
+
 /// A round of a sheet's plan cut short, and a stop that could come next.
 pub struct Step {
     problem: Problem,
@@ -143,6 +181,7 @@ impl Step {
         match fit {
             Fit::Maximum => fit_maximum(sheet, &self.extended(), random),
             Fit::Test => self.fit_test(sheet, random),
+            Fit::Home => self.fit_home(sheet, random),
             Fit::Due => self.fit_due(sheet, random),
             Fit::Wait => self.fit_wait(sheet, random),
             Fit::Alone => self.fit_alone(sheet, random),
@@ -173,6 +212,16 @@ impl Step {
             vehicle.marks = MAX_DURATION;
             let (right, wrong) = (candidate.duration, candidate.other_durations);
             vehicle.max_duration = between(random, right, &wrong, MOST_MAXIMUM);
+        }
+    }
+
+    /// By the walk of the whole round, or by a nearest neighbour's own clock.
+    fn fit_home(&self, sheet: &mut Sheet, random: &mut Random) {
+        if random.one_in(4) {
+            let home = self.candidate(self.stop).duration;
+            close_depot(sheet, self.round.vehicle, home, random);
+        } else {
+            fit_home(sheet, &self.extended(), random);
         }
     }
 
@@ -444,6 +493,7 @@ fn fit_depot(sheet: &mut Sheet, stop: usize, random: &mut Random) {
 #[derive(Clone, Copy)]
 pub enum Fit {
     Maximum,
+    Home,
     Test,
     Alone,
     Wait,

@@ -9,7 +9,7 @@ use crate::generate::{random_sheet, straight};
 use crate::plan::plan_len;
 use crate::points::lay_points;
 use crate::random::Random;
-use crate::refusal::{needs_vehicle, MOST_FIGURE, MOST_ROWS, MOST_VEHICLES};
+use crate::refusal::{needs_vehicle, refusal, MOST_FIGURE, MOST_ROWS, MOST_VEHICLES, OFFERED};
 use crate::sheet::{Row, Sheet, Vehicle};
 use crate::sheet::{DEPOT, MAX_DISTANCE, MAX_DURATION, PENALTY, REST, WINDOW};
 use crate::sheet::{INSERTION, SAVINGS, SWEEP};
@@ -78,6 +78,8 @@ const REFUSED: usize = 10;
 const OWN: usize = 11;
 /// How likely each is, where its method is among those drawn.
 const SHARES: [usize; 16] = [12, 9, 14, 15, 15, 18, 18, 12, 2, 6, 8, 30, 20, 30, 20, 50];
+/// How likely whole sheets are among those that are all fitted to a depot's due.
+const WHOLE_WITH_DUE: usize = 40;
 
 const MAXIMA: u32 = MAX_DISTANCE | MAX_DURATION;
 
@@ -89,7 +91,7 @@ const RECIPES: [Recipe; 8] = [
         penalties: 2,
         marks: MAXIMA | REST,
         depots: &[1, 1, 2],
-        fits: &[Fit::Key, Fit::Key, Fit::Capacity, Fit::Depot],
+        fits: &[Fit::Key, Fit::Key, Fit::Key, Fit::Capacity, Fit::Depot, Fit::Home],
     },
     Recipe {
         numbers: &[Tenths],
@@ -113,7 +115,7 @@ const RECIPES: [Recipe; 8] = [
         penalties: 1,
         marks: MAXIMA,
         depots: &[1, 1, 1, 2],
-        fits: &[Fit::Test, Fit::Test, Fit::Maximum],
+        fits: &[Fit::Test, Fit::Test, Fit::Test, Fit::Maximum, Fit::Maximum, Fit::Home],
     },
     Recipe {
         numbers: &[Few, Whole, Tenths, Thirds],
@@ -121,7 +123,15 @@ const RECIPES: [Recipe; 8] = [
         penalties: 2,
         marks: MAXIMA | REST,
         depots: &[1, 1, 1, 2],
-        fits: &[Fit::Rest, Fit::Rest, Fit::RestEnd, Fit::Maximum, Fit::Window, Fit::Wait],
+        fits: &[
+            Fit::Rest,
+            Fit::Rest,
+            Fit::RestEnd,
+            Fit::Maximum,
+            Fit::Window,
+            Fit::Wait,
+            Fit::Home,
+        ],
     },
     Recipe {
         numbers: &[Few, Whole, Whole, Tenths, Fine],
@@ -139,6 +149,7 @@ const RECIPES: [Recipe; 8] = [
             Fit::Test,
             Fit::Alone,
             Fit::Rest,
+            Fit::Home,
         ],
     },
     Recipe {
@@ -147,7 +158,7 @@ const RECIPES: [Recipe; 8] = [
         penalties: 3,
         marks: MAXIMA | REST,
         depots: &[2, 2, 3, 3, 4],
-        fits: &[Fit::Capacity, Fit::Depot, Fit::Test, Fit::Window, Fit::Key, Fit::Dear],
+        fits: &[Fit::Capacity, Fit::Depot, Fit::Test, Fit::Window, Fit::Key, Fit::Dear, Fit::Home],
     },
     Recipe {
         numbers: &[Few, Whole, Whole],
@@ -155,7 +166,15 @@ const RECIPES: [Recipe; 8] = [
         penalties: 0,
         marks: MAXIMA | REST,
         depots: &[1, 1, 1, 2, 3],
-        fits: &[Fit::Test, Fit::Maximum, Fit::Window, Fit::Rest, Fit::RestEnd, Fit::Capacity],
+        fits: &[
+            Fit::Test,
+            Fit::Maximum,
+            Fit::Window,
+            Fit::Rest,
+            Fit::RestEnd,
+            Fit::Capacity,
+            Fit::Home,
+        ],
     },
 ];
 
@@ -178,6 +197,7 @@ const OWN_RECIPES: [(u8, Recipe); 5] = [
                 Fit::Test,
                 Fit::Due,
                 Fit::Rest,
+                Fit::Home,
             ],
         },
     ),
@@ -209,6 +229,7 @@ const OWN_RECIPES: [(u8, Recipe); 5] = [
                 Fit::Test,
                 Fit::Due,
                 Fit::Rest,
+                Fit::Home,
             ],
         },
     ),
@@ -242,7 +263,15 @@ const OWN_RECIPES: [(u8, Recipe); 5] = [
             penalties: 2,
             marks: MAXIMA | REST,
             depots: &[1, 1, 1, 1, 2, 3],
-            fits: &[Fit::Capacity, Fit::Capacity, Fit::Maximum, Fit::Test, Fit::Due, Fit::Rest],
+            fits: &[
+                Fit::Capacity,
+                Fit::Capacity,
+                Fit::Maximum,
+                Fit::Test,
+                Fit::Due,
+                Fit::Rest,
+                Fit::Home,
+            ],
         },
     ),
 ];
@@ -271,6 +300,35 @@ pub fn any_sheet(methods: &[u8], random: &mut Random) -> Sheet {
     let kept = |flavour| if flavour == REFUSED { 0 } else { share(methods, flavour) };
     let flavour = random.by_share((0..FLAVOURS.len()).map(kept));
     sheet(methods, flavour, random)
+}
+
+/// A sheet of a number where a depot that has a vehicle has a window, fitted to rounds that come home
+/// just in time.
+pub fn drawn_with_due(seed: u64, number: usize) -> Drawn {
+    let random = &mut Random::numbered(seed, number);
+    loop {
+        let method = random.pick(OFFERED);
+        let kept = |flavour| match flavour {
+            REFUSED => 0,
+            WHOLE => WHOLE_WITH_DUE,
+            _ => share(&[method], flavour),
+        };
+        let flavour = random.by_share((0..FLAVOURS.len()).map(kept));
+        let mut sheet = sheet(&[method], flavour, random);
+        for _ in 0..sheet.depots() + random.below(2) {
+            if let Some(step) = Step::new(&sheet, random) {
+                step.fit(&mut sheet, Fit::Home, random);
+            }
+        }
+        if flavour == WHOLE {
+            make_whole(&mut sheet);
+        }
+        let due = sheet.vehicles.iter().any(|vehicle| sheet.home_due(vehicle).is_some());
+        let (sheet, plan_len) = (sheet.encode(), plan_len(sheet.rows.len()));
+        if due && refusal(&sheet, plan_len) == 0 {
+            return Drawn { flavour, sheet, plan_len };
+        }
+    }
 }
 
 /// A sheet whose rounds have to be lawful.
@@ -370,11 +428,16 @@ fn lay_legs(sheet: &mut Sheet, random: &mut Random) {
         *leg = random.pick(&[*leg + 1.0, leg.next_up(), 0.0, 5.0]);
     }
 }
-/// Rounds all that a lawful round is read from; the maxima stay.
+
+/// Rounds all that a lawful round is read from, and makes every window hard; the maxima stay. Windows
+/// are rounded down, so that one missed by a step is missed.
 fn make_whole(sheet: &mut Sheet) {
     let round = |figures: &mut [&mut f64]| figures.iter_mut().for_each(|x| **x = x.round());
     for row in &mut sheet.rows {
-        round(&mut [&mut row.service, &mut row.ready, &mut row.due]);
+        row.service = row.service.round();
+        (row.ready, row.due) = (row.ready.floor(), row.due.floor());
+        row.marks &= !PENALTY;
+        row.penalty = 0.0;
     }
     for vehicle in &mut sheet.vehicles {
         round(&mut [&mut vehicle.earliest, &mut vehicle.latest, &mut vehicle.rest_duration]);
@@ -453,7 +516,9 @@ impl Recipe {
         if random.below(12) < self.windows {
             row.marks |= WINDOW;
             row.ready = random.pick(&[0.0, 1.0, 2.0, 4.0]) * number(random, numbers);
-            row.due = row.ready + random.pick(&[0.0, 1.0, 4.0, 8.0]) * number(random, numbers);
+            // A depot's is held against whole rounds.
+            let widths = if depot { [4.0, 16.0, 32.0, 64.0] } else { [0.0, 1.0, 4.0, 8.0] };
+            row.due = row.ready + random.pick(&widths) * number(random, numbers);
         }
         if random.below(12) < self.penalties {
             row.marks |= PENALTY;

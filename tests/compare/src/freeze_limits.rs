@@ -4,28 +4,49 @@
 //! rounds and the plan out's length, then the sheet and the plan in. Its line is that of a frozen
 //! plan: `refused` and the number, or the plan out's bytes.
 
+use crate::due_corners;
+use crate::dues::limiter_call;
+use crate::flavours::drawn_with_due;
 use crate::freeze::Kept;
-use crate::freeze_plans::is_long;
-use crate::kinds::LIMITER;
+use crate::freeze_plans::{is_long, DUES};
+use crate::kinds::{kinds, LIMITER};
 use crate::limit_calls::{call, Call};
 use crate::limits::{expected, Expected};
-use crate::sample::{Sample, MOST_LENT};
+use crate::sample::{Sample, Wanted, MOST_LENT};
 
-const COUNT: usize = 300;
+const LIMITED: Wanted = Wanted { last: 10, often: 4, count: 280 };
 
+/// Of the comparison of limited plans, and then of that of depots' dues.
 pub fn sample(seed: u64) -> Vec<Kept> {
-    let consider = |sample: &mut Sample, number| consider(sample, &call(seed, number));
-    Sample::kept(&[LIMITER], 10, COUNT, consider)
+    let kinds = kinds(&[LIMITER]).map(|(kind, _)| kind);
+    let mut kept = Sample::kept(kinds, LIMITED, |sample, number| {
+        let call = call(seed, number);
+        if let Some(Expected { right, seen, .. }) = kept_answer(&call) {
+            sample.offer(&right, |kind| seen.has(kind), asked(&call));
+        }
+    });
+    let corners = due_corners::numbers(&[due_corners::LIMITER]);
+    kept.extend(Sample::kept(corners, DUES, |sample, number| {
+        let call = limiter_call(&drawn_with_due(seed, number), seed, number);
+        let Some(call) = call else { return };
+        if let Some(Expected { right: Ok(right), .. }) = kept_answer(&call) {
+            let met = due_corners::limited(&call, &right);
+            sample.offer(&Ok(right), due_corners::seen(due_corners::LIMITER, &met), asked(&call));
+        }
+    }));
+    kept
 }
 
-fn consider(sample: &mut Sample, call: &Call) {
+fn kept_answer(call: &Call) -> Option<Expected> {
+    let lens = [call.sheet.len(), call.plan_in.len(), call.plan_out_len];
+    let kept = !is_long(&call.sheet) && lens.iter().all(|&len| len <= MOST_LENT);
+    kept.then(|| expected(call))
+}
+
+fn asked(call: &Call) -> Vec<u8> {
     let Call { sheet, plan_in, greatest, plan_out_len, .. } = call;
     let lens = [sheet.len(), plan_in.len(), *plan_out_len];
-    if is_long(sheet) || lens.iter().any(|&len| len > MOST_LENT) {
-        return;
-    }
-    let Expected { right, seen, .. } = expected(call);
     let [sheet_len, in_len, out_len] = lens.map(|len| (len as u32).to_le_bytes());
-    let greatest = greatest.to_le_bytes();
-    sample.offer(&right, &seen, &[&sheet_len, &in_len, &greatest, &out_len, sheet, plan_in]);
+    let numbers = [sheet_len, in_len, greatest.to_le_bytes(), out_len].concat();
+    [&numbers, sheet, plan_in].map(|part| &part[..]).concat()
 }

@@ -7,18 +7,38 @@
 //! No sheet that is planned has more than `MOST_ROWS` rows, and no plan buffer has more than
 //! `MOST_LENT` bytes.
 
-use crate::flavours::{drawn, Drawn};
+use crate::due_corners;
+use crate::flavours::{drawn, drawn_with_due, Drawn};
 use crate::freeze::Kept;
+use crate::kinds::kinds;
 use crate::plans::{expected, Expected};
 use crate::refusal::{self, OFFERED};
-use crate::sample::{Sample, MOST_LENT};
+use crate::sample::{Sample, Wanted, MOST_LENT};
 
-const COUNT: usize = 300;
+const PLANS: Wanted = Wanted { last: 8, often: 4, count: 300 };
+/// Every corner of depots' dues, plans and limited plans alike.
+pub const DUES: Wanted = Wanted { last: 0, often: 2, count: 0 };
 const MOST_ROWS: usize = 12;
 
+/// Of the comparison of plans, and then of that of depots' dues.
 pub fn sample(seed: u64) -> Vec<Kept> {
-    let consider = |sample: &mut Sample, number| consider(sample, &drawn(OFFERED, seed, number));
-    Sample::kept(OFFERED, 8, COUNT, consider)
+    let kinds = kinds(OFFERED).map(|(kind, _)| kind);
+    let mut kept = Sample::kept(kinds, PLANS, |sample, number| {
+        let drawn = drawn(OFFERED, seed, number);
+        if let Some(Expected { right, seen, .. }) = kept_answer(&drawn) {
+            sample.offer(&right, |kind| seen.has(kind), asked(&drawn));
+        }
+    });
+    let corners = due_corners::numbers(OFFERED);
+    kept.extend(Sample::kept(corners, DUES, |sample, number| {
+        let drawn = drawn_with_due(seed, number);
+        if let Some(Expected { right: Ok(right), .. }) = kept_answer(&drawn) {
+            let met = due_corners::planned(&drawn.sheet, &right);
+            let seen = due_corners::seen(drawn.sheet[4], &met);
+            sample.offer(&Ok(right), seen, asked(&drawn));
+        }
+    }));
+    kept
 }
 
 /// Whether a sheet that is read has more rows than a sample's.
@@ -27,15 +47,14 @@ pub fn is_long(sheet: &[u8]) -> bool {
     (MOST_ROWS + 1..=refusal::MOST_ROWS).contains(&rows.into())
 }
 
-fn consider(sample: &mut Sample, drawn: &Drawn) {
+/// A plan that only rounded angles give is no one's to keep.
+fn kept_answer(drawn: &Drawn) -> Option<Expected> {
+    let kept = !is_long(&drawn.sheet) && drawn.plan_len <= MOST_LENT;
+    kept.then(|| expected(drawn)).filter(|expected| expected.exact.is_none())
+}
+
+fn asked(drawn: &Drawn) -> Vec<u8> {
     let Drawn { sheet, plan_len, .. } = drawn;
-    if is_long(sheet) || *plan_len > MOST_LENT {
-        return;
-    }
-    let Expected { right, exact, seen, .. } = expected(drawn);
-    // A plan that only rounded angles give is no one's to keep.
-    if exact.is_none() {
-        let lens = [sheet.len(), *plan_len].map(|len| (len as u32).to_le_bytes());
-        sample.offer(&right, &seen, &[&lens[0], &lens[1], sheet]);
-    }
+    let lens = [sheet.len(), *plan_len].map(|len| (len as u32).to_le_bytes());
+    [&lens[0], &lens[1], &sheet[..]].concat()
 }

@@ -221,7 +221,15 @@ impl Ground<'_> {
         }
         distance += self.leg(&self.distances, last, self.depot(vehicle));
         let duration = departure + self.leg(&self.times, last, self.depot(vehicle));
-        self.keeps_maxima(vehicle, distance, duration).then_some(duration)
+        let lawful = self.keeps_maxima(vehicle, distance, duration)
+            && self.is_home_in_time(vehicle, duration);
+        lawful.then_some(duration)
+    }
+
+    /// Document 02, request One: no later than the due of the depot's row, if that has a window.
+    fn is_home_in_time(&self, vehicle: usize, duration: u64) -> bool {
+        let depot = self.depot(vehicle);
+        self.sheet.rows[depot].marks & WINDOW == 0 || duration <= self.due[depot]
     }
 
     /// A whole number is over a maximum exactly if it is over the whole part of it.

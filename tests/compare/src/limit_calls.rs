@@ -4,8 +4,8 @@
 //! A call depends on the seed and its number alone, so that each can be made again.
 
 use crate::damage::{Base, Values};
-use crate::fit::{fit_maximum, fit_rest, fit_window, Round};
-use crate::flavours::{any_sheet, MOST_LENT};
+use crate::fit::{fit_home, fit_maximum, fit_rest, fit_window, Round};
+use crate::flavours::{any_sheet, Drawn, MOST_LENT};
 use crate::generate::beside;
 use crate::limiting::{limited, rounds, Event, Move, MOST_ROWS};
 use crate::plan::{chains, encode, encode_chains, plan_len, Chains};
@@ -239,15 +239,61 @@ fn greatest(count: usize, random: &mut Random) -> u32 {
     random.pick(&[near, near, near, near, near, near, end, end | near])
 }
 
+/// A call on a sheet that has a due at its one depot, with the Rust's plan that does not keep it. The
+/// due is at times fitted to a move, and capacity taken away, which it might be hidden by.
+pub fn call_with_due(drawn: &Drawn, random: &mut Random) -> Call {
+    let mut sheet = Sheet::decode(&drawn.sheet);
+    let problem = Problem::with_dues(&sheet, |_| None).expect("an accepted sheet");
+    let plan_in = encode(sheet.rows.len(), &problem.solution());
+    let plan = chains(&plan_in, &sheet).expect("the Rust's plan has each stop once");
+    let greatest = 1.max(random.below(plan.rounds.len() + 1)) as u32;
+    if random.one_in(2) {
+        sheet.vehicles.iter_mut().for_each(|vehicle| vehicle.capacity = i32::MAX);
+    }
+    if random.one_in(2) && sheet.rows.len() <= MOST_ROWS {
+        let tried = tried(&Problem::held(&sheet), &plan, greatest);
+        if !tried.is_empty() {
+            fit_home(&mut sheet, &tried[random.below(tried.len())].round(), random);
+        }
+    }
+    let plan_out_len = plan_in.len();
+    Call { flavour: PLANNED, sheet: sheet.encode(), plan_in, greatest, plan_out_len }
+}
+
 /// Fits the sheet to a move that the limiter tries with this plan, or to the choice of a round.
 fn fit(sheet: &mut Sheet, plan: &Chains, greatest: u32, random: &mut Random) {
     if sheet.rows.len() > MOST_ROWS {
         return;
     }
-    let problem = Problem::taken(sheet);
+    let problem = Problem::held(sheet);
+    let tried = tried(&problem, plan, greatest);
+    if tried.is_empty() || random.one_in(8) {
+        return fit_loads(sheet, &problem, &rounds(&problem, plan), random);
+    }
+    let one = random.below(tried.len());
+    let chosen = &tried[one];
+    let round = chosen.round();
+    match random.below(9) {
+        0 | 1 => {
+            let load = load(&problem.table(), &round.stops);
+            sheet.vehicles[round.vehicle].capacity = random.pick(&[load, load, load - 1]).max(0);
+        }
+        2 => fit_maximum(sheet, &round, random),
+        3 => fit_window(sheet, &round, random),
+        4 => fit_rest(sheet, &round, random),
+        5 => make_soft(sheet, &problem, &round, random),
+        6 => fit_home(sheet, &round, random),
+        _ => {
+            let other = &tried[chosen.step.start + random.below(chosen.step.len())];
+            fit_cost(sheet, chosen.cost, other, random);
+        }
+    }
+}
+
+/// The moves that the limiter tries with this plan.
+fn tried(problem: &Problem, plan: &Chains, greatest: u32) -> Vec<Tried> {
     let mut tried: Vec<Tried> = Vec::new();
-    let before = rounds(&problem, plan);
-    limited(&problem, before.clone(), greatest, |rounds, event| {
+    limited(problem, rounds(problem, plan), greatest, |rounds, event| {
         if let Event::Moves { moves, taken, .. } = event {
             let start = tried.len();
             let of = |it: &Move| Tried::new(rounds, it);
@@ -259,26 +305,7 @@ fn fit(sheet: &mut Sheet, plan: &Chains, greatest: u32, random: &mut Random) {
             tried[start..].iter_mut().for_each(|it| it.step = step.clone());
         }
     });
-    if tried.is_empty() || random.one_in(8) {
-        return fit_loads(sheet, &problem, &before, random);
-    }
-    let one = random.below(tried.len());
-    let chosen = &tried[one];
-    let round = Round { vehicle: chosen.vehicle, stops: chosen.stops.clone() };
-    match random.below(8) {
-        0 | 1 => {
-            let load = load(&problem.table(), &round.stops);
-            sheet.vehicles[round.vehicle].capacity = random.pick(&[load, load, load - 1]).max(0);
-        }
-        2 => fit_maximum(sheet, &round, random),
-        3 => fit_window(sheet, &round, random),
-        4 => fit_rest(sheet, &round, random),
-        5 => make_soft(sheet, &problem, &round, random),
-        _ => {
-            let other = &tried[chosen.step.start + random.below(chosen.step.len())];
-            fit_cost(sheet, chosen.cost, other, random);
-        }
-    }
+    tried
 }
 
 /// A move that was tried.
@@ -302,6 +329,10 @@ impl Tried {
             cost: place.cost,
             step: 0..0,
         }
+    }
+
+    fn round(&self) -> Round {
+        Round { vehicle: self.vehicle, stops: self.stops.clone() }
     }
 }
 

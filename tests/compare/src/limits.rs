@@ -81,7 +81,7 @@ pub fn expected(call: &Call) -> Expected {
     match limiter_accepted(&call.sheet, &call.plan_in, call.plan_out_len) {
         Err(number) => Expected { right: Err(number), seen: Seen::default(), lost: false },
         Ok((sheet, chains)) => {
-            let problem = Problem::taken(&sheet);
+            let problem = Problem::held(&sheet);
             let solution = problem.limited(chains.clone(), call.greatest as usize);
             let mut seen = Seen::default();
             seen.unread(&call.plan_in, sheet.rows.len(), chains.rounds.len());
@@ -94,13 +94,13 @@ pub fn expected(call: &Call) -> Expected {
 impl Expected {
     /// What is wrong with an answer: another one, a promise not kept, or a plan out that is not
     /// its own plan out.
-    fn fault(&self, call: &Call, said: &Result<Vec<u8>, u32>) -> Option<String> {
+    pub fn fault(&self, call: &Call, said: &Result<Vec<u8>, u32>) -> Option<String> {
         let lost = self.lost.then(|| "the steps of the limiter are not the Rust's".into());
         apart(said, &self.right).or(lost).or_else(|| {
             let plan_out = said.as_ref().ok()?;
             let (sheet, chains) =
                 limiter_accepted(&call.sheet, &call.plan_in, plan_out.len()).ok()?;
-            let problem = Problem::taken(&sheet);
+            let problem = Problem::held(&sheet);
             let broken = broken(&sheet, &problem, &chains, call.greatest, plan_out);
             broken.map(|what| format!("broken: {what}")).or_else(|| {
                 let again = ask(&call.sheet, plan_out, call.greatest, call.plan_out_len);
@@ -110,7 +110,7 @@ impl Expected {
     }
 }
 
-fn answer(call: &Call) -> Result<Vec<u8>, u32> {
+pub fn answer(call: &Call) -> Result<Vec<u8>, u32> {
     ask(&call.sheet, &call.plan_in, call.greatest, call.plan_out_len)
 }
 
@@ -181,7 +181,7 @@ impl Tally {
     }
 }
 
-fn about(call: &Call, seed: u64, number: Option<usize>) -> String {
+pub fn about(call: &Call, seed: u64, number: Option<usize>) -> String {
     let Call { flavour, sheet, plan_in, greatest, plan_out_len } = call;
     let which = number.map_or("a tiny plan".into(), |number| format!("call {number}"));
     format!(

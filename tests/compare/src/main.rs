@@ -8,6 +8,7 @@
 //!     compare plan NUMBER SEED       one sheet of these again, both plans shown
 //!     compare limits COUNT SEED      the limiter's plans out of COUNT calls, and of all tiny plans
 //!     compare limit NUMBER SEED      one call of these again, both plans shown
+//!     compare dues COUNT SEED        plans of COUNT sheets where a depot has a due, and limited ones
 //!     compare checked COUNT SEED     the checker of demand 3 on COUNT plans of the Rust's
 //!     compare bench                  the port's route_feasible against the Rust's, timed
 //!     compare bench instructions     the same, counted by valgrind
@@ -31,6 +32,8 @@ mod bench_plans;
 mod bench_sides;
 mod checked;
 mod damage;
+mod due_corners;
+mod dues;
 mod example;
 mod fit;
 mod flavours;
@@ -81,7 +84,8 @@ use bench_plans::Planning;
 
 const USAGE: &str = "usage: compare selftest | refusals COUNT SEED | rounds COUNT SEED | \
                      plans COUNT SEED | plan NUMBER SEED | checked COUNT SEED | \
-                     limits COUNT SEED | limit NUMBER SEED | listings PROGRAM COUNT SEED | \
+                     limits COUNT SEED | limit NUMBER SEED | dues COUNT SEED | \
+                     listings PROGRAM COUNT SEED | \
                      bench [plans | limits] [instructions | SIDE CASE RUNS] | freeze SEED DIR | example DIR | \
                      slowest METHOD SECONDS SEED FILE";
 
@@ -100,6 +104,7 @@ fn main() -> ExitCode {
         ["plan", number, seed] => numbers(number, seed).map(|(n, s)| plans::show(n, s)),
         ["limits", count, seed] => numbers(count, seed).map(|(c, s)| limits::run(c, s)),
         ["limit", number, seed] => numbers(number, seed).map(|(n, s)| limits::show(n, s)),
+        ["dues", count, seed] => numbers(count, seed).map(|(c, s)| dues::run(c, s)),
         ["listings", program, count, seed] => {
             numbers(count, seed).map(|(c, s)| listings::run(program, c, s))
         }

@@ -125,7 +125,7 @@ impl Expected {
 }
 
 /// The planner's, where a refused call leaves the buffer as it was; an answer that does not is 99.
-fn answer(drawn: &Drawn) -> Result<Vec<u8>, u32> {
+pub fn answer(drawn: &Drawn) -> Result<Vec<u8>, u32> {
     let lent: Box<[u8]> = drawn.sheet[..].into();
     let mut plan = pattern(drawn.plan_len);
     match planner::plan(&lent, &mut plan) {
@@ -225,7 +225,7 @@ pub fn apart(said: &Result<Vec<u8>, u32>, right: &Result<Vec<u8>, u32>) -> Optio
     }
 }
 
-fn about(drawn: &Drawn, seed: u64, number: usize) -> String {
+pub fn about(drawn: &Drawn, seed: u64, number: usize) -> String {
     let Drawn { flavour, sheet, plan_len } = drawn;
     let method = sheet.get(4).map_or("none".into(), |method| method.to_string());
     format!(

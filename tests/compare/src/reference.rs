@@ -13,6 +13,8 @@ use crate::plan::{encode, plan_len, Chains};
 use crate::refusal::{accepted, limiter_accepted};
 use crate::sheet::{self, Header, Row, Sheet};
 
+const TAKEN: &str = "the Rust takes every accepted sheet";
+
 /// An accepted sheet in the Rust's types.
 pub struct Problem {
     pub method: u8,
@@ -38,7 +40,7 @@ pub fn plan(methods: &[u8], bytes: &[u8]) -> Result<Vec<u8>, u32> {
 /// The limiter's answer: a refusal or the plan out.
 pub fn limit(bytes: &[u8], plan_in: &[u8], greatest: u32) -> Result<Vec<u8>, u32> {
     let (sheet, chains) = limiter_accepted(bytes, plan_in, len_for(bytes))?;
-    let solution = Problem::taken(&sheet).limited(chains, greatest as usize);
+    let solution = Problem::held(&sheet).limited(chains, greatest as usize);
     Ok(encode(sheet.rows.len(), &solution))
 }
 
@@ -50,9 +52,38 @@ fn len_for(bytes: &[u8]) -> usize {
     plan_len(Header::of(bytes).rows)
 }
 
+/// Whether a method holds a vehicle to its depot's due: nearest neighbour does so only with a rest.
+pub fn is_held(method: u8, vehicle: &sheet::Vehicle) -> bool {
+    method != sheet::NEAREST || vehicle.marks & sheet::REST != 0
+}
+
 impl Problem {
-    /// `None` if one of the Rust's constructors turns a value down, or it counts other depots.
+    /// As a planner takes a sheet. `None` if one of the Rust's constructors turns a value down, or it
+    /// counts other depots.
     pub fn of(sheet: &Sheet) -> Option<Problem> {
+        let held = |vehicle: &sheet::Vehicle| is_held(sheet.method, vehicle);
+        Problem::with_dues(sheet, |vehicle| sheet.home_due(vehicle).filter(|_| held(vehicle)))
+    }
+
+    pub fn taken(sheet: &Sheet) -> Problem {
+        Problem::of(sheet).expect(TAKEN)
+    }
+
+    /// As the limiter takes a sheet, and as single rounds are judged: every vehicle is held to its
+    /// depot's due.
+    pub fn held(sheet: &Sheet) -> Problem {
+        Problem::with_dues(sheet, |vehicle| sheet.home_due(vehicle)).expect(TAKEN)
+    }
+
+    /// The problem where each vehicle has to be home by a due of its own.
+    ///
+    /// The Rust knows no due of a depot. But it asks for a maximum duration wherever a due is asked
+    /// for, and in the same comparison: so the maximum is lowered to the due, or set to it. What a
+    /// maximum switches on, a window on the depot's row has switched on already.
+    pub fn with_dues(
+        sheet: &Sheet,
+        due: impl Fn(&sheet::Vehicle) -> Option<f64>,
+    ) -> Option<Problem> {
         let depots = sheet.depots();
         let rows = sheet.rows.iter().enumerate();
         let customers: Vec<Customer> =
@@ -62,17 +93,9 @@ impl Problem {
             Some(times) => distances.with_travel_times(times.clone())?,
             None => distances,
         };
-        let problem = Problem {
-            method: sheet.method,
-            customers,
-            distances,
-            vehicles: sheet.vehicles.iter().map(vehicle).collect(),
-        };
+        let vehicles = sheet.vehicles.iter().map(|of| vehicle(of, due(of))).collect();
+        let problem = Problem { method: sheet.method, customers, distances, vehicles };
         (num_depots(&problem.customers) == depots).then_some(problem)
-    }
-
-    pub fn taken(sheet: &Sheet) -> Problem {
-        Problem::of(sheet).expect("the Rust takes every accepted sheet")
     }
 
     /// The table of a problem of one depot.
@@ -167,7 +190,8 @@ fn customer(id: usize, row: &Row, depot: bool) -> Option<Customer> {
     Some(customer)
 }
 
-fn vehicle(from: &sheet::Vehicle) -> Vehicle {
+/// Its maximum duration is its own or the due, whichever is less.
+fn vehicle(from: &sheet::Vehicle, due: Option<f64>) -> Vehicle {
     let mut vehicle = Vehicle::new(from.id as usize, from.capacity)
         .with_depot(from.depot as usize)
         .with_cost_per_distance(from.cost_per_distance)
@@ -175,8 +199,9 @@ fn vehicle(from: &sheet::Vehicle) -> Vehicle {
     if from.marks & sheet::MAX_DISTANCE != 0 {
         vehicle = vehicle.with_max_distance(from.max_distance);
     }
-    if from.marks & sheet::MAX_DURATION != 0 {
-        vehicle = vehicle.with_max_duration(from.max_duration);
+    let own = (from.marks & sheet::MAX_DURATION != 0).then_some(from.max_duration);
+    if let Some(most) = own.into_iter().chain(due).reduce(f64::min) {
+        vehicle = vehicle.with_max_duration(most);
     }
     if from.marks & sheet::REST != 0 {
         let rest = VehicleBreak::new(from.earliest, from.latest, from.rest_duration);

@@ -1,9 +1,9 @@
 //! `compare rounds`: what the port says of single rounds against the Rust's `route_feasible`,
 //! `route_eval` and `build_route`, every figure by its bits.
 //!
-//! Windows, rests and maxima of a sheet are set to what some of its rounds reach, or one step
-//! beside it, so that every comparison is tried at the tie. Stops are never depots: of a depot row
-//! the two sides read different service and demand.
+//! Windows, rests, maxima and depots' dues of a sheet are set to what some of its rounds reach, or
+//! one step beside it, so that every comparison is tried at the tie. Stops are never depots: of a
+//! depot row the two sides read different service and demand.
 
 use std::collections::BTreeMap;
 use std::process::ExitCode;
@@ -11,7 +11,7 @@ use std::process::ExitCode;
 use u_routing::evaluation::{route_feasible, RouteEval, RouteLimits};
 use u_routing::models::{Route, Vehicle};
 
-use crate::fit::{fit_maximum, fit_rest, fit_window, Round};
+use crate::fit::{fit_home, fit_maximum, fit_rest, fit_window, Round};
 use crate::generate::sheet_of;
 use crate::plan::plan_len;
 use crate::planner::{probe_figure, probe_rounds};
@@ -36,7 +36,7 @@ const SHOWN: usize = 3;
 const FLAVOURS: [&str; 4] = ["whole", "tenths", "thirds", "any"];
 
 /// What rounds there were; each kind has to occur in each flavour.
-const KINDS: [&str; 21] = [
+const KINDS: [&str; 23] = [
     "feasible",
     "not feasible",
     "rest placed",
@@ -55,6 +55,8 @@ const KINDS: [&str; 21] = [
     "distance one step over",
     "duration = maximum",
     "duration one step over",
+    "duration = the depot's due",
+    "duration one step after it",
     "times of their own",
     "a stop twice",
     "over 12 stops",
@@ -74,6 +76,8 @@ struct Case {
     times: bool,
     bytes: Box<[u8]>,
     problem: Problem,
+    /// Of each vehicle's depot.
+    dues: Vec<Option<f64>>,
 }
 
 pub fn run(count: usize, seed: u64) -> ExitCode {
@@ -114,6 +118,9 @@ impl Tally {
         for guide in &rounds {
             fit_maximum(&mut sheet, guide, random);
         }
+        if random.one_in(3) {
+            fit_home(&mut sheet, &rounds[random.below(GUIDES)], random);
+        }
         while rounds.len() < ROUNDS {
             let round = match random.below(2) {
                 0 => Round::new(&sheet, random),
@@ -121,9 +128,10 @@ impl Tally {
             };
             rounds.push(round);
         }
-        let problem = Problem::of(&sheet).expect("the Rust takes every accepted sheet");
+        let problem = Problem::held(&sheet);
         let (times, bytes) = (sheet.times.is_some(), sheet.encode().into());
-        let case = Case { flavour, times, bytes, problem };
+        let dues = sheet.vehicles.iter().map(|vehicle| sheet.home_due(vehicle)).collect();
+        let case = Case { flavour, times, bytes, problem, dues };
         assert_eq!(refusal(&case.bytes, plan_len(sheet.rows.len())), 0, "an accepted sheet");
         for round in &rounds {
             self.try_round(&case, round);
@@ -400,8 +408,8 @@ impl Answers {
         ]
     }
 
-    fn limits(&self, case: &Case, round: &Round) -> [bool; 8] {
-        let driver = case.driver(round);
+    fn limits(&self, case: &Case, round: &Round) -> [bool; 10] {
+        let (driver, due) = (case.driver(round), case.dues[round.vehicle]);
         let latest = driver.rest().map(|rest| rest.latest());
         let earliest = driver.rest().map(|rest| rest.earliest());
         let home = self.free.map_or(f64::NAN, |eval| eval.duration);
@@ -417,6 +425,8 @@ impl Answers {
             Some(distance) == over(driver.max_distance()),
             Some(duration) == driver.max_duration(),
             Some(duration) == over(driver.max_duration()),
+            Some(duration) == due,
+            Some(duration) == over(due),
         ]
     }
 }

@@ -1,16 +1,22 @@
 //! A sample of calls to keep, with their answers, in which everything that has to be met is.
 
 use crate::freeze::Kept;
-use crate::kinds::{kinds, Seen};
 use crate::refusal::can_occur;
 
 /// No plan buffer, and no sheet, of a sample has more bytes.
 pub const MOST_LENT: usize = 8192;
-/// Every kind of boundary and every answer is met so often.
-const MET: usize = 4;
+
+/// What a sample holds: answers from 0 up to the last, each of these and every kind of boundary so
+/// often, and in all so many calls at least.
+pub struct Wanted {
+    pub last: usize,
+    pub often: usize,
+    pub count: usize,
+}
 
 pub struct Sample {
     kept: Vec<Kept>,
+    often: usize,
     /// The number of records of each answer.
     answers: Vec<usize>,
     /// Each kind of boundary with the number of its records.
@@ -18,16 +24,14 @@ pub struct Sample {
 }
 
 impl Sample {
-    /// At least `count` calls, each `consider`ed by its number, of the kinds of these methods and of
-    /// answers up to `last`.
+    /// The calls that are kept out of all, each `consider`ed by its number.
     pub fn kept(
-        methods: &[u8],
-        last: usize,
-        count: usize,
+        kinds: impl Iterator<Item = usize>,
+        Wanted { last, often, count }: Wanted,
         consider: impl Fn(&mut Sample, usize),
     ) -> Vec<Kept> {
-        let kinds = kinds(methods).map(|(kind, _)| (kind, 0)).collect();
-        let mut sample = Sample { kept: vec![], answers: vec![0; last + 1], kinds };
+        let kinds = kinds.map(|kind| (kind, 0)).collect();
+        let mut sample = Sample { kept: vec![], often, answers: vec![0; last + 1], kinds };
         for number in 0.. {
             if sample.whole() && sample.kept.len() >= count {
                 break;
@@ -41,20 +45,25 @@ impl Sample {
 
     /// Whether all is met that has to be.
     fn whole(&self) -> bool {
-        let met = |(number, met): (usize, &usize)| *met >= MET || !can_occur(number);
+        let met = |(number, met): (usize, &usize)| *met >= self.often || !can_occur(number);
         let answers = self.answers.iter().enumerate().all(met);
-        answers && self.kinds.iter().all(|&(_, met)| met >= MET)
+        answers && self.kinds.iter().all(|&(_, met)| met >= self.often)
     }
 
     /// Takes a call that shows something new, and any where nothing is lacking.
-    pub fn offer(&mut self, right: &Result<Vec<u8>, u32>, seen: &Seen, asked: &[&[u8]]) {
+    pub fn offer(
+        &mut self,
+        right: &Result<Vec<u8>, u32>,
+        seen: impl Fn(usize) -> bool,
+        asked: Vec<u8>,
+    ) {
         let number = *right.as_ref().err().unwrap_or(&0) as usize;
-        let lacks = |&(kind, met): &(usize, usize)| seen.has(kind) && met < MET;
-        let new = self.answers[number] < MET || self.kinds.iter().any(lacks);
+        let lacks = |&(kind, met): &(usize, usize)| seen(kind) && met < self.often;
+        let new = self.answers[number] < self.often || self.kinds.iter().any(lacks);
         if new || self.whole() {
             self.answers[number] += 1;
-            self.kinds.iter_mut().for_each(|(kind, met)| *met += usize::from(seen.has(*kind)));
-            self.kept.push(Kept { number, asked: asked.concat(), line: line(right) });
+            self.kinds.iter_mut().for_each(|(kind, met)| *met += usize::from(seen(*kind)));
+            self.kept.push(Kept { number, asked, line: line(right) });
         }
     }
 }

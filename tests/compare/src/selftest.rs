@@ -1,4 +1,4 @@
-//! `compare selftest`: the harness itself against document 01's examples.
+//! `compare selftest`: the harness itself against document 01's examples, and those of document 02.
 
 use std::fmt::Debug;
 use std::process::ExitCode;
@@ -13,7 +13,8 @@ use crate::promises;
 use crate::reference::{limit, plan, Problem};
 use crate::refusal::{accepted, limiter_accepted, refusal, METHODS, OFFERED};
 use crate::sheet::{field, Row, Sheet, Vehicle};
-use crate::sheet::{DEPOT, INSERTION, MAX_DISTANCE, NEAREST, NN_TW, REST, SAVINGS, SWEEP, WINDOW};
+use crate::sheet::{DEPOT, INSERTION, MAX_DISTANCE, NEAREST, NN_TW, PENALTY, REST, SAVINGS};
+use crate::sheet::{SWEEP, WINDOW};
 
 const LISTING: &str = "\
 rounds 1 aside 0
@@ -49,6 +50,9 @@ pub fn run() -> ExitCode {
     promised(&mut tally);
     costs(&mut tally);
     judged(&mut tally);
+    dues(&mut tally);
+    judged_by_due(&mut tally);
+    limited_by_due(&mut tally);
     directions(&mut tally);
     explained(&mut tally);
     println!("selftest: {} run, {} failed", tally.run, tally.failed);
@@ -258,7 +262,7 @@ fn limited(tally: &mut Tally) {
 /// What a plan out has to keep, of plans in of sheet A where no round may be above 23.
 fn promised(tally: &mut Tally) {
     let sheet = with_max_distance(SAVINGS, 23.0);
-    let problem = Problem::taken(&sheet);
+    let problem = Problem::held(&sheet);
     let plan = |rounds: Rounds, aside: &[usize]| Chains {
         rounds: rounds.iter().map(|stops| (7, stops.to_vec())).collect(),
         aside: aside.to_vec(),
@@ -325,6 +329,121 @@ fn judged(tally: &mut Tally) {
     let (lone, depots) = (plan(&[&[2]], &[]), Sheet { method: INSERTION, ..with_depots() });
     tally.expect("insertion, 2 depots", keeps(depots.clone(), &lone), true);
     tally.expect("insertion, 2 depots, aside", keeps(depots, &plan(&[], &[2])), true);
+}
+
+/// One stop, 10 out and 10 home, and a depot with a due.
+fn lone(method: u8, due: f64) -> Sheet {
+    let row = |demand, marks, due| Row { demand, marks, due, ..Row::default() };
+    let vehicle = Vehicle { id: 7, capacity: 10, cost_per_distance: 1.0, ..Vehicle::default() };
+    Sheet {
+        method,
+        rows: vec![row(0, DEPOT | WINDOW, due), row(1, 0, 0.0)],
+        vehicles: vec![vehicle],
+        distances: vec![0.0, 10.0, 10.0, 0.0],
+        times: None,
+    }
+}
+
+/// The same with a rest that the round does not need.
+fn lone_rested(method: u8, due: f64) -> Sheet {
+    let mut sheet = lone(method, due);
+    let vehicle = &mut sheet.vehicles[0];
+    vehicle.marks = REST;
+    (vehicle.earliest, vehicle.latest, vehicle.rest_duration) = (20.0, 30.0, 5.0);
+    sheet
+}
+
+fn lone_soft(due: f64) -> Sheet {
+    let mut sheet = lone(SAVINGS, due);
+    sheet.rows[0].marks |= PENALTY;
+    sheet.rows[0].penalty = 1.0;
+    sheet
+}
+
+fn lone_unmarked(due: f64) -> Sheet {
+    let mut sheet = lone(SAVINGS, due);
+    sheet.rows[0].marks = WINDOW;
+    sheet
+}
+
+/// A vehicle with a rest and then one without.
+fn lone_fleet(due: f64) -> Sheet {
+    let mut sheet = lone_rested(NEAREST, due);
+    sheet.vehicles.push(Vehicle { id: 8, ..lone(NEAREST, due).vehicles.remove(0) });
+    sheet
+}
+
+/// Two depots, the first due at 9, and a stop at 5 and 6 from them.
+fn lone_between(method: u8) -> Sheet {
+    let mut sheet = lone(method, 9.0);
+    sheet.rows.insert(1, Row { marks: DEPOT, ..Row::default() });
+    sheet.vehicles.push(Vehicle { id: 8, depot: 1, ..sheet.vehicles[0].clone() });
+    sheet.distances = vec![0.0, 9.0, 5.0, 9.0, 0.0, 6.0, 5.0, 6.0, 0.0];
+    sheet
+}
+
+/// Request One of document 02: the round's vehicle, if there is a round.
+fn dues(tally: &mut Tally) {
+    let ready = |ready| {
+        let mut sheet = lone(SAVINGS, 20.0);
+        sheet.rows[0].ready = ready;
+        sheet
+    };
+    let cases: [(&str, Sheet, Option<u32>); 16] = [
+        ("due 19", lone(SAVINGS, 19.0), None),
+        ("due 20", lone(SAVINGS, 20.0), Some(7)),
+        ("due 20, ready 20", ready(20.0), Some(7)),
+        ("due 19, soft", lone_soft(19.0), None),
+        ("due 20, soft", lone_soft(20.0), Some(7)),
+        ("due 19, row 0 unmarked", lone_unmarked(19.0), None),
+        ("due 20, row 0 unmarked", lone_unmarked(20.0), Some(7)),
+        ("due 19, insertion", lone(INSERTION, 19.0), None),
+        ("due 19, nn_tw", lone(NN_TW, 19.0), None),
+        ("due 19, sweep", lone(SWEEP, 19.0), None),
+        ("due 19, nearest neighbour", lone(NEAREST, 19.0), Some(7)),
+        ("due 19, such with a rest", lone_rested(NEAREST, 19.0), None),
+        ("due 20, such with a rest", lone_rested(NEAREST, 20.0), Some(7)),
+        ("due 19, such of two", lone_fleet(19.0), Some(8)),
+        ("due 9 at the nearer depot", lone_between(SAVINGS), Some(8)),
+        ("such, nearest neighbour", lone_between(NEAREST), Some(7)),
+    ];
+    for (name, sheet, id) in cases {
+        let made = chains(&planned(&sheet), &sheet).expect("every stop once");
+        let ids: Vec<u32> = made.rounds.iter().map(|(id, _)| *id).collect();
+        tally.expect(name, ids, id.into_iter().collect());
+    }
+}
+
+/// What demand 3 says of rounds that are home late.
+fn judged_by_due(tally: &mut Tally) {
+    let keeps = |sheet: &Sheet, id: u32| {
+        let rows = sheet.rows.len();
+        let plan = Chains { rounds: vec![(id, vec![rows - 1])], aside: vec![] };
+        let plan = encode_chains(rows, &plan);
+        judge(&sheet.encode(), &plan, &mut Claims::default()).is_ok()
+    };
+    tally.expect("judged, due 20", keeps(&lone(SAVINGS, 20.0), 7), true);
+    tally.expect("judged, due 19", keeps(&lone(SAVINGS, 19.0), 7), false);
+    tally.expect("judged, row 0 unmarked", keeps(&lone_unmarked(19.0), 7), false);
+    tally.expect("judged, a rest", keeps(&lone_rested(NN_TW, 19.0), 7), false);
+    tally.expect("judged, the nearer depot", keeps(&lone_between(SWEEP), 7), false);
+    tally.expect("judged, the other depot", keeps(&lone_between(SWEEP), 8), true);
+}
+
+/// The limiter keeps a round that is late as given, and makes none.
+fn limited_by_due(tally: &mut Tally) {
+    let late = lone(NEAREST, 19.0);
+    let plan = planned(&late);
+    tally.expect("late as given", limit(&late.encode(), &plan, 1), Ok(plan));
+    let apart = planned(&with_max_distance(SAVINGS, 23.0));
+    for (name, due, left) in [("due 24", 24.0, vec![1, 2]), ("due 23", 23.0, vec![2])] {
+        let mut sheet = sheet_a(SAVINGS);
+        sheet.rows[0].marks |= WINDOW;
+        sheet.rows[0].due = due;
+        let limited = limit(&sheet.encode(), &apart, 1).expect("a lawful plan in");
+        let (rounds, _) = stands(&limited, &sheet);
+        tally.expect(name, rounds, vec![left]);
+    }
 }
 
 /// The order of directions, and how rounded angles can break it.

@@ -208,6 +208,12 @@ impl Sheet {
         bytes
     }
 
+    /// When a vehicle has to be home: the due of its depot's row, if that has a window.
+    pub fn home_due(&self, vehicle: &Vehicle) -> Option<f64> {
+        let depot = self.rows.get(vehicle.depot as usize)?;
+        (depot.marks & WINDOW != 0).then_some(depot.due)
+    }
+
     /// The leading rows marked as depots; row 0 counts as one even unmarked or missing.
     pub fn depots(&self) -> usize {
         let leading = self.rows.iter().take_while(|row| row.marks & DEPOT != 0);

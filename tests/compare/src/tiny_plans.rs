@@ -15,8 +15,9 @@ enum Style {
     Windows,
     Soft,
     Rests,
+    Due,
 }
-const STYLES: [Style; 4] = [Style::Plain, Style::Windows, Style::Soft, Style::Rests];
+const STYLES: [Style; 5] = [Style::Plain, Style::Windows, Style::Soft, Style::Rests, Style::Due];
 
 pub fn each_tiny(mut ask: impl FnMut(&Call)) {
     for style in STYLES {
@@ -60,7 +61,7 @@ fn plan(sheet: &Sheet, choices: &mut Choices) -> Chains {
 
 fn sheet(style: Style, rows: usize) -> Sheet {
     let leg = |from: usize, to: usize| match style {
-        Style::Plain => from.abs_diff(to) as f64,
+        Style::Plain | Style::Due => from.abs_diff(to) as f64,
         Style::Windows => (2 + from.abs_diff(to) + usize::from(from < to)) as f64,
         Style::Soft => (1 + (from + 2 * to) % 3) as f64,
         Style::Rests => 0.1 * (1 + (3 * from + to) % 5) as f64,
@@ -80,6 +81,8 @@ fn row(style: Style, k: usize) -> Row {
         (Style::Soft, 1 | 2) => Row { marks: WINDOW | PENALTY, due: k as f64, penalty: 0.5, ..row },
         (Style::Soft, 3) => Row { marks: WINDOW, due: 5.0, ..row },
         (Style::Rests, 2) => Row { demand: 0, service: 0.3, ..row },
+        // The third stop's lone round is late.
+        (Style::Due, 0) => Row { marks: WINDOW, ready: 1.0, due: 5.0, ..row },
         _ => row,
     }
 }

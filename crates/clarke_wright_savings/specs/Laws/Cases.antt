@@ -10,7 +10,7 @@ use Rattle.lists.specs.Fold.{lastOf}
 use Rattle.lists.specs.Count.{count}
 use Rattle.wire.specs.Bytes.{le as number, bytes, f64At}
 use Rattle.sorting.specs.Stable.{insert, sorted}
-use Rattle.sheet.specs.Fields.{rowsOf, vehiclesOf, rowMarks, vehicleMarks, marked}
+use Rattle.sheet.specs.Fields.{rowsOf, vehiclesOf, rowMarks, vehicleMarks, marked, depotField}
 use Rattle.sheet.specs.Values.{gateAt, demandOf, stopOf, limitAt, restAfter, vehicleOf, distanceOf, fixedInDistance}
 use Rattle.sheet.specs.SheetA.{f1, f3, f64s, sheetHeader, stopRows, tableBytes, sheetA}
 use Rattle.evaluation_clock.specs.Serve.{pass, serveOf}
@@ -52,7 +52,7 @@ pub record Rows : Type 0 where
   pub row14 : planned (relative 0 0 0) ≡ each
 
 pub cases : Rows
-unfolding clarkeWright plannedBy asideOf roundsOf mergedBy mergeOf mergePasses slotOf startsOf startsAlone ranked numbered savingsOf savingsFrom directedOf termsOf symmetric sameBack loadOf count lastOf routeChecksNeeded hasSoftWindows hasTimeWindows someWindowed routeFeasible verdictFrom verdictOf heldTo allowOf isUnlimited driveTo movedOf takenOf returned unrested stepOf serveOf pass fixedInDistance gateAt demandOf stopOf limitsAt limitAt restAfter vehicleOf distanceOf rowsOf vehiclesOf rowMarks vehicleMarks marked sorted insert number bytes f64At add sub div ofBits lt le
+unfolding clarkeWright plannedBy asideOf roundsOf mergedBy mergeOf mergePasses slotOf startsOf startsAlone ranked numbered savingsOf savingsFrom directedOf termsOf symmetric sameBack loadOf count lastOf routeChecksNeeded hasSoftWindows hasTimeWindows someWindowed routeFeasible verdictFrom verdictOf heldTo allowOf isUnlimited driveTo movedOf takenOf returned unrested stepOf serveOf pass fixedInDistance gateAt demandOf stopOf depotField limitsAt limitAt restAfter vehicleOf distanceOf rowsOf vehiclesOf rowMarks vehicleMarks marked sorted insert number bytes f64At add sub div ofBits lt le
 cases = record { row1 = refl; row6 = refl; row7 = refl; row8 = refl; row14 = refl }
 
 -- ---- the ways of joining stop 1's round, in slot 0, and stop 2's, in slot 1

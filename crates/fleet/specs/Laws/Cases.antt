@@ -7,7 +7,7 @@ use lib.Ieee.{add, sub, mul, div, ofBits, lt, le}
 use Rattle.lists.specs.Count.{count}
 use Rattle.lists.specs.Filter.{filtered}
 use Rattle.wire.specs.Bytes.{le as number, bytes, f64At}
-use Rattle.sheet.specs.Fields.{rowsOf, vehiclesOf, timesOf, rowMarks, vehicleMarks, marked}
+use Rattle.sheet.specs.Fields.{rowsOf, vehiclesOf, timesOf, rowMarks, vehicleMarks, marked, depotField}
 use Rattle.sheet.specs.Depots.{leading, depotsOf}
 use Rattle.sheet.specs.Values.{gateAt, demandOf, stopOf, limitAt, restAfter, vehicleOf, distanceOf, timeOf, fixedInDistance}
 use Rattle.sheet.specs.SheetA.{f1, f4, f10, f64s, sheetHeader, rowBytes, noTimes, vehicleBytes, tableBytes, sheetA, sheetCarrying}
@@ -52,7 +52,7 @@ pub record Rows : Type 0 where
   pub stays : limitRoutes (sheetA 1) 1 (outcome ((2 ∷ []) ∷ [] ∷ []) (1 ∷ [])) ≡ outcome ((2 ∷ []) ∷ []) (1 ∷ [])
 
 pub cases : Rows
-unfolding limitRoutes limitOn dropRound refitOn refit putIn victimOf leastFrom pickFrom insertionFrom inRound takes placesFrom judgeAt filtered chains count loadOf hasSoftWindows someWindowed routeFeasible verdictFrom verdictOf heldTo allowOf driveTo movedOf takenOf returned unrested stepOf serveOf pass waitingOf latenessOf violatedOf gateAt demandOf stopOf limitsAt limitAt restAfter vehicleOf distanceOf timeOf rowsOf vehiclesOf timesOf rowMarks vehicleMarks marked leading depotsOf number bytes f64At add sub ofBits lt le
+unfolding limitRoutes limitOn dropRound refitOn refit putIn victimOf leastFrom pickFrom insertionFrom inRound takes placesFrom judgeAt filtered chains count loadOf hasSoftWindows someWindowed routeFeasible verdictFrom verdictOf heldTo allowOf driveTo movedOf takenOf returned unrested stepOf serveOf pass waitingOf latenessOf violatedOf gateAt demandOf stopOf depotField limitsAt limitAt restAfter vehicleOf distanceOf timeOf rowsOf vehiclesOf timesOf rowMarks vehicleMarks marked leading depotsOf number bytes f64At add sub ofBits lt le
 cases = record { joined = refl; none-left = refl; full = refl; empty = refl; stays = refl }
 
 -- ---- relatives with another vehicle: its capacity, its marks, and its maximum of distance
@@ -88,5 +88,5 @@ pub record Relatives : Type 0 where
   pub barred : limitRoutes (far 6 (0 ∷ 0 ∷ thousand ∷ f1 ∷ [])) 1 (outcome ((2 ∷ []) ∷ (1 ∷ []) ∷ []) []) ≡ outcome ((1 ∷ []) ∷ []) (2 ∷ [])
 
 pub relatives : Relatives
-unfolding limitRoutes limitOn dropRound refitOn refit putIn victimOf leastFrom pickFrom insertionFrom inRound takes placesFrom judgeAt filtered chains count loadOf hasSoftWindows someWindowed effectiveCost costOf routeEval routeFeasible verdictFrom verdictOf heldTo allowOf driveTo movedOf takenOf returned unrested stepOf serveOf pass waitingOf latenessOf violatedOf fixedInDistance gateAt demandOf stopOf limitsAt limitAt restAfter vehicleOf distanceOf timeOf rowsOf vehiclesOf timesOf rowMarks vehicleMarks marked leading depotsOf number bytes f64At add sub mul div ofBits lt le
+unfolding limitRoutes limitOn dropRound refitOn refit putIn victimOf leastFrom pickFrom insertionFrom inRound takes placesFrom judgeAt filtered chains count loadOf hasSoftWindows someWindowed effectiveCost costOf routeEval routeFeasible verdictFrom verdictOf heldTo allowOf driveTo movedOf takenOf returned unrested stepOf serveOf pass waitingOf latenessOf violatedOf fixedInDistance gateAt demandOf stopOf depotField limitsAt limitAt restAfter vehicleOf distanceOf timeOf rowsOf vehiclesOf timesOf rowMarks vehicleMarks marked leading depotsOf number bytes f64At add sub mul div ofBits lt le
 relatives = record { cheapest = refl; lateness = refl; mended = refl; barred = refl }

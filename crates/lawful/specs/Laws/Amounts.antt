@@ -1,7 +1,6 @@
 -- What an accepted sheet of whole numbers gives a walk: each amount is its natural number, at most 10 ^ 9. Assumes nothing.
 use mathlib.Core.Path.{_≡_, ap, subst}
 use Prim.Native.Nat.{ℕ, _+_, _*_, _^_, _≤_, _<_}
-use native.Mathlib.Nat.{le-trans}
 use native.Mathlib.Omega.{arith}
 use mathlib.Core.Bool.{Bool, false}
 use mathlib.Core.List.{List}
@@ -13,7 +12,6 @@ use Rattle.wire.specs.Bytes.{u64At, f64At}
 use Rattle.numbers.specs.Laws.Upto.{Upto}
 use Rattle.sheet.specs.Fields.{rowsOf, vehiclesOf, timesOf, rowAt, rowMarks, serviceAt, readyAt, dueAt, vehicleAt, earliestAt, latestAt, restAt, marked}
 use Rattle.sheet.specs.Ranges.{zeroBits, interval}
-use Rattle.sheet.specs.Laws.Depots.{depots-few}
 use Rattle.sheet.specs.Accepted.{Accepted}
 use Rattle.sheet.specs.Values.{distanceOf, timeOf}
 use Rattle.sheet.specs.Laws.Finite.{row-finite, vehicle-finite, entries-split, distance-bounded, time-bounded}
@@ -46,10 +44,6 @@ unmarked : (s : List ℕ) (at : ℕ) (mark : Bool) → mark ≡ false → T (int
 unfolding interval zeroBits f64At ofBits ofFields odd
 unmarked s at mark e t =
     ap (λ (n : ℕ). natOf (ofBits binary64 n)) (eqb→eq (u64At s at) 0 (and-l (zeroBits s at) _ (subst (λ (b : Bool). T (interval b s at)) e t)))
-
--- "a vehicle's depot is below the number of depots", which are rows where there is a row at all
-pub home-row : (s : List ℕ) (v : ℕ) → Accepted s → v < vehiclesOf s → 0 < rowsOf s → homeOf s v < rowsOf s
-home-row s v a h r = le-trans (a .vehicle v h .depot) (depots-few s r)
 
 module _ (s : List ℕ) (a : Accepted s) (w : Whole s) where
   pub row-amounts : (i : ℕ) → i < rowsOf s → RowAmounts s i

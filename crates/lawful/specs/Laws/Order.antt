@@ -2,16 +2,16 @@
 -- and a walk that rests before a stop departs no earlier than one that does not. Assumes nothing.
 use mathlib.Core.Path.{_≡_, refl}
 use Prim.Native.Nat.{ℕ, _+_, _-_, _*_, _≤_}
-use native.Mathlib.Nat.{le-refl, le-of-lt, mul-le-mul-right}
+use native.Mathlib.Nat.{le-refl, le-trans, le-of-lt, mul-le-mul-right}
 use native.Mathlib.Omega.{arith}
 use mathlib.Core.Bool.{Bool, true, false, _&&_, cond}
 use mathlib.Core.List.{List, [], _∷_}
-use lib.Dec.{T, ltb, ltb→lt, lt→ltb, leb→le, le→leb}
+use lib.Dec.{T, ltb, leb, ltb→lt, lt→ltb, leb→le, le→leb}
 use lib.Ieee.{Float, nan, inf, fin, up, down}
 use borrow.Author.Tests.{ltb-true, ltb-false}
 use Rattle.wire.specs.Bytes.{f64At}
 use Rattle.sheet.specs.Fields.{vehicleAt, vehicleMarks, maxDistanceAt, maxDurationAt, marked}
-use Rattle.lawful.specs.Lawful.{Walk, failed, left, timeN, isWindowed, dueN, readyN, homeOf, latestN, earliestN, restN, restBegun, rested, arrives, departs, stopN, homeN, walkN, notOver, withinMaximum, keepsMaxima, travelN}
+use Rattle.lawful.specs.Lawful.{Walk, failed, left, timeN, isWindowed, dueN, readyN, homeOf, latestN, earliestN, restN, restBegun, rested, arrives, departs, stopN, homeN, walkN, notOver, withinMaximum, homeInTime, keepsMaxima, travelN}
 
 abbrev pub NoLater : Walk → Walk → Type 0
 NoLater w failed = Unit
@@ -67,6 +67,15 @@ both : (p q r : Bool) → (T q → T r) → T (p && q) → T (p && r)
 both true q r f t = f t
 both false q r f t = t
 
+each : (p q p′ q′ : Bool) → (T p → T p′) → (T q → T q′) → T (p && q) → T (p′ && q′)
+each true q true q′ f g t = g t
+each true q false q′ f g t = absurd (f tt)
+each false q p′ q′ f g t = absurd t
+
+in-time : (mark : Bool) (a b due : ℕ) → a ≤ b → T (cond mark (leb b due) true) → T (cond mark (leb a due) true)
+in-time true a b due h t = le→leb a due (le-trans h (leb→le b due t))
+in-time false a b due h t = tt
+
 -- ---- a vehicle's walk
 module _ (s : List ℕ) (v : ℕ) where
   arrives-monotone : (here : Bool) (a b : ℕ) → a ≤ b → NoLater (arrives here s v a) (arrives here s v b)
@@ -119,4 +128,6 @@ module _ (s : List ℕ) (v : ℕ) where
   keeps-monotone is (left a) (left b) h t =
       let far = withinMaximum 1 s v (maxDistanceAt (vehicleAt s v)) (travelN s v (homeOf s v) is) in
       let long = withinMaximum 2 s v (maxDurationAt (vehicleAt s v)) in
-      both far (long b) (long a) (within (marked 2 (vehicleMarks s (vehicleAt s v))) a b (f64At s (maxDurationAt (vehicleAt s v))) h) t
+      both far (long b && homeInTime s v b) (long a && homeInTime s v a)
+      (each (long b) (homeInTime s v b) (long a) (homeInTime s v a) (within (marked 2 (vehicleMarks s (vehicleAt s v))) a b (f64At s (maxDurationAt (vehicleAt s v))) h) (in-time (isWindowed s (homeOf s v)) a b (dueN s (homeOf s v)) h))
+      t

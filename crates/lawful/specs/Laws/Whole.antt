@@ -189,6 +189,9 @@ whole-is (fin true m e) t = absurd t
 whole-is (fin false m (pos e)) t = (refl, refl)
 whole-is (fin false m (negsuc e)) t = absurd t
 
+pub is-upto : (n : ℕ) (x : Float) → Is n x → Upto n x
+is-upto n x u = finite (Upto n) false n x u (λ m e p. le-of-eq p)
+
 pub whole-upto : (k : ℕ) (x : Float) → Upto k x → natOf x ≤ k
 whole-upto k nan u = absurd u
 whole-upto k (inf s) u = absurd u

@@ -44,7 +44,7 @@ use Rattle.constructive.specs.Rounds.{passes, Carried, Feasible}
 use Rattle.constructive.specs.Laws.Rounds.{OfFleet}
 use Rattle.nearest_neighbor_choice.specs.Choice.{Trip, emptyTrip}
 use Rattle.nearest_neighbor_choice.specs.Offers.{tripCarries, allows, offerIf, thereAndHome, nearestOffer, arrivalAt, lateAt, serviceStart, penaltyOf, missed, stopTooDear, windowOffer}
-use Rattle.nearest_neighbor.specs.Nearest.{nearestOnward, nearestRule, nearestNeighbor, windowOnward, windowRule, nearestNeighborTw}
+use Rattle.nearest_neighbor.specs.Nearest.{nearestOnward, nearestLimits, nearestRule, nearestNeighbor, windowOnward, windowRule, nearestNeighborTw}
 use Rattle.nearest_neighbor.specs.Laws.Chosen.{Taken, Growing, greedy-every, greedy-fleet}
 
 -- a stop that is taken passes the test
@@ -85,7 +85,7 @@ nearest-growing s depot = record {
       let i = getD left j 0 in
       record {
         load = load-more s trip i (k .load);
-        carried = leb→le (trip .load + demandOf s i) (vehicleOf s v .capacity) (nearest-carries s depot (vehicleOf s v) (limitsAt s v) trip i t);
+        carried = leb→le (trip .load + demandOf s i) (vehicleOf s v .capacity) (nearest-carries s depot (vehicleOf s v) (nearestLimits s v (vehicleOf s v .rest)) trip i t);
       };
   leaves = λ v trip left k. tt;
   ends = λ v trip left k h. laden s v trip k h;

@@ -1,4 +1,5 @@
 -- `plan::write_priced` meets its contract. Assumes nothing.
+use native.Mathlib.Omega.{arith}
 use Rattle.plan.specs.Plan.{priceAfter}
 use borrow.Author.Needs.{needs}
 use Rattle.plan.proofs.write_priced.Statement.{statement}
@@ -8,7 +9,7 @@ vehicle-at-requires : tie.Need-vehicle-at-requires
 vehicle-at-requires c κs = search needs
 
 limits-at-requires : tie.Need-limits-at-requires
-limits-at-requires c κs = search needs
+limits-at-requires c κs = let r = c .before .before .before .before .pre .0 in (r .routed .sheet, (r .vehicle, omega (arith, r .routed .home)))
 
 write-round-requires : tie.Need-write-round-requires
 write-round-requires c κs = let r = c .before .before .before .before .before .before .pre .0 in

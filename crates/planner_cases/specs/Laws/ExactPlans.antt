@@ -16,11 +16,11 @@ use Rattle.sheet.specs.Fleet.{fleetOf}
 use Rattle.sheet.specs.Values.{vehicleOf}
 use Rattle.sheet.specs.Laws.Finite.{demand-bounded}
 use Rattle.evaluation.specs.Routed.{Routed}
+use Rattle.evaluation.specs.Laws.Limits.{home-row}
 use Rattle.evaluation.specs.Limits.{limitsAt}
 use Rattle.evaluator.specs.Record.{recordOf, buildRoute}
 use Rattle.lawful.specs.Whole.{Whole, Is}
 use Rattle.lawful.specs.Lawful.{homeOf, durationN, travelN, loadN, lawful}
-use Rattle.lawful.specs.Laws.Amounts.{home-row}
 use Rattle.lawful.specs.Laws.Rounds.{Rows}
 use Rattle.lawful.specs.Laws.Meaning.{rows-of}
 use Rattle.lawful.specs.Laws.Figures.{record-exact}

@@ -43,4 +43,4 @@ use Rattle.planner_cases.specs.Table.{RowHolds, tableRows}
 
 pub table-right : Every RowHolds tableRows
 unfolding answerOf refusalOf headerRight countsRight methodRight lengthsRight needsVehicle fleetRight contents coordinate demand capacity marks amount zeroBits optional interval costPerDistance servingInRange rowInRange maximaInRange restInRange vehicleInRange sameId newId rowsInRange entriesInRange vehiclesInRange inRange all rowsOf vehiclesOf methodOf timesOf spareOf rowMarks idField depotField vehicleMarks marked leading depotsOf gateAt demandOf stopOf limitsAt limitAt restAfter vehicleOf distanceOf timeOf fixedInDistance waitingOf latenessOf violatedOf pass serveOf serveRested stepOf stepRested earlierOf takenOf movedOf unrested endOf homeward returned driveTo homeFrom scheduledOf isUnlimited allowOf heldTo verdictOf verdictFrom routeFeasible someWindowed hasTimeWindows hasSoftWindows routeChecksNeeded lastOf placedOf readyFor departsAt lateAfter costAfter visitedOf recordOf buildRoute routeCost priceWith visitBytes asideBytes roundCounts roundFigures roundBytes headerBytes withVisits withRound withRounds withAside priceAfter priceOf planBytes planOf count loadOf termsOf choose extend extendOn greedy nearestOffer nearestOnward nearestNeighbor windowOffer windowOnward nearestNeighborTw sameBack symmetric directedOf savingsFrom savingsOf numbered ranked startsAlone startsOf slotOf mergePasses mergeOf mergedBy roundsOf asideOf plannedBy clarkeWright farthestFrom judge tryPlaces tryStops grow growOn seedStep planOn solomonI1 directionOf partOf turnsLeft below sweepsBefore routeFits unservable closes stepped sweptFrom sweptBy sweep insert sorted filtered fleetOf withVehicle constructOf plannedOf outcomeOf priced planFor number bytes signed write f64At add sub mul div ofBits toBits lt eq le round sum
-table-right = (refl, (refl, (refl, (refl, (refl, (refl, (refl, (refl, (refl, (refl, (refl, (refl, (refl, (refl, (refl, (refl, tt))))))))))))))))
+table-right = (refl, (refl, (refl, (refl, (refl, (refl, (refl, (refl, (refl, (refl, (refl, (refl, (refl, (refl, (refl, (refl, (refl, (refl, (refl, (refl, (refl, (refl, (refl, (refl, tt))))))))))))))))))))))))

@@ -9,7 +9,7 @@ use Rattle.lists.specs.Count.{count}
 use Rattle.lists.specs.Every.{Every}
 use Rattle.lists.specs.Laws.Every.{every-at}
 use Rattle.wire.specs.Bytes.{le as number, bytes, signed, f64At}
-use Rattle.sheet.specs.Fields.{rowsOf, vehiclesOf, timesOf, rowMarks, idField, vehicleMarks, marked}
+use Rattle.sheet.specs.Fields.{rowsOf, vehiclesOf, timesOf, rowMarks, idField, vehicleMarks, marked, depotField}
 use Rattle.sheet.specs.Values.{gateAt, demandOf, stopOf, limitAt, restAfter, vehicleOf, distanceOf, timeOf}
 use Rattle.sheet.specs.Fleet.{indexFrom}
 use Rattle.sheet.specs.SheetA.{f10, sheetA, sheetCarrying}
@@ -58,7 +58,7 @@ overloaded f =
 
 -- stop 1 reached at 14 and due 10
 pub joined-late : LimitStood (due f10) oneAndTwo 0 twoOne → ⊥
-unfolding rowsOf vehiclesOf timesOf rowMarks idField vehicleMarks marked gateAt demandOf stopOf limitsAt limitAt restAfter vehicleOf distanceOf timeOf waitingOf latenessOf violatedOf pass serveOf stepOf takenOf movedOf unrested returned driveTo allowOf heldTo verdictOf verdictFrom routeFeasible roundsAt asideAt idAt firstStopAt nextAt chainFrom indexFrom roundsFrom readPlan number bytes signed f64At add sub ofBits lt le
+unfolding rowsOf vehiclesOf timesOf rowMarks idField vehicleMarks marked gateAt demandOf stopOf depotField limitsAt limitAt restAfter vehicleOf distanceOf timeOf waitingOf latenessOf violatedOf pass serveOf stepOf takenOf movedOf unrested returned driveTo allowOf heldTo verdictOf verdictFrom routeFeasible roundsAt asideAt idAt firstStopAt nextAt chainFrom indexFrom roundsFrom readPlan number bytes signed f64At add sub ofBits lt le
 joined-late f =
     not-stood (due f10) (readPlan (due f10) oneAndTwo .rounds) (roundAt (readPlan (due f10) twoOne .rounds) 0) (refl, (refl, tt)) refl
     (λ p. p .feasible) (f refl .0)

@@ -39,7 +39,7 @@ cast-figure : tie.Need-cast-figure
 cast-figure c = search needs
 
 limits-at-requires : tie.Need-limits-at-requires
-limits-at-requires c κs = (right (c .before .before .before .before .before) .sheet, right (c .before .before .before .before .before) .vehicle)
+limits-at-requires c κs = let r = right (c .before .before .before .before .before) in (r .sheet, (r .vehicle, omega (arith, r .home)))
 
 figure-requires : tie.Need-figure-requires
 figure-requires c κs = rw (c .before .before .vehicle-at .ensures) (routed-of _ _ _ (right (c .before .before .before .before .before .before)) (passed (rw (c .before .before .before .before .before .rows .ensures) at (c .before .before .before .before .round-right .ensures)) (not-false (c .before .before .before .before .round-right .result) (c .before .before .before .if2 .left))))

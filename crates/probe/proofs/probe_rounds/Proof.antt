@@ -42,7 +42,7 @@ cast-passed : tie.Need-cast-passed
 cast-passed c = search needs
 
 limits-at-requires : tie.Need-limits-at-requires
-limits-at-requires c κs = (right (c .before .before .before .before .before) .sheet, right (c .before .before .before .before .before) .vehicle)
+limits-at-requires c κs = let r = right (c .before .before .before .before .before) in (r .sheet, (r .vehicle, omega (arith, r .home)))
 
 passed-requires : tie.Need-passed-requires
 passed-requires c κs = let l = lengths (c .before .before .before) in (rw (c .before .before .vehicle-at .ensures) (asked-of _ _ _ (right (c .before .before .before .before .before .before)) (l .each)), (l .some, (l .few, l .short)))

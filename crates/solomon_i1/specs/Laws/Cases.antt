@@ -5,7 +5,7 @@ use Prim.Native.Nat.{ℕ}
 use mathlib.Core.List.{List, [], _∷_, _++_}
 use lib.Ieee.{add, sub, mul, div, ofBits, lt, le}
 use Rattle.wire.specs.Bytes.{le as number, bytes, f64At}
-use Rattle.sheet.specs.Fields.{rowsOf, vehiclesOf, timesOf, rowMarks, vehicleMarks, marked}
+use Rattle.sheet.specs.Fields.{rowsOf, vehiclesOf, timesOf, rowMarks, vehicleMarks, marked, depotField}
 use Rattle.sheet.specs.Values.{gateAt, demandOf, stopOf, limitAt, restAfter, vehicleOf, distanceOf, timeOf, fixedInDistance}
 use Rattle.sheet.specs.SheetA.{f1, f4, f10, f64s, sheetHeader, rowBytes, noTimes, vehicleBytes, tableBytes, sheetA, sheetCarrying}
 use Rattle.evaluation_clock.specs.Window.{waitingOf, latenessOf, violatedOf}
@@ -41,7 +41,7 @@ pub record Rows : Type 0 where
   pub row15 : planned (sheetCarrying 0) ≡ record { rounds = []; aside = 1 ∷ 2 ∷ [] }
 
 pub cases : Rows
-unfolding solomonI1 planOn seedStep growOn grow tryStops tryPlaces judge farthestFrom termsOf loadOf hasSoftWindows someWindowed routeFeasible verdictFrom verdictOf heldTo allowOf driveTo movedOf takenOf returned unrested served serveOf pass waitingOf latenessOf violatedOf gateAt demandOf stopOf limitsAt limitAt restAfter vehicleOf distanceOf timeOf rowsOf vehiclesOf timesOf rowMarks vehicleMarks marked number bytes f64At add sub ofBits lt le
+unfolding solomonI1 planOn seedStep growOn grow tryStops tryPlaces judge farthestFrom termsOf loadOf hasSoftWindows someWindowed routeFeasible verdictFrom verdictOf heldTo allowOf driveTo movedOf takenOf returned unrested served serveOf pass waitingOf latenessOf violatedOf gateAt demandOf stopOf depotField limitsAt limitAt restAfter vehicleOf distanceOf timeOf rowsOf vehiclesOf timesOf rowMarks vehicleMarks marked number bytes f64At add sub ofBits lt le
 cases = record { row2 = refl; row9 = refl; row10 = refl; row15 = refl }
 
 -- ---- the soft rules, as the Rust answers: sheet A with a penalty of 1 after stop 1's due time 10, and a distance between stops 1 and 2
@@ -60,5 +60,5 @@ pub record Softly : Type 0 where
   pub cheap : planned (soft 0x4033_0000_0000_0000) ≡ rounded (1 ∷ 2 ∷ []) []
 
 pub softly : Softly
-unfolding solomonI1 planOn seedStep growOn grow tryStops tryPlaces judge farthestFrom termsOf loadOf hasSoftWindows someWindowed effectiveCost costOf routeEval routeFeasible verdictFrom verdictOf heldTo allowOf driveTo movedOf takenOf returned unrested served serveOf pass waitingOf latenessOf violatedOf fixedInDistance gateAt demandOf stopOf limitsAt limitAt restAfter vehicleOf distanceOf timeOf rowsOf vehiclesOf timesOf rowMarks vehicleMarks marked number bytes f64At add sub mul div ofBits lt le
+unfolding solomonI1 planOn seedStep growOn grow tryStops tryPlaces judge farthestFrom termsOf loadOf hasSoftWindows someWindowed effectiveCost costOf routeEval routeFeasible verdictFrom verdictOf heldTo allowOf driveTo movedOf takenOf returned unrested served serveOf pass waitingOf latenessOf violatedOf fixedInDistance gateAt demandOf stopOf depotField limitsAt limitAt restAfter vehicleOf distanceOf timeOf rowsOf vehiclesOf timesOf rowMarks vehicleMarks marked number bytes f64At add sub mul div ofBits lt le
 softly = record { late = refl; dear = refl; cheap = refl }

@@ -4,15 +4,15 @@ use Prim.Native.Nat.{_-_}
 use native.Mathlib.Omega.{arith}
 use borrow.Author.Needs.{needs}
 use Rattle.sheet.specs.Values.{vehicleOf}
-use Rattle.evaluation.specs.Limits.{limitsAt}
 use Rattle.evaluation.specs.declared.limits.RouteLimits.{RouteLimits}
 use Rattle.nearest_neighbor_choice.specs.Partial.{emptyPartial}
+use Rattle.nearest_neighbor.specs.Heuristic.{limitsBy}
 use Rattle.nearest_neighbor.proofs.Growing.{Growing, begins, length-same, routed, rides, grown-full, inside, stop-row, goes-on, grown-out, ends-at, ends-laid}
 use Rattle.nearest_neighbor.proofs.greedy.grow_round.Statement.{statement}
 use Rattle.nearest_neighbor.proofs.greedy.grow_round.Tie as tie
 
 abbrev Inv-loop : tie.InvT-loop
-Inv-loop sheet depot heuristic index stops₀ start total vehicle limits partial₀ end₀ stops partial end = ((vehicle ≡ vehicleOf sheet index) × (limits ≡ limitsAt sheet index)) × Growing sheet depot heuristic index stops₀ start total stops partial end
+Inv-loop sheet depot heuristic index stops₀ start total vehicle limits partial₀ end₀ stops partial end = ((vehicle ≡ vehicleOf sheet index) × (limits ≡ limitsBy sheet heuristic index)) × Growing sheet depot heuristic index stops₀ start total stops partial end
 
 abbrev μ-loop : tie.MeasureT-loop
 μ-loop sheet depot heuristic index stops₀ start total vehicle limits partial₀ end₀ stops partial end = total - end
@@ -20,14 +20,14 @@ abbrev μ-loop : tie.MeasureT-loop
 vehicle-at-requires : tie.Need-vehicle-at-requires Inv-loop μ-loop
 vehicle-at-requires c κs = (c .before .before .pre .0 .routed .sheet, c .before .before .pre .1)
 
-limits-at-requires : tie.Need-limits-at-requires Inv-loop μ-loop
-limits-at-requires c κs = (c .before .before .before .pre .0 .routed .sheet, c .before .before .before .pre .1)
+limits-for-requires : tie.Need-limits-for-requires Inv-loop μ-loop
+limits-for-requires c κs = let p = c .before .before .before .pre in (p .0 .routed .sheet, ((p .1, omega (arith, p .0 .routed .home)), c .vehicle-at .ensures))
 
 empty-partial-requires : tie.Need-empty-partial-requires Inv-loop μ-loop
 empty-partial-requires c κs = search needs
 
 loop-holds : tie.Need-loop-holds Inv-loop μ-loop
-loop-holds c = ((c .before .before .vehicle-at .ensures, c .before .limits-at .ensures), begins (c .before .before .before .before .before .args .sheet .now) (c .before .before .before .before .before .args .depot) (c .before .before .before .before .before .args .heuristic) (c .before .before .before .before .before .args .index) (c .before .before .before .before .before .args .stops .now) (c .before .before .before .before .before .args .start) (c .before .before .before .before .before .args .total) _ (c .before .before .before .before .before .pre .0) (c .empty-partial .ensures ∙ ap (λ (l : RouteLimits). emptyPartial (l .rest) (c .before .before .before .before .before .args .depot)) (c .before .limits-at .ensures)))
+loop-holds c = ((c .before .before .vehicle-at .ensures, c .before .limits-for .ensures), begins (c .before .before .before .before .before .args .sheet .now) (c .before .before .before .before .before .args .depot) (c .before .before .before .before .before .args .heuristic) (c .before .before .before .before .before .args .index) (c .before .before .before .before .before .args .stops .now) (c .before .before .before .before .before .args .start) (c .before .before .before .before .before .args .total) _ (c .before .before .before .before .before .pre .0) (c .empty-partial .ensures ∙ ap (λ (l : RouteLimits). emptyPartial (l .rest) (c .before .before .before .before .before .args .depot)) (c .before .limits-for .ensures)))
 
 mul-best-stop : tie.Need-mul-best-stop Inv-loop μ-loop
 mul-best-stop c = omega (arith, c .before .loop .inv .1 .members .most)
@@ -96,7 +96,7 @@ grow-round-spec =
     Inv-loop
     μ-loop
     vehicle-at-requires
-    limits-at-requires
+    limits-for-requires
     empty-partial-requires
     loop-holds
     mul-best-stop
