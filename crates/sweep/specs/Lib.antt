@@ -1,4 +1,5 @@
 pub mod Angle
+pub mod Signs
 pub mod Sweep
 pub mod Met
 pub mod Laws

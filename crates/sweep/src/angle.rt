@@ -39,16 +39,10 @@ fn direction_to(sheet: &[u8], depot: usize, row: usize) -> Direction
 fn part(a: Direction) -> u8
     ensures { λ r. ⌜ r ≡ partOf a ⌝ }
 {
-    if a.dy < 0 {
-        return 0;
-    }
-    if 0 < a.dy {
-        return 2;
-    }
-    if a.dx < 0 {
-        return 3;
-    }
-    1
+    let above = (0 < a.dy) as u8;
+    let level = (a.dy == 0) as u8;
+    let back = (a.dx < 0) as u8;
+    2 * above + level * (1 + 2 * back)
 }
 
 // Whether the cross product is above 0.
