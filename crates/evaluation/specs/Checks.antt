@@ -1,4 +1,4 @@
--- docs/SCOPE.md#the-walk-of-a-round. "A window on a depot row switches checking on, with a penalty also the soft rules below, and otherwise does nothing."
+-- docs/SCOPE.md#the-walk-of-a-round. "A window on a depot row switches checking on, with a penalty also the soft rules below, and otherwise does nothing." Since request One its due is a limit too (Limits.antt).
 -- "Each depot is planned on its own rows alone: symmetry, windows and penalties are read from those only."
 use Prim.Native.Nat.{ℕ}
 use mathlib.Core.Bool.{Bool, true, false, not, _||_}

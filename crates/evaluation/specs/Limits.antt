@@ -1,4 +1,4 @@
--- docs/SCOPE.md#the-walk-of-a-round. What a vehicle asks of a round besides its capacity.
+-- docs/SCOPE.md#the-walk-of-a-round. What a vehicle and its depot ask of a round besides the capacity.
 use Prim.Native.Nat.{ℕ}
 use mathlib.Core.Bool.{Bool, true, false, _&&_, cond}
 use mathlib.Core.List.{List}
