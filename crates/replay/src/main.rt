@@ -1,7 +1,7 @@
 // Replays calls of the planner from standard input, and prints a line for the answer of each. A
-// record is a byte that says its kind, then what the kind's function reads (kinds.rt). One that is
-// cut short, or has more bytes than there is room for, ends the run with `cut`, and one of another
-// kind with `unknown kind` and its byte.
+// record is a byte that says its kind, then what the kind's function reads (kinds.rt and the crate
+// `replay_plans`). One that is cut short, or has more bytes than there is room for, ends the run
+// with `cut`, and one of another kind with `unknown kind` and its byte.
 mod kinds;
 
 use libc::STDIN_FILENO;
@@ -15,8 +15,8 @@ fn replay_record() -> bool {
     }
     match kind[0] {
         0 => kinds::replay_refusal(),
-        1 => kinds::replay_plan(),
-        2 => kinds::replay_limit(),
+        1 => replay_plans::replay_plan(),
+        2 => replay_plans::replay_limit(),
         other => line::stop_at_unknown(other),
     }
 }
