@@ -32,10 +32,11 @@
  *             for the cost and the fixed cost, money per distance for the cost per
  *             distance, distance per time for a penalty. Without a time table
  *             distances serve as times, so the first two units are one.
- *   place     Coordinates serve the sweep's order by angle alone: no distance is
- *             computed from them.
+ *   place     Coordinates serve the sweep's order by angle alone: a plan's distances
+ *             are the sheet's own. Only import_solomon works distances out from
+ *             coordinates, for the sheet that it writes.
  *
- * A CALL, and this holds of all three functions:
+ * A CALL, and this holds of all four functions:
  *
  *   - has an answer for every byte string of every length, always returns, and gives
  *     the same bytes the same answer;
@@ -47,8 +48,8 @@
  *   - may run on several threads at once, each with a buffer of its own to write to.
  *     During a call no other thread may write what it reads, or touch what it writes.
  *
- * THE NAMES check_sheet, plan_rounds and limit_rounds are all that the archive
- * exports. Where one clashes, rename it, here and in the archive:
+ * THE NAMES check_sheet, plan_rounds, limit_rounds and import_solomon are all that the
+ * archive exports. Where one clashes, rename it, here and in the archive:
  *
  *     objcopy --redefine-sym plan_rounds=our_plan_rounds libplanner.a libours.a
  *     #define plan_rounds our_plan_rounds
@@ -63,8 +64,8 @@
 /* The major number rises where bytes that a version accepts are refused or get another
    meaning, the minor one where something is added. */
 #define PLANNER_VERSION_MAJOR 2
-#define PLANNER_VERSION_MINOR 0
-#define PLANNER_VERSION "2.0"
+#define PLANNER_VERSION_MINOR 1
+#define PLANNER_VERSION "2.1"
 
 /* Bytes of stack to keep free for a call, beside what its thread takes otherwise:
    half as much again, or more, as any call was seen to take (tests/c/stack.c).
@@ -175,6 +176,36 @@ extern "C" {
  *
  * A chain starts at a round's first stop, or at the first stop set aside. A stop
  * set aside has only its next; a depot's row is all zero.
+ *
+ * THE TEXT is what import_solomon makes a sheet of: an instance in the form in which
+ * Solomon's of 1987 are published. It ends where its length says: a NUL is a byte like
+ * any other.
+ *
+ *     BRICKWORKS
+ *
+ *     VEHICLE
+ *     NUMBER     CAPACITY
+ *        3          20
+ *
+ *     CUSTOMER
+ *     CUST NO.   XCOORD.   YCOORD.   DEMAND   READY TIME   DUE DATE   SERVICE TIME
+ *
+ *         0         0         0         0          0          240           0
+ *         1         3         4         8         30           90          15
+ *
+ *   line      The bytes up to a LF or to the end of the text. One CR right before the
+ *             LF belongs to the line's end; any other CR is a byte of its line.
+ *   name      The first line, whatever it holds, a digit too.
+ *   skipped   Every later line without a digit, wherever it stands.
+ *   numbers   Every later line with a digit: whole numbers, spaces and tabs, and nothing
+ *             else. Spaces or tabs part the numbers and may surround them. A number is
+ *             one or more digits, perhaps with a minus right before them; leading zeros
+ *             are allowed, and -0 is 0.
+ *   vehicle   The first line of numbers has two: how many vehicles there are, which may
+ *             be any number and is not used, and the capacity.
+ *   row       Each further one has seven: the row's number, which counts from 0 line by
+ *             line, x, y, demand, ready, due and service. Row 0 is the depot and has to
+ *             be there; the others are the customers, up to 100.
  */
 enum {
     PLANNER_HEADER_BYTES = 16,
@@ -244,6 +275,9 @@ enum {
      + PLANNER_CAST(size_t, PLANNER_LEG_BYTES) * PLANNER_CAST(size_t, rows)              \
            * PLANNER_CAST(size_t, rows) * (1u + PLANNER_CAST(size_t, time_table)))
 
+/* Bytes of the sheet of a text with so many rows. */
+#define PLANNER_IMPORT_BYTES(rows) PLANNER_SHEET_BYTES(rows, 1, 0)
+
 /* Bytes of the plan of a sheet with so many rows. */
 #define PLANNER_PLAN_BYTES(rows)                        \
     (PLANNER_CAST(size_t, PLANNER_PLAN_HEADER_BYTES)    \
@@ -252,7 +286,8 @@ enum {
 /*
  * Why a call is turned back. The conditions are tested in this order, rows,
  * matrix entries and vehicles ascending, and the first that holds is the answer.
- * The last two are limit_rounds' alone.
+ * 9 and 10 are limit_rounds' alone, 11 and 12 import_solomon's. That one has an order
+ * of its own, 11, 12, 5, 7, 4, and no other refusal; see there.
  */
 enum planner_refusal {
     /* No condition holds. */
@@ -264,7 +299,8 @@ enum planner_refusal {
     PLANNER_TOO_MANY = 2,
     /* Method above 4. */
     PLANNER_BAD_METHOD = 3,
-    /* Sheet or a plan not of its exact length. */
+    /* Sheet or a plan not of its exact length; a buffer shorter than the sheet of a
+       text. */
     PLANNER_BAD_LENGTH = 4,
     /* Field or mark of a row out of range, or an unmarked field not zero. */
     PLANNER_BAD_ROW = 5,
@@ -280,7 +316,11 @@ enum planner_refusal {
     /* The plan in has more rounds than the sheet has rows, a round whose id is
        no vehicle's, a link to no stop, or a stop that does not stand exactly
        once in all its chains. */
-    PLANNER_BAD_PLAN = 10
+    PLANNER_BAD_PLAN = 10,
+    /* Text not of its form. */
+    PLANNER_BAD_TEXT = 11,
+    /* Text with more than 100 customers after the depot's row. */
+    PLANNER_TOO_MANY_CUSTOMERS = 12
 };
 
 /*
@@ -353,6 +393,35 @@ uint32_t plan_rounds(const uint8_t *sheet, size_t sheet_len, uint8_t *plan, size
 uint32_t limit_rounds(const uint8_t *sheet, size_t sheet_len,
                       const uint8_t *plan_in, size_t plan_in_len, uint32_t greatest,
                       uint8_t *plan_out, size_t plan_out_len);
+
+/*
+ * Makes a sheet of a text. An answer above 0 is the sheet's length,
+ * PLANNER_IMPORT_BYTES(rows): the sheet stands in the first bytes of the buffer, and the
+ * bytes after it stay as they were. A negative answer is a refusal, -n for number n of
+ * enum planner_refusal, the first of these that holds:
+ *
+ *   -11  PLANNER_BAD_TEXT            a line of another form, however late it comes, a row
+ *                                    numbered out of turn, or no row
+ *   -12  PLANNER_TOO_MANY_CUSTOMERS  a row after row 100
+ *    -5  PLANNER_BAD_ROW             a number of a row out of the sheet's ranges, however
+ *                                    long it is, or ready after due
+ *    -7  PLANNER_BAD_VEHICLE         a capacity out of 0 to 2^31 - 1
+ *    -4  PLANNER_BAD_LENGTH          a buffer shorter than the sheet
+ *
+ * The sheet is one that plan_rounds takes. It has PLANNER_INSERTION and no time table; a
+ * row for each row of the text with its numbers as they stand, marked PLANNER_WINDOW, and
+ * row 0 PLANNER_DEPOT too, so that rounds are home by its due; one vehicle with id 0, the
+ * text's capacity and a cost per distance of 1; and zero in all other fields. The distance
+ * of two rows is the root of dx * dx + dy * dy, the f64 nearest to it. Stack:
+ * PLANNER_STACK.
+ *
+ *   text       the text's bytes; with text_len 0 nothing is read
+ *   text_len   how many bytes are lent
+ *   sheet      where the sheet goes
+ *   sheet_len  how many bytes are lent: the sheet's length or more. Every text's sheet
+ *              fits in PLANNER_IMPORT_BYTES(PLANNER_MOST_ROWS), 86,544 bytes
+ */
+int32_t import_solomon(const uint8_t *text, size_t text_len, uint8_t *sheet, size_t sheet_len);
 
 #ifdef __cplusplus
 }

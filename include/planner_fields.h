@@ -362,6 +362,12 @@ static inline double planner_plan_cost(const uint8_t *plan)
 
 /* ---- the sentence of an answer */
 
+/* The refusal in an answer of import_solomon's; PLANNER_ACCEPTED where it is a length. */
+static inline uint32_t planner_refusal_in(int32_t answer)
+{
+    return answer < 0 ? PLANNER_CAST(uint32_t, -PLANNER_CAST(int64_t, answer)) : PLANNER_CAST(uint32_t, PLANNER_ACCEPTED);
+}
+
 static inline const char *planner_refusal_text(uint32_t number)
 {
     switch (number) {
@@ -369,13 +375,15 @@ static inline const char *planner_refusal_text(uint32_t number)
     case PLANNER_BAD_HEADER: return "the sheet is under 16 bytes, its time table byte is above 1, or a spare byte of its header is set";
     case PLANNER_TOO_MANY: return "the sheet has more rows or more vehicles than a sheet may have";
     case PLANNER_BAD_METHOD: return "the sheet names no method";
-    case PLANNER_BAD_LENGTH: return "the sheet or a plan buffer is not of the length that the sheet's header asks for";
+    case PLANNER_BAD_LENGTH: return "the sheet or a buffer is not of the length that the sheet asks for";
     case PLANNER_BAD_ROW: return "a field or a mark of a row is out of range, or an unmarked field is not zero";
     case PLANNER_BAD_MATRIX: return "a distance or a time is out of range";
     case PLANNER_BAD_VEHICLE: return "a field, a mark or the depot of a vehicle is out of range, an unmarked field is not zero, or an id stands twice";
     case PLANNER_NO_VEHICLE: return "savings, insertion and sweep need a vehicle, and the sheet has none";
     case PLANNER_SEVERAL_DEPOTS: return "the sheet has several depots, and the limiter takes one";
     case PLANNER_BAD_PLAN: return "the plan has more rounds than the sheet has rows, an unknown vehicle, a link to no stop, or a stop that does not stand exactly once";
+    case PLANNER_BAD_TEXT: return "the text is not of the form of Solomon's instances";
+    case PLANNER_TOO_MANY_CUSTOMERS: return "the text has more than 100 customers after its depot";
     default: return "no answer of the planner's";
     }
 }

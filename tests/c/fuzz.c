@@ -1,16 +1,20 @@
 /*
- * Fuzzes the planner and the limiter by mutations that know the form of sheets and plans.
+ * Fuzzes the planner, the limiter and the importer by mutations that know the form of
+ * sheets, plans and texts.
  *
  *   fuzz SECONDS [SEED]              mutates for so long
  *   fuzz replay FILE [PLAN_BYTES]    asks a kept sheet again
  *   fuzz limit SHEET PLAN GREATEST [PLAN_OUT_BYTES]    asks the limiter again
+ *   fuzz import TEXT [SHEET_BYTES]    asks the importer again
  *
  * Sheets are drawn, mutated field by field according to what a field is, cut, spliced
  * and fitted to their own plans. A sheet that shows something new joins the corpus from
  * which the next ones are taken. After each sheet the limiter is asked with a plan in
- * for it: its own, or one that is dealt, and mutated. Every call is lent as lend.h says;
- * a plan is held to plan_check.h, and whether a plan in is taken too. A fault's sheet is
- * kept in the file fuzz-fault.sheet, and the limiter's plan in in fuzz-fault.plan; the
+ * for it: its own, or one that is dealt, and mutated. In between the next sheet is one
+ * that the importer makes of a text, drawn and mutated likewise. Every call is lent as
+ * lend.h says; a plan is held to plan_check.h, and whether a plan in is taken too; an
+ * imported sheet has to be planned. A fault's sheet is kept in the file fuzz-fault.sheet,
+ * the limiter's plan in in fuzz-fault.plan and the importer's text in fuzz-fault.text; the
  * exit status is 1.
  */
 #define _GNU_SOURCE
@@ -21,11 +25,12 @@
 #include <time.h>
 
 #include "mutate_plan.h"
+#include "mutate_text.h"
 
 enum { MOST_KEPT = 4096, MOST_KEPT_BYTES = 1 << 26, SIGNALS = 1 << 16 };
 /* No call takes so long, by the processor's time. */
 enum { PATIENCE_SECONDS = 20 };
-static const char FAULT_FILE[] = "fuzz-fault.sheet", FAULT_PLAN[] = "fuzz-fault.plan";
+static const char FAULT_FILE[] = "fuzz-fault.sheet", FAULT_PLAN[] = "fuzz-fault.plan", FAULT_TEXT[] = "fuzz-fault.text";
 
 struct kept {
     uint8_t *bytes;
@@ -33,21 +38,24 @@ struct kept {
 };
 
 struct corpus {
-    struct kept sheets[MOST_KEPT];
+    struct kept kept[MOST_KEPT];
     unsigned count;
     size_t bytes;
 };
 
-/* The sheet that is asked, and another one; the plan in, and whether the limiter is asked. */
+/* The sheet that is asked, and another one; the plan in; the text, another one, and the buffer's length; who is asked. */
 static struct sheet asked, spare;
 static struct plan_in plan_in;
-static int limiting;
-static uint8_t plan[MOST_PLAN], plan_out[MOST_PLAN];
-static struct corpus accepted, refused;
+static struct text text, spare_text;
+static size_t import_len;
+static enum { PLANNING, LIMITING, IMPORTING } asking;
+static uint8_t plan[MOST_PLAN], plan_out[MOST_PLAN], imported[MOST_IMPORT];
+static struct corpus accepted, refused, texts;
 static uint8_t signals[SIGNALS];
 static unsigned signal_count;
 static unsigned long sheets, answers[PLANNER_NO_VEHICLE + 1], planned[PLANNER_SWEEP + 1];
 static unsigned long limits, limit_answers[PLANNER_BAD_PLAN + 1], dropped;
+static unsigned long imports, import_answers[PLANNER_TOO_MANY_CUSTOMERS + 1];
 
 static void keep_fault(const char *name, const uint8_t *bytes, size_t len)
 {
@@ -56,12 +64,22 @@ static void keep_fault(const char *name, const uint8_t *bytes, size_t len)
         fprintf(stderr, "fuzz: %s was not written\n", name);
 }
 
+static void end_import(const char *what)
+{
+    fprintf(stderr, "fuzz: %s: a text of %zu bytes, a buffer of %zu\n", what, text.len, import_len);
+    keep_fault(FAULT_TEXT, text.bytes, text.len);
+    fprintf(stderr, "fuzz: again with: fuzz import %s %zu\n", FAULT_TEXT, import_len);
+    exit(1);
+}
+
 static void end(const char *what)
 {
-    size_t plan_len = limiting ? plan_in.len : asked.plan_len;
+    size_t plan_len = asking == LIMITING ? plan_in.len : asked.plan_len;
+    if (asking == IMPORTING)
+        end_import(what);
     fprintf(stderr, "fuzz: %s: a sheet of %zu bytes, a plan of %zu\n", what, asked.len, plan_len);
     keep_fault(FAULT_FILE, asked.bytes, asked.len);
-    if (limiting) {
+    if (asking == LIMITING) {
         keep_fault(FAULT_PLAN, plan_in.bytes, plan_in.len);
         fprintf(stderr, "fuzz: again with: fuzz limit %s %s %u %zu\n", FAULT_FILE, FAULT_PLAN,
                 (unsigned)plan_in.greatest, plan_in.plan_out_len);
@@ -91,30 +109,34 @@ static void watch_calls(void)
         end("no alarm");
 }
 
-static void keep(struct corpus *in, const struct sheet *s)
+static void keep(struct corpus *in, const uint8_t *from, size_t len)
 {
-    struct kept *to = &in->sheets[in->count < MOST_KEPT ? in->count : draw(MOST_KEPT)];
-    uint8_t *bytes = malloc(s->len + 1);
-    if (bytes == NULL || in->bytes + s->len > MOST_KEPT_BYTES) {
+    struct kept *to = &in->kept[in->count < MOST_KEPT ? in->count : draw(MOST_KEPT)];
+    uint8_t *bytes = malloc(len + 1);
+    if (bytes == NULL || in->bytes + len > MOST_KEPT_BYTES) {
         free(bytes);
         return;
     }
     in->count += in->count < MOST_KEPT;
-    in->bytes += s->len - to->len;
+    in->bytes += len - to->len;
     free(to->bytes);
-    to->bytes = memcpy(bytes, s->bytes, s->len);
-    to->len = s->len;
+    to->bytes = memcpy(bytes, from, len);
+    to->len = len;
 }
 
-/* The shorter of two for the most part: it is asked sooner. */
-static void take(struct sheet *s)
+/* The length of what was taken: the shorter of two for the most part, since it is asked sooner. */
+static size_t take_from(const struct corpus *in, uint8_t *bytes)
 {
-    const struct corpus *in = refused.count > 0 && (accepted.count == 0 || one_in(12)) ? &refused : &accepted;
-    const struct kept *from = &in->sheets[draw(in->count)], *other = &in->sheets[draw(in->count)];
+    const struct kept *from = &in->kept[draw(in->count)], *other = &in->kept[draw(in->count)];
     if (other->len < from->len && !one_in(8))
         from = other;
-    memcpy(s->bytes, from->bytes, from->len);
-    s->len = from->len;
+    memcpy(bytes, from->bytes, from->len);
+    return from->len;
+}
+
+static void take(struct sheet *s)
+{
+    s->len = take_from(refused.count > 0 && (accepted.count == 0 || one_in(12)) ? &refused : &accepted, s->bytes);
 }
 
 /* Whether this value of this kind is seen for the first time. */
@@ -202,7 +224,7 @@ static int ask(struct sheet *s, struct reading *r)
     answers[answer]++;
     if (answer != PLANNER_ACCEPTED) {
         if (refused_is_new(s, answer))
-            keep(&refused, s);
+            keep(&refused, s->bytes, s->len);
         return 0;
     }
     const char *fault = plan_fault(r, s->bytes, plan);
@@ -212,7 +234,7 @@ static int ask(struct sheet *s, struct reading *r)
     }
     planned[r->method]++;
     if (planned_is_new(r))
-        keep(&accepted, s);
+        keep(&accepted, s->bytes, s->len);
     return 1;
 }
 
@@ -257,7 +279,7 @@ static void ask_to_limit(struct sheet *s, const struct plan_in *p)
     }
     dropped += planner_plan_rounds(p->bytes) > p->greatest;
     if (limited_is_new(&r))
-        keep(&accepted, s);
+        keep(&accepted, s->bytes, s->len);
 }
 
 /* The limiter on the sheet that was asked last. */
@@ -265,10 +287,70 @@ static void limit_asked(struct sheet *s, int was_planned)
 {
     if (!laid_out(s) || rows_in(s) > PLANNER_MOST_ROWS)
         return;
-    limiting = 1;
+    asking = LIMITING;
     make_plan_in(&plan_in, s, was_planned ? plan : NULL);
     ask_to_limit(s, &plan_in);
-    limiting = 0;
+    asking = PLANNING;
+}
+
+static unsigned lines_in(const struct text *t)
+{
+    unsigned lines = 0;
+    for (size_t i = 0; i < t->len; i++)
+        lines += t->bytes[i] == '\n';
+    return lines;
+}
+
+/* Imports a text, and keeps one that shows something new. */
+static int32_t ask_to_import(const struct text *t)
+{
+    asking = IMPORTING;
+    imports++;
+    int32_t answer = ask_importer(t, imported, import_len);
+    asking = PLANNING;
+    uint32_t refusal = planner_refusal_in(answer);
+    unsigned size = answer < 0 ? size_class((unsigned)t->len) : planner_rows(imported);
+    import_answers[refusal]++;
+    if (is_new(14, refusal << 16 | size_class(lines_in(t)) << 8 | size))
+        keep(&texts, t->bytes, t->len);
+    return answer;
+}
+
+static void make_text(struct text *t)
+{
+    if (texts.count == 0 || one_in(12)) {
+        draw_fresh_text(t);
+    } else {
+        t->len = take_from(&texts, t->bytes);
+        if (one_in(8)) {
+            spare_text.len = take_from(&texts, spare_text.bytes);
+            join_text(t, &spare_text);
+        }
+    }
+    while (!one_in(3))
+        mutate_text(t);
+}
+
+/* A buffer that every sheet fits in for the most part; then one as long as this one, or nearly so. */
+static size_t draw_import_len(void)
+{
+    size_t exact = PLANNER_IMPORT_BYTES(1 + draw(9));
+    const uint64_t lens[] = {0, exact - 1, exact, exact + 1, draw(MOST_IMPORT + 1)};
+    return one_in(6) ? (size_t)PICK(lens) : MOST_IMPORT;
+}
+
+/* The next sheet as one of a text; whether there is one. */
+static int import_next(struct sheet *s)
+{
+    make_text(&text);
+    import_len = draw_import_len();
+    int32_t answer = ask_to_import(&text);
+    if (answer < 0)
+        return 0;
+    s->len = (size_t)answer;
+    memcpy(s->bytes, imported, s->len);
+    s->plan_len = plan_len_of(s->bytes, s->len);
+    return 1;
 }
 
 static void splice(struct sheet *s)
@@ -288,8 +370,8 @@ static size_t draw_plan_len(const struct sheet *s)
     return bold && one_in(12) ? (size_t)PICK(wrong) : exact;
 }
 
-/* The next sheet; `fitted` says that the last one was planned, and `r` of its plan. */
-static void make_next(struct sheet *s, int fitted, const struct reading *r)
+/* The next sheet, and there always is one; `fitted` says that the last one was planned, and `r` of its plan. */
+static int make_next(struct sheet *s, int fitted, const struct reading *r)
 {
     bold = !fitted && one_in(3);
     if (fitted) {
@@ -307,6 +389,7 @@ static void make_next(struct sheet *s, int fitted, const struct reading *r)
     if (!bold && laid_out(s))
         mend(s);
     s->plan_len = draw_plan_len(s);
+    return 1;
 }
 
 static void run(double seconds, unsigned long seed)
@@ -322,9 +405,10 @@ static void run(double seconds, unsigned long seed)
         was_planned = ask(&asked, &r);
     }
     do {
-        make_next(&asked, was_planned && one_in(3), &r);
-        was_planned = ask(&asked, &r);
-        limit_asked(&asked, was_planned);
+        if (one_in(4) ? import_next(&asked) : make_next(&asked, was_planned && one_in(3), &r)) {
+            was_planned = ask(&asked, &r);
+            limit_asked(&asked, was_planned);
+        }
         clock_gettime(CLOCK_MONOTONIC, &now);
     } while ((double)(now.tv_sec - began.tv_sec) + 1e-9 * (double)(now.tv_nsec - began.tv_nsec) < seconds);
 }
@@ -365,11 +449,20 @@ static int replay_limit(const char *sheet, const char *plan_name, const char *gr
     plan_in.len = read_file(plan_name, plan_in.bytes, MOST_PLAN);
     plan_in.greatest = (uint32_t)strtoul(greatest, NULL, 10);
     plan_in.plan_out_len = out_len != NULL ? plan_bytes(out_len) : plan_len_of(asked.bytes, asked.len);
-    limiting = 1;
+    asking = LIMITING;
     ask_to_limit(&asked, &plan_in);
     for (uint32_t answer = 0; answer <= PLANNER_BAD_PLAN; answer++)
         if (limit_answers[answer] > 0)
             printf("fuzz: answer %u\n", (unsigned)answer);
+    return 0;
+}
+
+static int replay_import(const char *name, const char *sheet_len)
+{
+    text.len = read_file(name, text.bytes, MOST_TEXT);
+    import_len = sheet_len != NULL ? strtoul(sheet_len, NULL, 10) : MOST_IMPORT;
+    import_len = import_len < MOST_IMPORT ? import_len : MOST_IMPORT;
+    printf("fuzz: answer %d\n", (int)ask_to_import(&text));
     return 0;
 }
 
@@ -382,15 +475,18 @@ static void print_counts(const char *what, const unsigned long *counts, unsigned
 
 static int report(void)
 {
-    printf("fuzz: %lu sheets and %lu plans in, %lu calls\n", sheets, limits, calls);
+    int lacking = answers[PLANNER_ACCEPTED] == 0 || dropped == 0 || import_answers[PLANNER_ACCEPTED] == 0;
+    printf("fuzz: %lu sheets, %lu plans in and %lu texts, %lu calls\n", sheets, limits, imports, calls);
     print_counts("answers", answers, PLANNER_NO_VEHICLE);
     print_counts("planned by method", planned, PLANNER_SWEEP);
     print_counts("answers of the limiter", limit_answers, PLANNER_BAD_PLAN);
     printf("fuzz: %lu plans out with fewer rounds\n", dropped);
-    printf("fuzz: corpus of %u sheets planned and %u refused, %u signals\n", accepted.count, refused.count, signal_count);
-    if (answers[PLANNER_ACCEPTED] == 0 || dropped == 0)
-        fprintf(stderr, "fuzz: nothing was planned, or nothing limited\n");
-    return answers[PLANNER_ACCEPTED] == 0 || dropped == 0;
+    print_counts("answers of the importer", import_answers, PLANNER_TOO_MANY_CUSTOMERS);
+    printf("fuzz: corpus of %u sheets planned, %u refused and %u texts, %u signals\n", accepted.count, refused.count,
+           texts.count, signal_count);
+    if (lacking)
+        fprintf(stderr, "fuzz: nothing was planned, or limited, or imported\n");
+    return lacking;
 }
 
 int main(int argc, char **argv)
@@ -400,11 +496,13 @@ int main(int argc, char **argv)
         return replay(argv[2], argc > 3 ? argv[3] : NULL);
     if (argc > 4 && strcmp(argv[1], "limit") == 0)
         return replay_limit(argv[2], argv[3], argv[4], argc > 5 ? argv[5] : NULL);
+    if (argc > 2 && strcmp(argv[1], "import") == 0)
+        return replay_import(argv[2], argc > 3 ? argv[3] : NULL);
     double seconds = argc > 1 ? strtod(argv[1], NULL) : 0.0;
     unsigned long seed = argc > 2 ? strtoul(argv[2], NULL, 10) : (unsigned long)time(NULL);
     if (argc > 3 || seconds <= 0.0) {
         fprintf(stderr, "usage: fuzz SECONDS [SEED] | fuzz replay FILE [PLAN_BYTES] | "
-                        "fuzz limit SHEET PLAN GREATEST [PLAN_OUT_BYTES]\n");
+                        "fuzz limit SHEET PLAN GREATEST [PLAN_OUT_BYTES] | fuzz import TEXT [SHEET_BYTES]\n");
         return 2;
     }
     printf("fuzz: %g s, seed %lu\n", seconds, seed);

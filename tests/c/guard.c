@@ -1,7 +1,7 @@
 /*
  * Lends sheets of every kind, cut short, damaged, random and accepted, with plans of
- * every length, and to the limiter plans in likewise, and holds the answers that are
- * known to what they must be.
+ * every length, to the limiter plans in and to the importer texts likewise, and holds
+ * the answers that are known to what they must be.
  */
 #define _GNU_SOURCE
 #include <stdint.h>
@@ -11,7 +11,7 @@
 #include "lend.h"
 #include "plans.h"
 
-static unsigned long planned, limited;
+static unsigned long planned, limited, imported;
 static const char *lending = "nothing";
 
 static void end(const char *what)
@@ -253,6 +253,112 @@ static void lend_to_limiter(uint8_t *sheet)
     limit_dealt(sheet, plan_in, &state);
 }
 
+static int32_t import(const struct text *t, size_t sheet_len)
+{
+    static uint8_t sheet[MOST_IMPORT];
+    int32_t answer = ask_importer(t, sheet, sheet_len);
+    imported += answer > 0;
+    return answer;
+}
+
+static void expect_import(const struct text *t, size_t sheet_len, int32_t answer)
+{
+    int32_t got = import(t, sheet_len);
+    if (got != answer) {
+        fprintf(stderr, "guard: %s: a text of %zu bytes, a buffer of %zu: %d, not %d\n", lending, t->len, sheet_len, (int)got,
+                (int)answer);
+        exit(1);
+    }
+}
+
+/* The answer to a text of so many rows, with a buffer that is long enough. */
+static int32_t length_of(unsigned rows)
+{
+    return rows == 0 ? -PLANNER_BAD_TEXT
+           : rows > PLANNER_MOST_ROWS ? -PLANNER_TOO_MANY_CUSTOMERS
+                                      : (int32_t)PLANNER_IMPORT_BYTES(rows);
+}
+
+/* A text without a digit in its name, cut after each of its bytes: from its seventh number on a line is a row, but with a
+   CR that no LF follows. */
+static void import_cut(struct text *t)
+{
+    size_t len = t->len;
+    unsigned rows = 0, numbers = 0;
+    int in_number = 0;
+    for (t->len = 0; t->len < len; t->len++) {
+        int part = numbers > 0 && (numbers < 7 || t->bytes[t->len - 1] == '\r');
+        expect_import(t, MOST_IMPORT, part ? -PLANNER_BAD_TEXT : length_of(rows + (numbers == 7)));
+        uint8_t next = t->bytes[t->len];
+        numbers += is_digit(next) && !in_number;
+        in_number = is_digit(next);
+        if (next == '\n') {
+            rows += numbers == 7;
+            numbers = 0;
+        }
+    }
+    expect_import(t, MOST_IMPORT, length_of(rows));
+}
+
+/* A buffer of every length, up to some more than the sheet's. */
+static void import_lengths(const struct text *t, size_t exact)
+{
+    for (size_t len = 0; len <= exact + 64; len++)
+        expect_import(t, len, len < exact ? -PLANNER_BAD_LENGTH : (int32_t)exact);
+}
+
+static void import_damaged(struct text *t)
+{
+    static const uint8_t damages[] = {0x01, 0x02, 0x10, 0x1d, 0x80, 0xff};
+    for (size_t at = 0; at < t->len; at++)
+        for (size_t i = 0; i < sizeof damages; i++) {
+            t->bytes[at] ^= damages[i];
+            import(t, MOST_IMPORT);
+            t->bytes[at] ^= damages[i];
+        }
+}
+
+/* With the sheet's exact length, and with a byte less. */
+static void import_sizes(struct text *t, uint64_t *state)
+{
+    for (unsigned rows = 0; rows <= PLANNER_MOST_ROWS + 3; rows++) {
+        int32_t answer = length_of(rows);
+        draw_text(t, rows, state);
+        expect_import(t, answer > 0 ? (size_t)answer : 0, answer);
+        expect_import(t, answer > 0 ? (size_t)answer - 1 : 0, answer > 0 ? -PLANNER_BAD_LENGTH : answer);
+    }
+}
+
+/* Of the bytes that texts have, and of any. */
+static void import_random(struct text *t, uint64_t *state)
+{
+    static const char letters[] = "\n\n\n\r \t-0123456789.x";
+    for (int turn = 0; turn < 4000; turn++) {
+        t->len = below(state, 400);
+        for (size_t i = 0; i < t->len; i++)
+            t->bytes[i] = (uint8_t)(turn % 4 == 0 ? next_random(state) >> 56 : (uint8_t)letters[below(state, sizeof letters - 1)]);
+        import(t, turn % 2 ? MOST_IMPORT : 0);
+    }
+}
+
+static void lend_to_importer(void)
+{
+    static struct text t;
+    uint64_t state = UINT64_C(0x9e3779b97f4a7c15);
+    add_words(&t, "WORKS\r\n\nVEHICLE\nNUMBER CAPACITY\n 25\t200 \n-\n"
+                  " 0 40 50 0 0 1230 0\r\n\n\r\n1\t-3 -04 10 90 150 30\n  2 3 4 0 0 0 0 \n");
+    lending = "a text cut short";
+    import_cut(&t);
+    lending = "a text with buffers of every length";
+    import_lengths(&t, PLANNER_IMPORT_BYTES(3));
+    lending = "a text with a damaged byte";
+    import_damaged(&t);
+    lending = "texts of every number of rows";
+    import_sizes(&t, &state);
+    lending = "random texts";
+    import_random(&t, &state);
+}
+
 int main(void)
 {
     static uint8_t sheet[MOST_SHEET];
@@ -276,6 +382,8 @@ int main(void)
     lending = "accepted sheets";
     lend_planned(sheet);
     lend_to_limiter(sheet);
-    printf("guard: %lu calls, %lu sheets planned and %lu plans limited at both ends\n", calls, planned, limited);
+    lend_to_importer();
+    printf("guard: %lu calls, %lu sheets planned, %lu plans limited and %lu texts imported at both ends\n", calls, planned,
+           limited, imported);
     return 0;
 }

@@ -1,7 +1,7 @@
 /*
  * A host in C: builds sheet A (docs/SCOPE.md), has it planned and its plans limited,
  * prints the rounds in plain words, then damages it in the way of each refusal's
- * example.
+ * example. At the end it imports a text, has its sheet planned, and damages that.
  */
 #include <stdint.h>
 #include <stdio.h>
@@ -9,7 +9,7 @@
 
 #include "planner_fields.h"
 
-enum { ROWS = 3, VEHICLES = 1 };
+enum { ROWS = 3, VEHICLES = 1, IMPORT_BYTES = PLANNER_IMPORT_BYTES(ROWS) };
 
 /* A sheet with room for one byte too many. */
 struct sheet {
@@ -65,13 +65,15 @@ static const char *words(uint32_t answer)
     case PLANNER_BAD_HEADER: return "refused 1, no header";
     case PLANNER_TOO_MANY: return "refused 2, too many rows or vehicles";
     case PLANNER_BAD_METHOD: return "refused 3, no such method";
-    case PLANNER_BAD_LENGTH: return "refused 4, not of its exact length";
+    case PLANNER_BAD_LENGTH: return "refused 4, a wrong length";
     case PLANNER_BAD_ROW: return "refused 5, a row out of range";
     case PLANNER_BAD_MATRIX: return "refused 6, a distance or time out of range";
     case PLANNER_BAD_VEHICLE: return "refused 7, a vehicle out of range";
     case PLANNER_NO_VEHICLE: return "refused 8, no vehicle";
     case PLANNER_SEVERAL_DEPOTS: return "refused 9, several depots";
     case PLANNER_BAD_PLAN: return "refused 10, no plan of this sheet";
+    case PLANNER_BAD_TEXT: return "refused 11, no text of this form";
+    case PLANNER_TOO_MANY_CUSTOMERS: return "refused 12, too many customers";
     }
     return "an answer that is no refusal";
 }
@@ -149,6 +151,31 @@ static void limit_it(const char *what, const struct sheet *s, const struct plan 
     print_answer(what, answer, &out);
 }
 
+/* A text of ROWS rows, and a customer's row. */
+static const char brickworks[] = "BRICKWORKS\n"
+                                 "VEHICLE\n"
+                                 "NUMBER CAPACITY\n"
+                                 "   3       20\n"
+                                 "CUST NO.  X  Y  DEMAND  READY  DUE  SERVICE\n"
+                                 "   0      0  0     0       0   240     0\n"
+                                 "   1      3  4     8      30    90    15\n";
+static const char customer[] = "   2     -6  8     5       0   120    10\n";
+
+/* Imports the text with this customer into a buffer of so many bytes, and plans the sheet. */
+static void import_it(const char *what, const char *last, size_t lent)
+{
+    struct sheet s;
+    char text[sizeof brickworks + sizeof customer];
+    size_t text_len = (size_t)snprintf(text, sizeof text, "%s%s", brickworks, last);
+    int32_t answer = import_solomon((const uint8_t *)text, text_len, s.bytes, lent);
+    printf("%s: %s\n", what, words(planner_refusal_in(answer)));
+    if (answer < 0)
+        return;
+    s.len = (size_t)answer;
+    printf("  a sheet of %zu bytes; from 1 to 2 it is %g\n", s.len, planner_distance(s.bytes, 1, 2));
+    plan_it("its plan", &s);
+}
+
 int main(void)
 {
     static const char *const methods[] = {"sheet A, savings", "sheet A, insertion", "sheet A, nearest neighbour",
@@ -221,5 +248,11 @@ int main(void)
 
     s = without_vehicle(PLANNER_NEAREST_NEIGHBOR);
     ask("nearest neighbour, 0 vehicles", &s);
+
+    import_it("a text", customer, IMPORT_BYTES);
+    import_it("a text, a buffer of one byte more", customer, IMPORT_BYTES + 1);
+    import_it("a text, a buffer of one byte too few", customer, IMPORT_BYTES - 1);
+    import_it("a text with a customer 3 after customer 1", "   3     -6  8     5       0   120    10\n", IMPORT_BYTES);
+    import_it("a text with ready 130, due 120", "   2     -6  8     5     130   120    10\n", IMPORT_BYTES);
     return 0;
 }

@@ -1,8 +1,8 @@
 /*
- * Lends sheets and plans to the planner and the limiter up against pages that nobody
- * may touch, so that one byte read or written outside them ends the run: first with
- * such a page right after the last byte of each, then right before the first. The
- * sheet and the plan in are lent by a view of their pages that can't be written, so a
+ * Lends sheets, plans and texts to the planner, the limiter and the importer up against
+ * pages that nobody may touch, so that one byte read or written outside them ends the
+ * run: first with such a page right after the last byte of each, then right before the
+ * first. What is only read is lent by a view of its pages that can't be written, so a
  * write there ends the run too.
  *
  * Define _GNU_SOURCE before the first header of a program that includes this one.
@@ -17,10 +17,13 @@
 #include <unistd.h>
 
 #include "planner_fields.h"
+#include "texts.h"
 
-/* The longest sheet of one row and one vehicle too many, and the longest plan, each with one byte more. */
+/* The longest sheet of one row and one vehicle too many, and the longest plan, each with one byte more; the longest sheet
+   of a text with some more. */
 enum { MOST_SHEET = PLANNER_SHEET_BYTES(PLANNER_MOST_ROWS + 1, PLANNER_MOST_VEHICLES + 1, 1) + 1 };
 enum { MOST_PLAN = PLANNER_PLAN_BYTES(PLANNER_MOST_ROWS) + 1 };
+enum { MOST_IMPORT = PLANNER_IMPORT_BYTES(PLANNER_MOST_ROWS) + 64 };
 
 /* Says what went wrong and ends the run with status 1; the program's own. */
 static void end(const char *what);
@@ -34,7 +37,7 @@ struct room {
 
 /* Rooms whose bytes are all `around`, but for what is lent at one end of them. */
 struct place {
-    struct room sheets, plans_in, plans;
+    struct room sheets, plans_in, plans, texts, imports;
     int at_front;
     int around;
 };
@@ -99,6 +102,8 @@ static inline struct place open_place(int front, int around)
     place.sheets = open_room(MOST_SHEET, PROT_READ, around);
     place.plans_in = open_room(MOST_PLAN, PROT_READ, around);
     place.plans = open_room(MOST_PLAN, PROT_READ | PROT_WRITE, around);
+    place.texts = open_room(MOST_TEXT, PROT_READ, around);
+    place.imports = open_room(MOST_IMPORT, PROT_READ | PROT_WRITE, around);
     place.at_front = front;
     place.around = around;
     return place;
@@ -135,38 +140,51 @@ static inline void take_back(const struct place *place, const struct room *room,
 {
     uint8_t *own = room->own + end_of(place, room, len);
     if (memcmp(own, bytes, len) != 0)
-        end("the sheet or the plan in was changed");
+        end("the sheet, the plan in or the text was changed");
     memset(own, place->around, len);
 }
 
-static inline uint8_t *lend_plan(const struct place *place, size_t len)
+/* A buffer to write to. */
+static inline uint8_t *lend_buffer(const struct place *place, const struct room *room, size_t len)
 {
-    memset(place->plans.own, place->around, place->plans.len);
+    memset(room->own, place->around, room->len);
     calls++;
-    return place->plans.lent + end_of(place, &place->plans, len);
+    return room->lent + end_of(place, room, len);
 }
 
-/* What stands in the plan after the answer is copied out. */
-static inline void take_plan(const struct place *place, uint32_t answer, uint8_t *out, size_t len)
+/* What stands in the buffer after the answer, which says how much of it is written, is copied out. */
+static inline void take_buffer(const struct place *place, const struct room *room, size_t written, uint8_t *out, size_t len)
 {
-    const struct room *plans = &place->plans;
-    size_t at = end_of(place, plans, len), after = at + len;
-    if (answer != PLANNER_ACCEPTED && !all_are(plans->own + at, len, place->around))
-        end("a refused call changed the plan");
-    if (!all_are(plans->own, at, place->around) || !all_are(plans->own + after, plans->len - after, place->around))
-        end("a byte outside the plan was changed");
-    memcpy(out, plans->own + at, len);
+    size_t at = end_of(place, room, len), after = at + written;
+    if (written > len)
+        end("more is written than was lent");
+    if (written == 0 && !all_are(room->own + at, len, place->around))
+        end("a refused call changed the buffer");
+    if (!all_are(room->own, at, place->around) || !all_are(room->own + after, room->len - after, place->around))
+        end("a byte outside the plan, or after the sheet, was changed");
+    memcpy(out, room->own + at, len);
+}
+
+/* How many bytes an answer of the planner's or the limiter's writes; and one of the importer's. */
+static inline size_t plan_written(uint32_t answer, size_t plan_len)
+{
+    return answer == PLANNER_ACCEPTED ? plan_len : 0;
+}
+
+static inline size_t sheet_written(int32_t answer)
+{
+    return answer > 0 ? (size_t)answer : 0;
 }
 
 /* The planner's answer to a copy of the sheet. */
 static inline uint32_t lend(const struct place *place, const uint8_t *sheet, size_t len, size_t plan_len, uint8_t *out)
 {
     const uint8_t *lent = lend_copy(place, &place->sheets, sheet, len);
-    uint32_t answer = plan_rounds(lent, len, lend_plan(place, plan_len), plan_len);
+    uint32_t answer = plan_rounds(lent, len, lend_buffer(place, &place->plans, plan_len), plan_len);
     if (check_sheet(lent, len, plan_len) != answer)
         end("check_sheet says otherwise");
     take_back(place, &place->sheets, sheet, len);
-    take_plan(place, answer, out, plan_len);
+    take_buffer(place, &place->plans, plan_written(answer, plan_len), out, plan_len);
     return answer;
 }
 
@@ -175,30 +193,41 @@ static inline uint32_t lend_limiting(const struct place *place, struct limiting 
 {
     const uint8_t *sheet = lend_copy(place, &place->sheets, l.sheet, l.len);
     const uint8_t *plan_in = lend_copy(place, &place->plans_in, l.plan_in, l.plan_in_len);
-    uint8_t *plan_out = lend_plan(place, l.plan_out_len);
+    uint8_t *plan_out = lend_buffer(place, &place->plans, l.plan_out_len);
     uint32_t answer = limit_rounds(sheet, l.len, plan_in, l.plan_in_len, l.greatest, plan_out, l.plan_out_len);
     take_back(place, &place->sheets, l.sheet, l.len);
     take_back(place, &place->plans_in, l.plan_in, l.plan_in_len);
-    take_plan(place, answer, out, l.plan_out_len);
+    take_buffer(place, &place->plans, plan_written(answer, l.plan_out_len), out, l.plan_out_len);
     return answer;
 }
 
-/* Two answers that have to be one, and so have the plans. */
-static inline void same(uint32_t answer, const uint8_t *plan, uint32_t other_answer, const uint8_t *other, size_t len)
+/* The importer's answer to a copy of the text. */
+static inline int32_t lend_text(const struct place *place, const struct text *t, uint8_t *out, size_t sheet_len)
+{
+    const uint8_t *text = lend_copy(place, &place->texts, t->bytes, t->len);
+    int32_t answer = import_solomon(text, t->len, lend_buffer(place, &place->imports, sheet_len), sheet_len);
+    take_back(place, &place->texts, t->bytes, t->len);
+    take_buffer(place, &place->imports, sheet_written(answer), out, sheet_len);
+    return answer;
+}
+
+/* Two answers that have to be one, and so has what they wrote. */
+static inline void same(int64_t answer, int64_t other_answer, const uint8_t *written, const uint8_t *other, size_t len)
 {
     if (other_answer != answer)
         end("the answer depends on the bytes around");
-    if (answer == PLANNER_ACCEPTED && memcmp(plan, other, len) != 0)
-        end("the plan depends on the bytes around, or on those it is written over");
+    if (memcmp(written, other, len) != 0)
+        end("what is written depends on the bytes around, or on those it is written over");
 }
 
-static uint8_t other_plan[MOST_PLAN];
+static uint8_t other_plan[MOST_PLAN], other_import[MOST_IMPORT];
 
 /* The answer, which is the same at either end, and so is the plan, of MOST_PLAN bytes of room. */
 static inline uint32_t ask_with_plan(const uint8_t *sheet, size_t len, uint8_t *plan, size_t plan_len)
 {
     uint32_t answer = lend(&at_back, sheet, len, plan_len, plan);
-    same(answer, plan, lend(&at_front, sheet, len, plan_len, other_plan), other_plan, plan_len);
+    uint32_t other = lend(&at_front, sheet, len, plan_len, other_plan);
+    same(answer, other, plan, other_plan, plan_written(answer, plan_len));
     if (answer > PLANNER_NO_VEHICLE)
         end("an answer that is no refusal");
     return answer;
@@ -208,9 +237,29 @@ static inline uint32_t ask_with_plan(const uint8_t *sheet, size_t len, uint8_t *
 static inline uint32_t ask_limiter(struct limiting l, uint8_t *plan_out)
 {
     uint32_t answer = lend_limiting(&at_back, l, plan_out);
-    same(answer, plan_out, lend_limiting(&at_front, l, other_plan), other_plan, l.plan_out_len);
+    uint32_t other = lend_limiting(&at_front, l, other_plan);
+    same(answer, other, plan_out, other_plan, plan_written(answer, l.plan_out_len));
     if (answer > PLANNER_BAD_PLAN)
         end("an answer that is no refusal");
+    return answer;
+}
+
+static inline int is_import_refusal(uint32_t refusal)
+{
+    return refusal == PLANNER_BAD_TEXT || refusal == PLANNER_TOO_MANY_CUSTOMERS || refusal == PLANNER_BAD_ROW
+           || refusal == PLANNER_BAD_VEHICLE || refusal == PLANNER_BAD_LENGTH;
+}
+
+/* The same of the importer; `sheet` has MOST_IMPORT bytes of room. What it writes is a sheet that would be planned. */
+static inline int32_t ask_importer(const struct text *t, uint8_t *sheet, size_t sheet_len)
+{
+    int32_t answer = lend_text(&at_back, t, sheet, sheet_len);
+    int32_t other = lend_text(&at_front, t, other_import, sheet_len);
+    same(answer, other, sheet, other_import, sheet_written(answer));
+    if (answer < 0 ? !is_import_refusal(planner_refusal_in(answer)) : answer < (int32_t)PLANNER_IMPORT_BYTES(1))
+        end("an answer that is no refusal and no sheet's length");
+    if (answer > 0 && check_sheet(sheet, (size_t)answer, PLANNER_PLAN_BYTES(planner_rows(sheet))) != PLANNER_ACCEPTED)
+        end("the sheet of a text is not accepted");
     return answer;
 }
 

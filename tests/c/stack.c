@@ -2,7 +2,7 @@
  * How much stack a call takes: each is made on a stack that was filled with a pattern,
  * and the lowest word that is another afterwards tells. In bytes, the caller's own
  * frame included; over several sheets of the most rows for each method, for the check
- * and for the limiter, or for the sheets in files.
+ * and for the limiter, and over such texts for the importer; or for the sheets in files.
  *
  *   stack [FILE..]    the exit status is 1 where a call takes more than planner.h says,
  *                     by PLANNER_STACK_SAVINGS and PLANNER_STACK
@@ -14,6 +14,7 @@
 #include <ucontext.h>
 
 #include "plans.h"
+#include "texts.h"
 
 enum { STACK_WORDS = 1 << 17, KINDS = 16, METHODS = PLANNER_SWEEP + 1 };
 static const uint64_t patterns[] = {UINT64_C(0xa5c396e17b2d4f08), UINT64_C(0x5a3c691e84d2b0f7)};
@@ -21,7 +22,8 @@ static const uint64_t patterns[] = {UINT64_C(0xa5c396e17b2d4f08), UINT64_C(0x5a3
 static uint8_t sheet[PLANNER_SHEET_BYTES(PLANNER_MOST_ROWS, PLANNER_MOST_VEHICLES, 1)];
 static uint8_t plan[PLANNER_PLAN_BYTES(PLANNER_MOST_ROWS)], plan_in[sizeof plan];
 static size_t len;
-static enum { PLANNING, CHECKING, LIMITING } asked;
+static struct text text;
+static enum { PLANNING, CHECKING, LIMITING, IMPORTING } asked;
 static uint32_t answer;
 static uint64_t stack[STACK_WORDS];
 static const uint8_t *top;
@@ -35,6 +37,8 @@ static void call(void)
         answer = limit_rounds(sheet, len, plan_in, plan_len, 1, plan, plan_len);
     else if (asked == CHECKING)
         answer = check_sheet(sheet, len, plan_len);
+    else if (asked == IMPORTING)
+        answer = planner_refusal_in(import_solomon(text.bytes, text.len, sheet, sizeof sheet));
     else
         answer = plan_rounds(sheet, len, plan, plan_len < sizeof plan ? plan_len : sizeof plan);
 }
@@ -119,6 +123,19 @@ static size_t taken_by_check(void)
     return most;
 }
 
+static size_t taken_by_importer(void)
+{
+    uint64_t state = UINT64_C(0x9e3779b97f4a7c15);
+    size_t most = 0;
+    asked = IMPORTING;
+    for (unsigned kind = 0; kind < KINDS; kind++) {
+        draw_text(&text, PLANNER_MOST_ROWS, &state);
+        most = larger(most, taken());
+    }
+    asked = PLANNING;
+    return most;
+}
+
 static size_t taken_by_file(const char *name)
 {
     FILE *file = fopen(name, "rb");
@@ -160,5 +177,6 @@ int main(int argc, char **argv)
         over |= tell(names[method], taken_by(method), allowed(method));
     over |= tell("check", taken_by_check(), PLANNER_STACK);
     over |= tell("limiter", taken_by_limiter(), PLANNER_STACK);
+    over |= tell("importer", taken_by_importer(), PLANNER_STACK);
     return over;
 }

@@ -1,12 +1,12 @@
 /*
- * Calls the planner and the limiter over and over in one process, and looks ten times at
- * the memory that the process holds and at the time that a call takes.
+ * Calls the planner, the limiter and the importer over and over in one process, and looks
+ * ten times at the memory that the process holds and at the time that a call takes.
  *
  *   steady CALLS
  *
  * The sheets are of all methods and sizes and are asked in turn, each with its plan to be
- * brought within half of its rounds; every pass over them must give the answers and plans
- * of the first. The exit status is 1 where one does
+ * brought within half of its rounds, and with a text of as many rows; every pass over them
+ * must give the answers, plans and sheets of the first. The exit status is 1 where one does
  * not, where the process holds more than a few pages more than at the first look, or
  * where a call of the last tenth takes above 1.5 times as long as one of the first, by
  * the clock and by a fixed piece of work that is timed beside the calls: other work on
@@ -21,18 +21,20 @@
 #include <unistd.h>
 
 #include "plans.h"
+#include "texts.h"
 
 static const unsigned sizes[] = {0, 1, 2, 10, 30, PLANNER_MOST_ROWS};
 static const unsigned depots[] = {1, 3};
 enum { SIZES = sizeof sizes / sizeof sizes[0], DEPOTS = 2, WIDTHS = 2, METHODS = PLANNER_SWEEP + 1 };
-enum { SHEETS = METHODS * SIZES * DEPOTS * WIDTHS, CALLS = 2 * SHEETS, LOOKS = 10, MOST_GROWTH = 16 };
+enum { SHEETS = METHODS * SIZES * DEPOTS * WIDTHS, CALLS = 3 * SHEETS, LOOKS = 10, MOST_GROWTH = 16 };
 static const double MOST_SLOWER = 1.5;
 
-/* A sheet with what the first calls said of it and of its plan. */
+/* A sheet with what the first calls said of it and of its plan; a text and its sheet. */
 struct asked {
-    uint8_t *sheet, *plan, *limited;
-    size_t len, plan_len;
+    uint8_t *sheet, *plan, *limited, *text, *imported;
+    size_t len, plan_len, text_len, imported_len;
     uint32_t answer, greatest, limit_answer;
+    int32_t import_answer;
 };
 
 static struct asked all[SHEETS];
@@ -63,6 +65,23 @@ static uint32_t limit(const struct asked *a, uint8_t *plan_out)
     return limit_rounds(a->sheet, a->len, a->plan, a->plan_len, a->greatest, plan_out, a->plan_len);
 }
 
+static int32_t import(const struct asked *a, uint8_t *sheet)
+{
+    return import_solomon(a->text, a->text_len, sheet, a->imported_len);
+}
+
+/* A text of so many rows, and its sheet's buffer; of no rows it is refused. */
+static void draw_asked_text(struct asked *a, unsigned rows, uint64_t *state)
+{
+    static struct text t;
+    draw_text(&t, rows, state);
+    a->text = memcpy(room(t.len), t.bytes, t.len);
+    a->text_len = t.len;
+    a->imported_len = PLANNER_IMPORT_BYTES(rows);
+    a->imported = room(a->imported_len);
+    a->import_answer = import(a, a->imported);
+}
+
 /* Sheet k of the set: tight rounds or wide ones. */
 static void draw_asked(struct asked *a, unsigned k, uint64_t *state)
 {
@@ -83,19 +102,20 @@ static void draw_asked(struct asked *a, unsigned k, uint64_t *state)
     a->limited = room(a->plan_len);
     a->greatest = planner_plan_rounds(a->plan) / 2;
     a->limit_answer = limit(a, a->limited);
+    draw_asked_text(a, shape.rows, state);
 }
 
-static void held_to_first(uint32_t answer, uint32_t first, const uint8_t *plan, const uint8_t *first_plan, size_t len)
+static void held_to_first(int64_t answer, int64_t first, const uint8_t *made, const uint8_t *first_made, size_t len)
 {
     if (answer != first)
         end("another answer than on the first call");
-    if (memcmp(plan, first_plan, len) != 0)
-        end("another plan than on the first call");
+    if (memcmp(made, first_made, len) != 0)
+        end("another plan or sheet than on the first call");
 }
 
 static void pass(void)
 {
-    static uint8_t plan[PLANNER_PLAN_BYTES(PLANNER_MOST_ROWS)];
+    static uint8_t plan[PLANNER_PLAN_BYTES(PLANNER_MOST_ROWS)], sheet[PLANNER_IMPORT_BYTES(PLANNER_MOST_ROWS)];
     for (const struct asked *a = all; a < all + SHEETS; a++) {
         memset(plan, 0, a->plan_len);
         uint32_t answer = plan_rounds(a->sheet, a->len, plan, a->plan_len);
@@ -103,6 +123,8 @@ static void pass(void)
         memset(plan, 0, a->plan_len);
         answer = limit(a, plan);
         held_to_first(answer, a->limit_answer, plan, a->limited, a->plan_len);
+        memset(sheet, 0, a->imported_len);
+        held_to_first(import(a, sheet), a->import_answer, sheet, a->imported, a->imported_len);
     }
 }
 
@@ -169,7 +191,7 @@ static void tell(unsigned long calls, struct look look)
 int main(int argc, char **argv)
 {
     uint64_t state = UINT64_C(0x9e3779b97f4a7c15);
-    unsigned long calls = argc == 2 ? strtoul(argv[1], NULL, 10) : 0, planned = 0, limited = 0;
+    unsigned long calls = argc == 2 ? strtoul(argv[1], NULL, 10) : 0, planned = 0, limited = 0, imported = 0;
     unsigned long passes = (calls + LOOKS * CALLS - 1) / (LOOKS * CALLS);
     struct look first, last;
     if (calls == 0) {
@@ -180,8 +202,9 @@ int main(int argc, char **argv)
         draw_asked(&all[k], k, &state);
         planned += all[k].answer == PLANNER_ACCEPTED;
         limited += all[k].limit_answer == PLANNER_ACCEPTED;
+        imported += all[k].import_answer > 0;
     }
-    printf("steady: %d sheets in turn, %lu of them planned and %lu limited\n", SHEETS, planned, limited);
+    printf("steady: %d sheets and texts in turn, %lu planned, %lu limited and %lu imported\n", SHEETS, planned, limited, imported);
     /* What is loaded at its first use is so before the first look that counts. */
     first = last = look_after(1);
     tell(0, last);

@@ -242,8 +242,12 @@ static void draw_stop(const struct map *m, unsigned row)
 
 static void draw_depot(const struct map *m, unsigned row)
 {
+    const uint8_t *sheet = m->r->sheet.bytes;
     int r = radius(m) + 2;
-    fprintf(m->out, "<g><title>depot %u</title>\n", row);
+    fprintf(m->out, "<g><title>depot %u", row);
+    if (planner_row_marks(sheet, row) & PLANNER_WINDOW)
+        fprintf(m->out, ", rounds are home by %s", plain(planner_row_due(sheet, row)));
+    fputs("</title>\n", m->out);
     square(m->out, m->x[row], m->y[row], r);
     number(m, row, r, "#ffffff");
     fputs("</g>\n", m->out);

@@ -7,15 +7,6 @@
 /* A plan out for the limiter to answer with. */
 static uint8_t scratch[PLANNER_PLAN_BYTES(PLANNER_MOST_ROWS)];
 
-static int differs(const char *name, unsigned here, uint32_t planner)
-{
-    fprintf(stderr,
-            "guchfenor: %s: A FAULT OF THIS PROGRAM OR OF THE PLANNER: explain reads refusal %u (%s),\n"
-            "guchfenor: and the planner answers %lu (%s). Please report it with the file.\n",
-            name, here, planner_refusal_text(here), (unsigned long)planner, planner_refusal_text(planner));
-    return UNUSABLE;
-}
-
 static int print_faults(const struct faults *faults, const char *sheet_name, const char *plan_name)
 {
     printf("refused %u: %s\n", refusal_of(faults), planner_refusal_text(refusal_of(faults)));

@@ -49,7 +49,7 @@ size_t plan_bytes_of(const uint8_t *sheet, size_t len)
 /* The bits of the f64 from 0 on ascend with it; negative numbers, -0, NaN and infinity lie above. */
 static int in_range(uint64_t bits, double most)
 {
-    return bits <= bits_of(most);
+    return bits <= f64_bits(most);
 }
 
 static void add_number(struct reader *r, const char *field, size_t at, double most)
@@ -218,7 +218,7 @@ static const struct range vehicle_ranges[] = {
 static void read_rate(struct reader *r)
 {
     uint64_t bits = planner_get(r->bytes + r->record + PLANNER_VEHICLE_COST_PER_DISTANCE, 8);
-    if (bits != 0 && bits < bits_of(0.001))
+    if (bits != 0 && bits < f64_bits(0.001))
         add(r, "cost per distance", PLANNER_VEHICLE_COST_PER_DISTANCE, "%s, neither 0 nor 0.001 or more",
             exact(planner_get_f64(r->bytes + r->record + PLANNER_VEHICLE_COST_PER_DISTANCE)));
 }

@@ -39,7 +39,7 @@ struct command {
 };
 
 extern const struct command plan_command, limit_command, show_command, draw_command, explain_command, make_command,
-    text_command;
+    text_command, import_command;
 
 #ifdef __GNUC__
 #define LIKE_PRINTF(words, first) __attribute__((format(printf, words, first)))
@@ -49,6 +49,9 @@ extern const struct command plan_command, limit_command, show_command, draw_comm
 
 /* A line on standard error, after the program's name. */
 void tell(const char *format, ...) LIKE_PRINTF(1, 2);
+
+/* Says loudly that this program's own reading of a file gives another refusal than the planner. UNUSABLE. */
+int differs(const char *name, unsigned here, uint32_t planner);
 
 /* "s" unless there is one. */
 static inline const char *plural(size_t count)

@@ -48,17 +48,6 @@ static int wrong(struct maker *m, const char *format, ...)
     return 0;
 }
 
-/* A word for a message: short, and printable. */
-static const char *quoted(struct word word)
-{
-    static char text[44];
-    size_t len = word.len < 40 ? word.len : 40;
-    for (size_t i = 0; i < len; i++)
-        text[i] = (char)(word.at[i] >= 33 && word.at[i] < 127 ? word.at[i] : '?');
-    strcpy(text + len, word.len > 40 ? ".." : "");
-    return text;
-}
-
 static int is_blank(char c)
 {
     return c == ' ' || c == '\t' || c == '\r';

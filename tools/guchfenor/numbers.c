@@ -3,7 +3,7 @@
 #include <stdlib.h>
 #include <string.h>
 
-enum { SLOTS = 32, SLOT_BYTES = 64 };
+enum { SLOTS = 32, SLOT_BYTES = 64, MOST_QUOTED = 40 };
 
 static char *slot(void)
 {
@@ -45,7 +45,7 @@ const char *exact(double value)
 {
     char *text = slot();
     if (!is_finite(value)) {
-        snprintf(text, SLOT_BYTES, "bits:%016llX", (unsigned long long)bits_of(value));
+        snprintf(text, SLOT_BYTES, "bits:%016llX", (unsigned long long)f64_bits(value));
         return text;
     }
     if (value > -1e15 && value < 1e15 && value == (double)(int64_t)value) {
@@ -54,7 +54,7 @@ const char *exact(double value)
     }
     for (int digits = 1; digits <= 17; digits++) {
         snprintf(text, SLOT_BYTES, "%.*g", digits, value);
-        if (bits_of(strtod(text, NULL)) == bits_of(value))
+        if (f64_bits(strtod(text, NULL)) == f64_bits(value))
             break;
     }
     return text;
@@ -63,6 +63,16 @@ const char *exact(double value)
 int is_word(struct word word, const char *text)
 {
     return strlen(text) == word.len && memcmp(word.at, text, word.len) == 0;
+}
+
+const char *quoted(struct word word)
+{
+    char *text = slot();
+    size_t len = word.len < MOST_QUOTED ? word.len : MOST_QUOTED;
+    for (size_t i = 0; i < len; i++)
+        text[i] = (char)(word.at[i] >= 33 && word.at[i] < 127 ? word.at[i] : '?');
+    strcpy(text + len, word.len > MOST_QUOTED ? ".." : "");
+    return text;
 }
 
 static int hex_digit(char c)

@@ -10,7 +10,7 @@ const char *plain(double value);
 /* Shortest decimal that reads back to the same f64, or bits:HEX for what has no decimal (NaN, infinity). */
 const char *exact(double value);
 
-static inline uint64_t bits_of(double value)
+static inline uint64_t f64_bits(double value)
 {
     uint64_t bits;
     memcpy(&bits, &value, sizeof bits);
@@ -24,6 +24,9 @@ struct word {
 };
 
 int is_word(struct word word, const char *text);
+
+/* A word for a message: short, and printable. Like plain's, the text lives until some more calls later. */
+const char *quoted(struct word word);
 
 /* Whether the word is a number: a decimal, or bits: and 16 hexadecimal digits. */
 int read_number(struct word word, double *value);

@@ -263,9 +263,15 @@ static void draw_windows(unsigned k, double top)
 
 /* ---- when the depot closes */
 
+/* One after the axis' end is not drawn. */
+static int closing_is_drawn(const struct round *round)
+{
+    return round->closes && round->due <= strips.end;
+}
+
 static void draw_closing(const struct round *round, double y)
 {
-    if (!round->closes || round->due > strips.end)
+    if (!closing_is_drawn(round))
         return;
     fprintf(strips.out, "<path d=\"M%.1f %.1fv%d\" stroke=\"%s\" stroke-width=\"2\"><title>depot %u closes at %s%s</title></path>\n",
             x_of(round->due), y - 3, BAR + 6, round->is_late ? ALARM : INK, round->depot, plain(round->due),
@@ -332,7 +338,7 @@ static void draw_key(int y)
     x = draw_key_window(x, y, FAINTER_INK, " stroke-dasharray=\"4 2\"", "soft window", 0);
     x = draw_key_window(x + 10, y, ALARM, "", "missed, or late", 1);
     for (unsigned k = 0; k < strips.r->rounds; k++)
-        if (strips.r->round[k].closes) {
+        if (closing_is_drawn(&strips.r->round[k])) {
             fprintf(strips.out, "<path d=\"M%.1f %dv%d\" stroke=\"" INK "\" stroke-width=\"2\"/>\n", x + 25, y - 14, BAR + 6);
             letter(strips.out, x + 31, y, 12, FAINT_INK, "start", "depot closes");
             return;

@@ -11,7 +11,7 @@ static void write_row(FILE *out, const uint8_t *sheet, unsigned row)
     fprintf(out, "%s %ld %ld", depot ? "depot" : "stop", (long)planner_row_x(sheet, row), (long)planner_row_y(sheet, row));
     if (planner_row_demand(sheet, row) != 0)
         fprintf(out, "  demand %ld", (long)planner_row_demand(sheet, row));
-    if (bits_of(planner_row_service(sheet, row)) != 0)
+    if (f64_bits(planner_row_service(sheet, row)) != 0)
         fprintf(out, "  service %s", exact(planner_row_service(sheet, row)));
     if (marks & PLANNER_WINDOW)
         fprintf(out, "  window %s %s", exact(planner_row_ready(sheet, row)), exact(planner_row_due(sheet, row)));
@@ -29,7 +29,7 @@ static void write_vehicle(FILE *out, const uint8_t *sheet, unsigned v)
             (long)planner_vehicle_capacity(sheet, v), exact(planner_vehicle_cost_per_distance(sheet, v)));
     if (planner_vehicle_depot(sheet, v) != 0)
         fprintf(out, "  depot %lu", (unsigned long)planner_vehicle_depot(sheet, v));
-    if (bits_of(planner_vehicle_fixed_cost(sheet, v)) != 0)
+    if (f64_bits(planner_vehicle_fixed_cost(sheet, v)) != 0)
         fprintf(out, "  fixed %s", exact(planner_vehicle_fixed_cost(sheet, v)));
     if (marks & PLANNER_MAX_DISTANCE)
         fprintf(out, "  max-distance %s", exact(planner_vehicle_max_distance(sheet, v)));
@@ -50,7 +50,7 @@ static int goes_by(const uint8_t *sheet, rule *made)
     for (unsigned leg = 0; leg < rows * rows; leg++) {
         unsigned a = leg / rows, b = leg % rows;
         double by_points = made(planner_row_x(sheet, a), planner_row_y(sheet, a), planner_row_x(sheet, b), planner_row_y(sheet, b));
-        if (bits_of(by_points) != bits_of(planner_distance(sheet, a, b)))
+        if (f64_bits(by_points) != f64_bits(planner_distance(sheet, a, b)))
             return 0;
     }
     return 1;

@@ -6,6 +6,7 @@ ghost use lib.ListN.{length};
 ghost use Rattle.sheet.specs.Fields.{planLength};
 ghost use Rattle.sheet.specs.Accepted.{Sized, Accepted};
 ghost use Rattle.sheet.specs.Refusal.{refusalOf};
+ghost use Rattle.solomon_import.specs.Import.{ImportAnswered, ImportAccepted};
 ghost use Rattle.planner.specs.Answer.{priced, planFor, Answered, Once, Feasibly, Lawful, Alone, Closed};
 ghost use Rattle.planner.specs.Tabled.{PlannerTables};
 ghost use Rattle.planner.specs.Limited.{LimitAnswered, LimitOnce, LimitFew, LimitStood, LimitAside};
@@ -120,4 +121,14 @@ pub extern "C" fn limit_rounds(
         return told;
     }
     planner_limiting::limit(sheet, plan_in, greatest, plan_out)
+}
+
+// Imports one of Solomon's texts: the sheet's length, and the sheet at the start of `sheet`, or the refusal's number below
+// zero and every byte of `sheet` as it was.
+#[no_mangle]
+pub extern "C" fn import_solomon(text: &[u8], sheet: &mut [u8]) -> i32
+    ensures { λ r. ⌜ ImportAnswered (now (text .entry)) (now (sheet .entry)) r (now (sheet .exit)) ⌝ }
+    ensures { λ r. ⌜ ImportAccepted r (now (sheet .exit)) ⌝ }
+{
+    solomon_import::import(text, sheet)
 }

@@ -6,6 +6,7 @@ mod rounds;
 use evaluation::limits;
 use sheet::vehicle;
 ghost use mathlib.Core.Path.{_≡_};
+ghost use Rattle.square_root.specs.ClosestRoot.{ClosestRoot};
 ghost use Rattle.probe.specs.Figures.{probeFigure};
 ghost use Rattle.probe.specs.Rounds.{probeRounds};
 
@@ -53,4 +54,12 @@ pub extern "C" fn probe_figure(sheet: &[u8], route: &[u16], vehicle: u32, which:
         limits::limits_at(sheet, index),
         which as usize,
     )
+}
+
+// The square root of a whole number, as the importer works it out.
+#[no_mangle]
+pub extern "C" fn probe_root(n: u64) -> f64
+    ensures { λ x. ⌜ ClosestRoot n x ⌝ }
+{
+    square_root::square_root(n)
 }

@@ -17,6 +17,7 @@ fn replay_record() -> bool {
         0 => kinds::replay_refusal(),
         1 => replay_plans::replay_plan(),
         2 => replay_plans::replay_limit(),
+        3 => kinds::replay_import(),
         other => line::stop_at_unknown(other),
     }
 }

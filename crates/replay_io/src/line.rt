@@ -43,3 +43,11 @@ pub fn print_answer(number: u32, len: u32, plan: &[u8; ROOM]) -> bool {
     }
     print_bytes(len, plan)
 }
+
+// `refused N` where the answer is -N, else the first bytes of `room`, as many as it says.
+pub fn print_counted(answer: i32, room: &[u8; ROOM]) -> bool {
+    if answer >= 0 {
+        return print_answer(0, answer as u32, room);
+    }
+    print_answer(1 + (-1 - answer) as u32, 0, room)
+}

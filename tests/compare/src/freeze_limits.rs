@@ -14,7 +14,8 @@ use crate::limit_calls::{call, Call};
 use crate::limits::{expected, Expected};
 use crate::sample::{Sample, Wanted, MOST_LENT};
 
-const LIMITED: Wanted = Wanted { last: 10, often: 4, count: 280 };
+const LIMITED: Wanted =
+    Wanted { answers: &[0, 1, 2, 3, 4, 5, 6, 7, 8, 9, 10], often: 4, count: 280 };
 
 /// Of the comparison of limited plans, and then of that of depots' dues.
 pub fn sample(seed: u64) -> Vec<Kept> {

@@ -15,9 +15,9 @@ use crate::plans::{expected, Expected};
 use crate::refusal::{self, OFFERED};
 use crate::sample::{Sample, Wanted, MOST_LENT};
 
-const PLANS: Wanted = Wanted { last: 8, often: 4, count: 300 };
+const PLANS: Wanted = Wanted { answers: &[0, 1, 2, 3, 4, 5, 6, 7, 8], often: 4, count: 300 };
 /// Every corner of depots' dues, plans and limited plans alike.
-pub const DUES: Wanted = Wanted { last: 0, often: 2, count: 0 };
+pub const DUES: Wanted = Wanted { answers: &[0], often: 2, count: 0 };
 const MOST_ROWS: usize = 12;
 
 /// Of the comparison of plans, and then of that of depots' dues.

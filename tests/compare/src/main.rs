@@ -9,12 +9,15 @@
 //!     compare limits COUNT SEED      the limiter's plans out of COUNT calls, and of all tiny plans
 //!     compare limit NUMBER SEED      one call of these again, both plans shown
 //!     compare dues COUNT SEED        plans of COUNT sheets where a depot has a due, and limited ones
+//!     compare imports COUNT SEED     the importer's sheets of COUNT texts, and of fixed ones
+//!     compare roots COUNT SEED       the importer's square root on COUNT numbers
 //!     compare checked COUNT SEED     the checker of demand 3 on COUNT plans of the Rust's
 //!     compare bench                  the port's route_feasible against the Rust's, timed
 //!     compare bench instructions     the same, counted by valgrind
 //!     compare bench SIDE CASE RUNS   one side of one case alone, for a profiler
 //!     compare bench plans ..         the planner against the Rust, in the same three ways
 //!     compare bench limits ..        the limiter against the Rust, likewise
+//!     compare bench imports          the importer beside the harness's own, timed
 //!     compare slowest METHOD SECONDS SEED FILE   a sheet that takes the planner long; for
 //!                                                METHOD `limiter`, a call of that
 //!     compare freeze SEED DIR        writes DIR/stdin and DIR/stdout, a sample to keep
@@ -27,6 +30,7 @@
 
 mod angles;
 mod bench;
+mod bench_imports;
 mod bench_limits;
 mod bench_plans;
 mod bench_sides;
@@ -38,11 +42,19 @@ mod example;
 mod fit;
 mod flavours;
 mod freeze;
+mod freeze_imports;
 mod freeze_limits;
 mod freeze_plans;
 mod freeze_refusals;
 mod generate;
 mod greedy;
+mod import_calls;
+mod import_draft;
+mod import_faults;
+mod import_fixed;
+mod import_layout;
+mod importer;
+mod imports;
 mod inserts;
 mod joins;
 mod kinds;
@@ -62,9 +74,11 @@ mod random;
 mod reference;
 mod refusal;
 mod refusals;
+mod roots;
 mod rounds;
 mod sample;
 mod selftest;
+mod selftest_imports;
 mod sheet;
 mod slow_limits;
 mod slow_starts;
@@ -85,8 +99,9 @@ use bench_plans::Planning;
 const USAGE: &str = "usage: compare selftest | refusals COUNT SEED | rounds COUNT SEED | \
                      plans COUNT SEED | plan NUMBER SEED | checked COUNT SEED | \
                      limits COUNT SEED | limit NUMBER SEED | dues COUNT SEED | \
-                     listings PROGRAM COUNT SEED | \
-                     bench [plans | limits] [instructions | SIDE CASE RUNS] | freeze SEED DIR | example DIR | \
+                     imports COUNT SEED | roots COUNT SEED | listings PROGRAM COUNT SEED | \
+                     bench [plans | limits] [instructions | SIDE CASE RUNS] | bench imports | \
+                     freeze SEED DIR | example DIR | \
                      slowest METHOD SECONDS SEED FILE";
 
 fn main() -> ExitCode {
@@ -96,6 +111,7 @@ fn main() -> ExitCode {
         ["selftest"] => Some(selftest::run()),
         ["bench", "plans", ref words @ ..] => bench_sides::run::<Planning>(words),
         ["bench", "limits", ref words @ ..] => bench_sides::run::<Limiting>(words),
+        ["bench", "imports"] => Some(bench_imports::run()),
         ["bench", ref words @ ..] => bench::run(words),
         ["slowest", method, seconds, seed, file] => slowest::run(method, seconds, seed, file),
         ["refusals", count, seed] => numbers(count, seed).map(|(c, s)| refusals::run(c, s)),
@@ -105,6 +121,8 @@ fn main() -> ExitCode {
         ["limits", count, seed] => numbers(count, seed).map(|(c, s)| limits::run(c, s)),
         ["limit", number, seed] => numbers(number, seed).map(|(n, s)| limits::show(n, s)),
         ["dues", count, seed] => numbers(count, seed).map(|(c, s)| dues::run(c, s)),
+        ["imports", count, seed] => numbers(count, seed).map(|(c, s)| imports::run(c, s)),
+        ["roots", count, seed] => numbers(count, seed).map(|(c, s)| roots::run(c, s)),
         ["listings", program, count, seed] => {
             numbers(count, seed).map(|(c, s)| listings::run(program, c, s))
         }

@@ -14,6 +14,7 @@ extern "C" {
         plan_out: *mut u8,
         plan_out_len: usize,
     ) -> u32;
+    fn import_solomon(text: *const u8, text_len: usize, sheet: *mut u8, sheet_len: usize) -> i32;
 }
 
 /// Refusals 1 to 8, 0 for an accepted sheet. The sheet is lent from memory of exactly its size.
@@ -43,6 +44,13 @@ pub fn limit(sheet: &[u8], plan_in: &[u8], greatest: u32, plan_out: &mut [u8]) -
     }
 }
 
+/// A text's sheet, written into `sheet`, and its length; or a refusal's number below 0.
+#[cfg(planner)]
+pub fn import(text: &[u8], sheet: &mut [u8]) -> i32 {
+    // SAFETY: as above.
+    unsafe { import_solomon(text.as_ptr(), text.len(), sheet.as_mut_ptr(), sheet.len()) }
+}
+
 #[cfg(not(planner))]
 pub fn check(_sheet: &[u8], _plan_len: usize) -> u32 {
     no_planner()
@@ -55,6 +63,11 @@ pub fn plan(_sheet: &[u8], _plan: &mut [u8]) -> u32 {
 
 #[cfg(not(planner))]
 pub fn limit(_sheet: &[u8], _plan_in: &[u8], _greatest: u32, _plan_out: &mut [u8]) -> u32 {
+    no_planner()
+}
+
+#[cfg(not(planner))]
+pub fn import(_text: &[u8], _sheet: &mut [u8]) -> i32 {
     no_planner()
 }
 
@@ -84,6 +97,7 @@ mod probe {
             vehicle: u32,
             which: u32,
         ) -> f64;
+        pub fn probe_root(n: u64) -> f64;
     }
 }
 
@@ -110,6 +124,13 @@ pub fn probe_figure(sheet: &[u8], route: &[u16], vehicle: usize, which: usize) -
     }
 }
 
+/// The square root that distances are made of.
+#[cfg(probe)]
+pub fn probe_root(n: u64) -> f64 {
+    // SAFETY: it is handed a number.
+    unsafe { probe::probe_root(n) }
+}
+
 #[cfg(not(probe))]
 pub fn probe_rounds(_sheet: &[u8], _stops: &[u16], _len: usize, _vehicle: usize) -> Option<usize> {
     no_probe()
@@ -117,6 +138,11 @@ pub fn probe_rounds(_sheet: &[u8], _stops: &[u16], _len: usize, _vehicle: usize)
 
 #[cfg(not(probe))]
 pub fn probe_figure(_sheet: &[u8], _route: &[u16], _vehicle: usize, _which: usize) -> f64 {
+    no_probe()
+}
+
+#[cfg(not(probe))]
+pub fn probe_root(_n: u64) -> f64 {
     no_probe()
 }
 

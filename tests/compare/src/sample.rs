@@ -3,13 +3,13 @@
 use crate::freeze::Kept;
 use crate::refusal::can_occur;
 
-/// No plan buffer, and no sheet, of a sample has more bytes.
+/// No buffer, no sheet and no text of a sample has more bytes.
 pub const MOST_LENT: usize = 8192;
 
-/// What a sample holds: answers from 0 up to the last, each of these and every kind of boundary so
-/// often, and in all so many calls at least.
+/// What a sample holds: each of these answers and every kind of boundary so often, and in all so many
+/// calls at least.
 pub struct Wanted {
-    pub last: usize,
+    pub answers: &'static [usize],
     pub often: usize,
     pub count: usize,
 }
@@ -17,8 +17,8 @@ pub struct Wanted {
 pub struct Sample {
     kept: Vec<Kept>,
     often: usize,
-    /// The number of records of each answer.
-    answers: Vec<usize>,
+    /// Each answer with the number of its records.
+    answers: Vec<(usize, usize)>,
     /// Each kind of boundary with the number of its records.
     kinds: Vec<(usize, usize)>,
 }
@@ -27,11 +27,13 @@ impl Sample {
     /// The calls that are kept out of all, each `consider`ed by its number.
     pub fn kept(
         kinds: impl Iterator<Item = usize>,
-        Wanted { last, often, count }: Wanted,
+        Wanted { answers, often, count }: Wanted,
         consider: impl Fn(&mut Sample, usize),
     ) -> Vec<Kept> {
         let kinds = kinds.map(|kind| (kind, 0)).collect();
-        let mut sample = Sample { kept: vec![], often, answers: vec![0; last + 1], kinds };
+        let answers = answers.iter().filter(|&&number| can_occur(number));
+        let answers = answers.map(|&number| (number, 0)).collect();
+        let mut sample = Sample { kept: vec![], often, answers, kinds };
         for number in 0.. {
             if sample.whole() && sample.kept.len() >= count {
                 break;
@@ -45,9 +47,7 @@ impl Sample {
 
     /// Whether all is met that has to be.
     fn whole(&self) -> bool {
-        let met = |(number, met): (usize, &usize)| *met >= self.often || !can_occur(number);
-        let answers = self.answers.iter().enumerate().all(met);
-        answers && self.kinds.iter().all(|&(_, met)| met >= self.often)
+        self.answers.iter().chain(&self.kinds).all(|&(_, met)| met >= self.often)
     }
 
     /// Takes a call that shows something new, and any where nothing is lacking.
@@ -58,10 +58,11 @@ impl Sample {
         asked: Vec<u8>,
     ) {
         let number = *right.as_ref().err().unwrap_or(&0) as usize;
-        let lacks = |&(kind, met): &(usize, usize)| seen(kind) && met < self.often;
-        let new = self.answers[number] < self.often || self.kinds.iter().any(lacks);
+        let is_new = |shown: bool, met: usize| shown && met < self.often;
+        let new = self.answers.iter().any(|&(answer, met)| is_new(answer == number, met))
+            || self.kinds.iter().any(|&(kind, met)| is_new(seen(kind), met));
         if new || self.whole() {
-            self.answers[number] += 1;
+            self.answers.iter_mut().for_each(|(of, met)| *met += usize::from(*of == number));
             self.kinds.iter_mut().for_each(|(kind, met)| *met += usize::from(seen(*kind)));
             self.kept.push(Kept { number, asked, line: line(right) });
         }

@@ -9,12 +9,12 @@ use crate::lawful::{judge, Claims};
 use crate::listing::listing;
 use crate::plan::{chains, encode_chains, plan_len, round_at, stop_at, Chains};
 use crate::plans::{Exact, Expected};
-use crate::promises;
 use crate::reference::{limit, plan, Problem};
 use crate::refusal::{accepted, limiter_accepted, refusal, METHODS, OFFERED};
 use crate::sheet::{field, Row, Sheet, Vehicle};
 use crate::sheet::{DEPOT, INSERTION, MAX_DISTANCE, NEAREST, NN_TW, PENALTY, REST, SAVINGS};
 use crate::sheet::{SWEEP, WINDOW};
+use crate::{promises, selftest_imports};
 
 const LISTING: &str = "\
 rounds 1 aside 0
@@ -24,13 +24,13 @@ stop 2 next 0 load 2 402C000000000000 402C000000000000
 ";
 
 #[derive(Default)]
-struct Tally {
+pub struct Tally {
     run: usize,
     failed: usize,
 }
 
 impl Tally {
-    fn expect<T: Debug + PartialEq>(&mut self, name: &str, got: T, want: T) {
+    pub fn expect<T: Debug + PartialEq>(&mut self, name: &str, got: T, want: T) {
         self.run += 1;
         if got != want {
             self.failed += 1;
@@ -55,6 +55,7 @@ pub fn run() -> ExitCode {
     limited_by_due(&mut tally);
     directions(&mut tally);
     explained(&mut tally);
+    selftest_imports::run(&mut tally);
     println!("selftest: {} run, {} failed", tally.run, tally.failed);
     ExitCode::from(u8::from(tally.failed > 0))
 }

@@ -1,0 +1,3 @@
+pub mod Sheet
+pub mod Numbered
+pub mod Laws

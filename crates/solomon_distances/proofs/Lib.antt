@@ -1,0 +1,3 @@
+pub mod Filling
+pub mod Floats
+pub mod Signed

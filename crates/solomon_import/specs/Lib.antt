@@ -1,0 +1,5 @@
+pub mod Instance
+pub mod Import
+pub mod Reading
+pub mod Writing
+pub mod Laws

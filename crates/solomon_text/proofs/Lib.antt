@@ -1,0 +1,3 @@
+pub mod LineEnds
+pub mod WordWalk
+pub mod Value

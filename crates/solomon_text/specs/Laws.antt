@@ -1,0 +1,4 @@
+pub mod Parts
+pub mod Lines
+pub mod Words
+pub mod Numbers

@@ -1,0 +1,4 @@
+pub mod Lines
+pub mod Numbers
+pub mod Kept
+pub mod Laws

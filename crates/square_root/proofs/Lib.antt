@@ -1,0 +1,4 @@
+pub mod Newton
+pub mod Digits
+pub mod Quotient
+pub mod Rounding

@@ -1,0 +1,2 @@
+pub mod ClosestRoot
+pub mod Laws
