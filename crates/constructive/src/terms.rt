@@ -3,9 +3,11 @@ use evaluation::checks;
 use evaluation::limits;
 use evaluation::limits::RouteLimits;
 use sheet::vehicle;
+ghost use mathlib.Core.Bool.{false};
 ghost use mathlib.Core.Path.{_≡_};
 ghost use Prim.Native.Nat.{_<_};
 ghost use Rattle.sheet.specs.Fields.{vehiclesOf};
+ghost use Rattle.evaluation.specs.Checks.{hasSoftWindows};
 ghost use Rattle.evaluation.specs.Routed.{Routed};
 ghost use Rattle.constructive.specs.Terms.{termsOf};
 
@@ -21,6 +23,18 @@ pub struct Terms {
     pub limits: RouteLimits,
 }
 
+// Whether the soft rules hold. A depot whose rounds are not checked has no window at all, so its rows are not read again.
+fn soft_rules(sheet: &[u8], depot: usize, members: &[u16], constrained: bool) -> bool
+    requires { ⌜ Routed (now sheet) depot (now members) ⌝ }
+    requires { ⌜ (constrained ≡ false → hasSoftWindows (now sheet) depot (now members) ≡ false) ⌝ }
+    ensures { λ r. ⌜ r ≡ hasSoftWindows (now (sheet .entry)) depot (now (members .entry)) ⌝ }
+{
+    if !constrained {
+        return false;
+    }
+    checks::has_soft_windows(sheet, depot, members)
+}
+
 // The terms of a depot with its members.
 pub fn terms_of(sheet: &[u8], depot: usize, index: u16, members: &[u16]) -> Terms
     requires { ⌜ Routed (now sheet) depot (now members) ⌝ }
@@ -30,7 +44,7 @@ pub fn terms_of(sheet: &[u8], depot: usize, index: u16, members: &[u16]) -> Term
     let own = vehicle::vehicle_at(sheet, index as usize);
     let limits = limits::limits_at(sheet, index as usize);
     let constrained = checks::route_checks_needed(sheet, depot, members, limits);
-    let soft = checks::has_soft_windows(sheet, depot, members);
+    let soft = soft_rules(sheet, depot, members, constrained);
     let fixed = vehicle::fixed_cost_in_distance(own);
     Terms {
         depot,

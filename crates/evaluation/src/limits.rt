@@ -52,16 +52,25 @@ fn latest_return(gate: Gate) -> Limit
     }
 }
 
+// Put together anew, so that neither has to lie in memory to be chosen from.
 fn lower(a: Limit, b: Limit) -> Limit
     ensures { λ r. ⌜ r ≡ lowerOf a b ⌝ }
 {
-    let Limit::Max(x) = a else {
-        return b;
-    };
-    let Limit::Max(y) = b else {
-        return a;
-    };
-    if y < x { b } else { a }
+    match a {
+        Limit::Unlimited => match b {
+            Limit::Unlimited => Limit::Unlimited,
+            Limit::Max(y) => Limit::Max(y),
+        },
+        Limit::Max(x) => match b {
+            Limit::Unlimited => Limit::Max(x),
+            Limit::Max(y) => {
+                if y < x {
+                    return Limit::Max(y);
+                }
+                Limit::Max(x)
+            }
+        },
+    }
 }
 
 fn returning_by(due: Limit, limits: RouteLimits) -> RouteLimits
