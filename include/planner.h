@@ -19,9 +19,16 @@
  *             neighbour passes over it on a vehicle without a rest.
  *   rest      Due on a vehicle with PLANNER_REST, unless the round without it is
  *             back by earliest. It stands right before the service of one stop, any
- *             one, and never on the way home; it starts at the later of arrival and
- *             earliest, not after latest, and its end is what the stop's window is
- *             held against.
+ *             one; it starts at the later of arrival and earliest, not after latest,
+ *             and its end is what the stop's window is held against.
+ *             With PLANNER_REST_AT_HOME it may also stand at the depot, on return. That
+ *             is tried only where a round would be turned down otherwise, for a window,
+ *             the rest, a maximum or the depot's due. The round without a rest must
+ *             miss no hard window; the rest starts at the later of its return and
+ *             earliest, not after latest, and its end is the duration, which has to
+ *             keep the limits as the distance has. All other figures are those of the
+ *             round without a rest. A round that this does not mend keeps the figures
+ *             that it has without the mark.
  *   limits    Demands sum to at most the capacity; distance and duration are at most
  *             the marked maxima, the maximum itself included, and the duration at most
  *             the due of the vehicle's depot, where that row has a window.
@@ -64,8 +71,8 @@
 /* The major number rises where bytes that a version accepts are refused or get another
    meaning, the minor one where something is added. */
 #define PLANNER_VERSION_MAJOR 2
-#define PLANNER_VERSION_MINOR 1
-#define PLANNER_VERSION "2.1"
+#define PLANNER_VERSION_MINOR 2
+#define PLANNER_VERSION "2.2"
 
 /* Bytes of stack to keep free for a call, beside what its thread takes otherwise:
    half as much again, or more, as any call was seen to take (tests/c/stack.c).
@@ -112,8 +119,9 @@ extern "C" {
  *        0  u32      id, different for each vehicle
  *        4  u32      depot, a row below the number of depots
  *        8  i32      capacity, 0 or more
- *       12  u32      marks, 0 to 7: sum of PLANNER_MAX_DISTANCE,
- *                    PLANNER_MAX_DURATION and PLANNER_REST
+ *       12  u32      marks, 0 to 15: sum of PLANNER_MAX_DISTANCE,
+ *                    PLANNER_MAX_DURATION, PLANNER_REST and, only with that one,
+ *                    PLANNER_REST_AT_HOME
  *       16  f64      cost per distance, 0, or 0.001 to 10^6
  *       24  f64      fixed cost, 0 to 10^9
  *       32  f64      max distance, 0 to 10^12   (zero if not marked)
@@ -155,10 +163,12 @@ extern "C" {
  *        8  u16      first stop; 0 is an empty round, which only limit_rounds
  *                    reads or writes
  *       10  u16      place of the rest: 1 is before the first stop, 2 before the
- *                    second; 0 is no rest
+ *                    second; one more than the stops is at the depot, on return; 0 is
+ *                    no rest
  *       12  u32      zero
  *       16  f64      distance, depot to depot
- *       24  f64      duration, from leaving the depot at 0 to the return
+ *       24  f64      duration, from leaving the depot at 0 to the return, or to the
+ *                    end of a rest there
  *       32  f64      lateness at soft windows, summed: an arrival after a hard due
  *                    does not count, though a round may have one (see
  *                    PLANNER_NEAREST_NEIGHBOR and limit_rounds)
@@ -258,7 +268,8 @@ enum {
 enum {
     PLANNER_MAX_DISTANCE = 1,
     PLANNER_MAX_DURATION = 2,
-    PLANNER_REST = 4
+    PLANNER_REST = 4,
+    PLANNER_REST_AT_HOME = 8 /* only with PLANNER_REST */
 };
 
 #ifdef __cplusplus
@@ -306,8 +317,8 @@ enum planner_refusal {
     PLANNER_BAD_ROW = 5,
     /* Distance or time out of range. */
     PLANNER_BAD_MATRIX = 6,
-    /* Field, mark or depot of a vehicle out of range, an unmarked field not
-       zero, or an id twice. */
+    /* Field, mark or depot of a vehicle out of range, PLANNER_REST_AT_HOME without
+       PLANNER_REST, an unmarked field not zero, or an id twice. */
     PLANNER_BAD_VEHICLE = 7,
     /* No vehicle, for savings, insertion or sweep. */
     PLANNER_NO_VEHICLE = 8,
@@ -371,7 +382,8 @@ uint32_t plan_rounds(const uint8_t *sheet, size_t sheet_len, uint8_t *plan, size
  * round walked anew; or the first refusal of enum planner_refusal that holds. Every
  * stop stands once in the plan out, and there are at most `greatest` rounds. Stops
  * that the plan in sets aside stay so; the chain of those set aside comes out
- * ascending. A round whose rest has no place has the figures of the walk without it.
+ * ascending. A round whose rest has no place, nor one at home where that is allowed,
+ * has the figures of the walk without it.
  * Stack: PLANNER_STACK.
  *
  *   sheet, sheet_len    as for check_sheet; of any method, with one depot

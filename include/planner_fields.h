@@ -378,7 +378,7 @@ static inline const char *planner_refusal_text(uint32_t number)
     case PLANNER_BAD_LENGTH: return "the sheet or a buffer is not of the length that the sheet asks for";
     case PLANNER_BAD_ROW: return "a field or a mark of a row is out of range, or an unmarked field is not zero";
     case PLANNER_BAD_MATRIX: return "a distance or a time is out of range";
-    case PLANNER_BAD_VEHICLE: return "a field, a mark or the depot of a vehicle is out of range, an unmarked field is not zero, or an id stands twice";
+    case PLANNER_BAD_VEHICLE: return "a field, a mark or the depot of a vehicle is out of range, a rest at home is marked without a rest, an unmarked field is not zero, or an id stands twice";
     case PLANNER_NO_VEHICLE: return "savings, insertion and sweep need a vehicle, and the sheet has none";
     case PLANNER_SEVERAL_DEPOTS: return "the sheet has several depots, and the limiter takes one";
     case PLANNER_BAD_PLAN: return "the plan has more rounds than the sheet has rows, an unknown vehicle, a link to no stop, or a stop that does not stand exactly once";

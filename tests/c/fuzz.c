@@ -54,7 +54,7 @@ static struct corpus accepted, refused, texts;
 static uint8_t signals[SIGNALS];
 static unsigned signal_count;
 static unsigned long sheets, answers[PLANNER_NO_VEHICLE + 1], planned[PLANNER_SWEEP + 1];
-static unsigned long limits, limit_answers[PLANNER_BAD_PLAN + 1], dropped;
+static unsigned long limits, limit_answers[PLANNER_BAD_PLAN + 1], dropped, home_rests, limited_home_rests;
 static unsigned long imports, import_answers[PLANNER_TOO_MANY_CUSTOMERS + 1];
 
 static void keep_fault(const char *name, const uint8_t *bytes, size_t len)
@@ -165,7 +165,7 @@ static unsigned marks_met(const uint8_t *records, unsigned n, unsigned width)
 {
     unsigned met = 0;
     for (unsigned i = 0; i < n; i++)
-        met |= 1u << (planner_get(records + width * i + AT_MARKS, 4) & 7);
+        met |= 1u << (planner_get(records + width * i + AT_MARKS, 4) & 15);
     return met;
 }
 
@@ -198,6 +198,7 @@ static int planned_is_new(const struct reading *r)
     int found = is_new(1, by << 16 | size_class(rounds) << 8 | size_class(r->aside));
     found |= is_new(2, by << 16 | size_class(r->rows) << 8 | r->vehicles);
     found |= is_new(3, by << 16 | incidents(r, rounds));
+    found |= is_new(15, by << 16 | size_class(r->home_rests) << 8 | size_class(rounds));
     found |= is_new(4, r->method << 16 | marks_met(row_of(r->sheet, 0), r->rows, PLANNER_ROW_BYTES));
     found |= is_new(5, r->method << 16 | fleet);
     found |= is_new(6, r->method << 16 | (unsigned)(planner_get(r->plan + PLANNER_PLAN_COST, 8) >> 52));
@@ -233,6 +234,7 @@ static int ask(struct sheet *s, struct reading *r)
         end("the plan is wrong");
     }
     planned[r->method]++;
+    home_rests += r->home_rests;
     if (planned_is_new(r))
         keep(&accepted, s->bytes, s->len);
     return 1;
@@ -256,6 +258,7 @@ static int limited_is_new(const struct reading *r)
     unsigned before = planner_plan_rounds(r->plan_in), after = planner_plan_rounds(r->plan);
     int found = is_new(11, size_class(before) << 16 | size_class(after) << 8 | size_class(r->aside));
     found |= is_new(12, size_class(before - after) << 16 | incidents(r, after));
+    found |= is_new(16, size_class(r->home_rests) << 8 | size_class(after));
     if (r->rows < 12)
         found |= is_new(13, links_class(r));
     return found;
@@ -278,6 +281,7 @@ static void ask_to_limit(struct sheet *s, const struct plan_in *p)
         end("the plan out is wrong");
     }
     dropped += planner_plan_rounds(p->bytes) > p->greatest;
+    limited_home_rests += r.home_rests;
     if (limited_is_new(&r))
         keep(&accepted, s->bytes, s->len);
 }
@@ -475,17 +479,18 @@ static void print_counts(const char *what, const unsigned long *counts, unsigned
 
 static int report(void)
 {
-    int lacking = answers[PLANNER_ACCEPTED] == 0 || dropped == 0 || import_answers[PLANNER_ACCEPTED] == 0;
+    int lacking = home_rests == 0 || limited_home_rests == 0 || dropped == 0 || import_answers[PLANNER_ACCEPTED] == 0;
     printf("fuzz: %lu sheets, %lu plans in and %lu texts, %lu calls\n", sheets, limits, imports, calls);
     print_counts("answers", answers, PLANNER_NO_VEHICLE);
     print_counts("planned by method", planned, PLANNER_SWEEP);
     print_counts("answers of the limiter", limit_answers, PLANNER_BAD_PLAN);
-    printf("fuzz: %lu plans out with fewer rounds\n", dropped);
+    printf("fuzz: %lu plans out with fewer rounds; rests at home: %lu in plans, %lu in plans out\n", dropped, home_rests,
+           limited_home_rests);
     print_counts("answers of the importer", import_answers, PLANNER_TOO_MANY_CUSTOMERS);
     printf("fuzz: corpus of %u sheets planned, %u refused and %u texts, %u signals\n", accepted.count, refused.count,
            texts.count, signal_count);
     if (lacking)
-        fprintf(stderr, "fuzz: nothing was planned, or limited, or imported\n");
+        fprintf(stderr, "fuzz: nothing was planned or limited, with a rest at home, or imported\n");
     return lacking;
 }
 

@@ -90,6 +90,17 @@ static void lend_largest(uint8_t *sheet)
     lend_cut(sheet, 1000);
 }
 
+/* Marks of a vehicle: up to 15, and a rest at home goes with a rest. */
+static void lend_marks(uint8_t *sheet)
+{
+    size_t len = plain_sheet(sheet, 2, 2, 0);
+    for (uint32_t marks = 0; marks < 40; marks++) {
+        int alone = (marks & (PLANNER_REST | PLANNER_REST_AT_HOME)) == PLANNER_REST_AT_HOME;
+        planner_set_vehicle_marks(sheet, 1, marks);
+        expect(sheet, len, marks > 15 || alone ? PLANNER_BAD_VEHICLE : PLANNER_ACCEPTED);
+    }
+}
+
 /* Random bytes, then the same behind a header that passes, so that the rest is read. */
 static void lend_random(uint8_t *sheet)
 {
@@ -377,6 +388,8 @@ int main(void)
     lend_sizes(sheet);
     lending = "the largest sheet";
     lend_largest(sheet);
+    lending = "every sum of a vehicle's marks";
+    lend_marks(sheet);
     lending = "random bytes";
     lend_random(sheet);
     lending = "accepted sheets";

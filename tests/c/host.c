@@ -101,6 +101,8 @@ static void print_round(const uint8_t *plan, unsigned k)
         printf("    stop %u: arrives at %g, leaves at %g with %d\n", stop, planner_stop_arrival(plan, stop),
                planner_stop_departure(plan, stop), (int)planner_stop_load(plan, stop));
     }
+    if (place == planner_round_rest_place(plan, k))
+        printf("    rest at the depot at %g\n", planner_round_rest_start(plan, k));
 }
 
 static void print_plan(const uint8_t *plan)
@@ -210,6 +212,17 @@ int main(void)
     planner_set_vehicle_rest_duration(s.bytes, 0, 5.0);
     plan_it("sheet A, nn_tw, a rest of 5 at 12", &s);
 
+    planner_set_vehicle_marks(s.bytes, 0, PLANNER_MAX_DURATION | PLANNER_REST);
+    planner_set_vehicle_max_duration(s.bytes, 0, 29.0);
+    planner_set_vehicle_earliest(s.bytes, 0, 20.0);
+    planner_set_vehicle_latest(s.bytes, 0, 24.0);
+    plan_it("sheet A, nn_tw, a rest of 5 from 20 to 24, duration at most 29", &s);
+    planner_set_vehicle_marks(s.bytes, 0, PLANNER_MAX_DURATION | PLANNER_REST | PLANNER_REST_AT_HOME);
+    struct plan rested = plan_it("the same, the rest at home too", &s);
+    limit_it("its plan within 1 round", &s, &rested, 1);
+    planner_set_vehicle_max_duration(s.bytes, 0, 28.0);
+    limit_it("the same, duration at most 28", &s, &rested, 1);
+
     s = sheet_a();
     s.len = 0;
     ask("0 bytes", &s);
@@ -242,6 +255,10 @@ int main(void)
     s = sheet_a();
     planner_set_vehicle_depot(s.bytes, 0, 1);
     ask("vehicle 7 at depot 1 of 1", &s);
+
+    s = sheet_a();
+    planner_set_vehicle_marks(s.bytes, 0, PLANNER_REST_AT_HOME);
+    ask("vehicle 7 with a rest at home and no rest", &s);
 
     s = without_vehicle(PLANNER_INSERTION);
     ask("insertion, 0 vehicles", &s);

@@ -15,7 +15,7 @@ struct sheet {
     size_t len, plan_len;
 };
 
-/* What a field of a record may hold; `most` is the end of a number's range. */
+/* What a field of a record may hold; `most` is the end of its range where that differs. */
 enum kind { COORDINATE, DEMAND, MARKS, NUMBER, ID, DEPOT, CAPACITY, RATE };
 struct field {
     unsigned at;
@@ -31,7 +31,7 @@ static const struct field row_fields[] = {
     {PLANNER_ROW_X, COORDINATE, 0, 0},
     {PLANNER_ROW_Y, COORDINATE, 0, 0},
     {PLANNER_ROW_DEMAND, DEMAND, 0, 0},
-    {PLANNER_ROW_MARKS, MARKS, 0, 0},
+    {PLANNER_ROW_MARKS, MARKS, 7, 0},
     {PLANNER_ROW_SERVICE, NUMBER, 1e9, 0},
     {PLANNER_ROW_READY, NUMBER, 1e9, PLANNER_WINDOW},
     {PLANNER_ROW_DUE, NUMBER, 1e9, PLANNER_WINDOW},
@@ -41,7 +41,7 @@ static const struct field vehicle_fields[] = {
     {PLANNER_VEHICLE_ID, ID, 0, 0},
     {PLANNER_VEHICLE_DEPOT, DEPOT, 0, 0},
     {PLANNER_VEHICLE_CAPACITY, CAPACITY, 0, 0},
-    {PLANNER_VEHICLE_MARKS, MARKS, 0, 0},
+    {PLANNER_VEHICLE_MARKS, MARKS, 15, 0},
     {PLANNER_VEHICLE_COST_PER_DISTANCE, RATE, 1e6, 0},
     {PLANNER_VEHICLE_FIXED_COST, NUMBER, 1e9, 0},
     {PLANNER_VEHICLE_MAX_DISTANCE, NUMBER, 1e12, PLANNER_MAX_DISTANCE},
@@ -141,10 +141,11 @@ static inline uint64_t draw_capacity(void)
     return strays() ? PICK(beyond) : PICK(within);
 }
 
-static inline uint64_t draw_marks(void)
+/* A vehicle's may have a rest at home without a rest: mend sets that right. */
+static inline uint64_t draw_marks(unsigned most)
 {
-    const uint64_t beyond[] = {8, 9, 0x10, 0x80000000, 0xffffffff, next_random(&state)};
-    return strays() ? PICK(beyond) : draw(8);
+    const uint64_t beyond[] = {most + 1, most + 2, 0x10, 0x18, 0x80000000, 0xffffffff, next_random(&state)};
+    return strays() ? PICK(beyond) : draw(most + 1);
 }
 
 static inline unsigned rows_in(const struct sheet *s)
@@ -237,6 +238,14 @@ static inline int id_is_taken(const struct sheet *s, unsigned v, uint32_t id)
     return 0;
 }
 
+/* A rest at home goes with a rest. */
+static inline void mend_rest(struct sheet *s, unsigned v)
+{
+    uint32_t marks = planner_vehicle_marks(s->bytes, v);
+    if ((marks & (PLANNER_REST | PLANNER_REST_AT_HOME)) == PLANNER_REST_AT_HOME)
+        planner_set_vehicle_marks(s->bytes, v, marks ^ PLANNER_REST_AT_HOME);
+}
+
 /* Makes what depends on other fields right again. */
 static inline void mend(struct sheet *s)
 {
@@ -244,6 +253,7 @@ static inline void mend(struct sheet *s)
         mend_record(row_of(s->bytes, r), row_fields, ROW_FIELDS, PLANNER_ROW_READY, PLANNER_ROW_DUE);
     unsigned depots = planner_depots(s->bytes);
     for (unsigned v = 0; v < vehicles_in(s); v++) {
+        mend_rest(s, v);
         mend_record(vehicle_of(s->bytes, v), vehicle_fields, VEHICLE_FIELDS, PLANNER_VEHICLE_EARLIEST,
                     PLANNER_VEHICLE_LATEST);
         if (planner_vehicle_depot(s->bytes, v) >= depots)
@@ -254,9 +264,9 @@ static inline void mend(struct sheet *s)
 }
 
 /* New marks, and numbers for the fields that they bring. */
-static inline void change_marks(uint8_t *record, const struct field *fields, unsigned n)
+static inline void change_marks(uint8_t *record, const struct field *fields, unsigned n, unsigned most)
 {
-    unsigned had = (unsigned)planner_get(record + AT_MARKS, 4), marks = (unsigned)draw_marks();
+    unsigned had = (unsigned)planner_get(record + AT_MARKS, 4), marks = (unsigned)draw_marks(most);
     planner_put(record + AT_MARKS, 4, marks);
     for (unsigned i = 0; i < n; i++)
         if (fields[i].mark & marks & ~had)
@@ -283,7 +293,7 @@ static inline void change_field(struct sheet *s, uint8_t *record, const struct f
     switch (field->kind) {
     case COORDINATE: planner_put(at, 4, draw_coordinate()); break;
     case DEMAND: planner_put(at, 4, draw_demand()); break;
-    case MARKS: change_marks(record, fields, n); break;
+    case MARKS: change_marks(record, fields, n, (unsigned)field->most); break;
     case ID: planner_put(at, 4, draw_id(s)); break;
     case DEPOT: planner_put(at, 4, draw_depot(s)); break;
     case CAPACITY: planner_put(at, 4, draw_capacity()); break;
@@ -496,7 +506,22 @@ static inline void fit_stop(struct sheet *s, const struct reading *r)
                    stop_record(r, stop) + (one_in(2) ? PLANNER_STOP_ARRIVAL : PLANNER_STOP_DEPARTURE), 1e9);
 }
 
-/* A round's vehicle that just carries it, reaches its end, or has its rest then or at the first stop. */
+/* A rest that fits at home alone: from the round's end on, and it ends just at the maximum duration. */
+static inline void fit_home(const struct reading *r, unsigned v, const uint8_t *round)
+{
+    uint8_t ended[8];
+    uint8_t *vehicle = vehicle_of(r->sheet, v);
+    uint32_t marks = planner_vehicle_marks(r->sheet, v);
+    planner_set_vehicle_marks(r->sheet, v, marks | PLANNER_MAX_DURATION | PLANNER_REST | PLANNER_REST_AT_HOME);
+    if (one_in(2))
+        planner_set_vehicle_rest_duration(r->sheet, v, 1 + draw(9));
+    put_beside(vehicle + PLANNER_VEHICLE_EARLIEST, round + PLANNER_ROUND_DURATION, 1e9);
+    put_beside(vehicle + PLANNER_VEHICLE_LATEST, round + PLANNER_ROUND_DURATION, 1e9);
+    planner_put_f64(ended, planner_get_f64(round + PLANNER_ROUND_DURATION) + planner_vehicle_rest_duration(r->sheet, v));
+    put_beside(vehicle + PLANNER_VEHICLE_MAX_DURATION, ended, 1e12);
+}
+
+/* A round's vehicle that just carries it, reaches its end, or has its rest then, at the first stop or at home. */
 static inline void fit_vehicle(const struct reading *r, unsigned rounds)
 {
     unsigned k = draw(rounds), v = vehicle_by_id(r, planner_round_id(r->plan, k));
@@ -504,7 +529,7 @@ static inline void fit_vehicle(const struct reading *r, unsigned rounds)
     uint8_t *vehicle = vehicle_of(r->sheet, v);
     uint32_t marks = planner_vehicle_marks(r->sheet, v);
     int32_t load = planner_round_load(r->plan, k);
-    switch (draw(4)) {
+    switch (draw(5)) {
     case 0: planner_set_vehicle_capacity(r->sheet, v, load - (load > 0 && one_in(2))); break;
     case 1:
         planner_set_vehicle_marks(r->sheet, v, marks | PLANNER_MAX_DISTANCE);
@@ -514,6 +539,7 @@ static inline void fit_vehicle(const struct reading *r, unsigned rounds)
         planner_set_vehicle_marks(r->sheet, v, marks | PLANNER_MAX_DURATION);
         put_beside(vehicle + PLANNER_VEHICLE_MAX_DURATION, round + PLANNER_ROUND_DURATION, 1e12);
         break;
+    case 3: fit_home(r, v, round); break;
     default:
         planner_set_vehicle_marks(r->sheet, v, marks | PLANNER_REST);
         put_beside(vehicle + PLANNER_VEHICLE_EARLIEST, round + PLANNER_ROUND_DURATION, 1e9);

@@ -1,9 +1,9 @@
 /*
  * A plan held to what docs/SCOPE.md says of its bytes, from the sheet and the plan
  * alone: every stop once, ids of vehicles, loads as running sums, the figures of
- * each round as they are walked with the rest where the plan has it, and zero bytes
- * everywhere else; a plan out of the limiter also to its plan in. Not whether another
- * plan would have been right.
+ * each round as they are walked with the rest where the plan has it, a rest at home
+ * where it mends the round and nowhere else, and zero bytes everywhere else; a plan out
+ * of the limiter also to its plan in. Not whether another plan would have been right.
  */
 #ifndef PLAN_CHECK_H
 #define PLAN_CHECK_H
@@ -13,16 +13,18 @@
 /* An accepted sheet, its plan, the plan in where that is a plan out, and the stops met in its chains so far. */
 struct reading {
     uint8_t *sheet, *plan, *plan_in;
-    unsigned rows, depots, vehicles, method, stops, aside;
+    unsigned rows, depots, vehicles, method, stops, aside, home_rests;
     uint8_t met[PLANNER_MOST_ROWS];
     double cost;
 };
 
-/* A round so far: record k of the plan, driven by vehicle v of the sheet. */
+/* A round so far: record k of the plan, driven by vehicle v of the sheet; and without the rest, its time and whether it
+   misses a hard window. */
 struct walked {
     unsigned k, v, last, place;
     uint32_t load;
-    double time, distance, lateness, lateness_cost;
+    double time, distance, lateness, lateness_cost, unrested;
+    int misses;
 };
 
 static inline uint8_t *stop_record(const struct reading *r, unsigned stop)
@@ -69,19 +71,38 @@ static inline double free_to_serve(const struct reading *r, const struct walked 
     return planner_round_rest_start(r->plan, w->k) + planner_vehicle_rest_duration(r->sheet, w->v);
 }
 
+/* When service starts for one that is free to serve then. */
+static inline double start_at(const struct reading *r, unsigned stop, double free)
+{
+    double ready = planner_row_ready(r->sheet, stop);
+    return planner_row_marks(r->sheet, stop) & PLANNER_WINDOW && free < ready ? free + (ready - free) : free;
+}
+
+/* Whether one that is free to serve then misses a hard window. */
+static inline int misses(const struct reading *r, unsigned stop, double free)
+{
+    uint32_t marks = planner_row_marks(r->sheet, stop);
+    return marks & PLANNER_WINDOW && !(marks & PLANNER_PENALTY) && free > planner_row_due(r->sheet, stop);
+}
+
+/* The same stop on the walk without a rest. */
+static inline void serve_unrested(const struct reading *r, struct walked *w, unsigned stop)
+{
+    double arrival = w->unrested + planner_time(r->sheet, w->last, stop);
+    w->misses |= misses(r, stop, arrival);
+    w->unrested = start_at(r, stop, arrival) + planner_row_service(r->sheet, stop);
+}
+
 /* The departure from a stop, its lateness counted. */
 static inline double serve(const struct reading *r, struct walked *w, unsigned stop, double arrival)
 {
     uint32_t marks = planner_row_marks(r->sheet, stop);
-    double start = free_to_serve(r, w, arrival), service = planner_row_service(r->sheet, stop);
-    double ready = planner_row_ready(r->sheet, stop), due = planner_row_due(r->sheet, stop);
-    if (!(marks & PLANNER_WINDOW))
-        return start + service;
-    if (start > due && marks & PLANNER_PENALTY) {
-        w->lateness += start - due;
-        w->lateness_cost += planner_row_penalty(r->sheet, stop) * (start - due);
+    double free = free_to_serve(r, w, arrival), due = planner_row_due(r->sheet, stop);
+    if (free > due && marks & PLANNER_WINDOW && marks & PLANNER_PENALTY) {
+        w->lateness += free - due;
+        w->lateness_cost += planner_row_penalty(r->sheet, stop) * (free - due);
     }
-    return start + (start < ready ? ready - start : 0.0) + service;
+    return start_at(r, stop, free) + planner_row_service(r->sheet, stop);
 }
 
 /* One stop more; NULL if its record is right. */
@@ -93,6 +114,7 @@ static inline const char *walk_to(struct reading *r, struct walked *w, unsigned 
     w->distance += planner_distance(r->sheet, w->last, stop);
     w->load += (uint32_t)planner_row_demand(r->sheet, stop);
     w->time = serve(r, w, stop, arrival);
+    serve_unrested(r, w, stop);
     w->last = stop;
     if (!none_set(record + PLANNER_STOP_SPARE, 2))
         return "a stop's unused bytes";
@@ -107,12 +129,79 @@ static inline const char *rest_fault(const struct reading *r, const struct walke
 {
     unsigned place = planner_round_rest_place(r->plan, w->k);
     double start = planner_round_rest_start(r->plan, w->k);
+    uint32_t marks = planner_vehicle_marks(r->sheet, w->v);
     if (place == 0)
         return none_set(round_record(r->plan, w->k) + PLANNER_ROUND_REST_START, 8) ? NULL : "a start without a rest";
-    if (place > w->place || !(planner_vehicle_marks(r->sheet, w->v) & PLANNER_REST))
+    if (!(marks & PLANNER_REST) || place > w->place + (marks & PLANNER_REST_AT_HOME ? 1u : 0u))
         return "a rest's place";
     if (!(start >= planner_vehicle_earliest(r->sheet, w->v)) || !(start <= planner_vehicle_latest(r->sheet, w->v)))
         return "a rest's start";
+    return NULL;
+}
+
+/* Whether a round of vehicle v keeps its maxima and its depot's due. */
+static inline int keeps_limits(const struct reading *r, unsigned v, double distance, double duration)
+{
+    uint32_t marks = planner_vehicle_marks(r->sheet, v);
+    unsigned depot = planner_vehicle_depot(r->sheet, v);
+    int closes = r->rows > 0 && planner_row_marks(r->sheet, depot) & PLANNER_WINDOW;
+    return !(marks & PLANNER_MAX_DISTANCE && distance > planner_vehicle_max_distance(r->sheet, v))
+           && !(marks & PLANNER_MAX_DURATION && duration > planner_vehicle_max_duration(r->sheet, v))
+           && !(closes && duration > planner_row_due(r->sheet, depot));
+}
+
+static inline int is_whole(double time)
+{
+    return time < 1e15 && time == (double)(int64_t)time;
+}
+
+/* The return with the rest before the stop at a place. Negative where that is after latest or misses a hard window; and
+   where a time is no whole number, since rounding may decide which place is taken then. */
+static inline double return_with_rest(const struct reading *r, const struct walked *w, unsigned place)
+{
+    unsigned depot = planner_vehicle_depot(r->sheet, w->v), last = depot, at = 0;
+    double time = 0.0, earliest = planner_vehicle_earliest(r->sheet, w->v);
+    for (unsigned stop = planner_round_first(r->plan, w->k); stop != 0; stop = next_of(r, r->plan, stop)) {
+        double arrival = time + planner_time(r->sheet, last, stop), start = arrival < earliest ? earliest : arrival;
+        double free = ++at == place ? start + planner_vehicle_rest_duration(r->sheet, w->v) : arrival;
+        if ((at == place && start > planner_vehicle_latest(r->sheet, w->v)) || misses(r, stop, free))
+            return -1.0;
+        time = start_at(r, stop, free) + planner_row_service(r->sheet, stop);
+        if (!is_whole(arrival) || !is_whole(free) || !is_whole(start_at(r, stop, free)) || !is_whole(time))
+            return -1.0;
+        last = stop;
+    }
+    return time + planner_time(r->sheet, last, depot);
+}
+
+/* Whether a round that rests at home passes without it: back by earliest, or with the rest before a stop. */
+static inline int needs_no_home(const struct reading *r, const struct walked *w, double distance, double unrested)
+{
+    for (unsigned place = 1; place <= w->place; place++) {
+        double returned = return_with_rest(r, w, place);
+        if (returned >= 0.0 && keeps_limits(r, w->v, distance, returned))
+            return 1;
+    }
+    return unrested <= planner_vehicle_earliest(r->sheet, w->v);
+}
+
+/* A rest at home stands where the walk without a rest, back at `unrested`, allows it and the round does not pass
+   otherwise; and a round that could have one and has none keeps its limits, and rests before a stop or needs no rest.
+   `returned` is its return with the plan's rest. */
+static inline const char *home_rest_fault(const struct reading *r, const struct walked *w, double distance, double returned,
+                                          double unrested)
+{
+    unsigned place = planner_round_rest_place(r->plan, w->k);
+    double earliest = planner_vehicle_earliest(r->sheet, w->v), start = unrested < earliest ? earliest : unrested;
+    int fits = planner_vehicle_marks(r->sheet, w->v) & PLANNER_REST_AT_HOME && !w->misses
+               && start <= planner_vehicle_latest(r->sheet, w->v)
+               && keeps_limits(r, w->v, distance, start + planner_vehicle_rest_duration(r->sheet, w->v));
+    if (place == w->place + 1 && (!fits || !holds(round_record(r->plan, w->k) + PLANNER_ROUND_REST_START, start)))
+        return "a rest at home";
+    if (place == w->place + 1)
+        return needs_no_home(r, w, distance, unrested) ? "a rest at home of a round that passes without it" : NULL;
+    if (fits && !(keeps_limits(r, w->v, distance, returned) && (place > 0 || returned <= earliest)))
+        return "no rest at home";
     return NULL;
 }
 
@@ -140,14 +229,16 @@ static inline int may_be_over(const struct reading *r, const struct walked *w)
 static inline const char *home_fault(struct reading *r, struct walked *w, unsigned depot)
 {
     const uint8_t *round = round_record(r->plan, w->k);
-    double distance = w->distance + planner_distance(r->sheet, w->last, depot);
+    double distance = w->distance + planner_distance(r->sheet, w->last, depot), way = planner_time(r->sheet, w->last, depot);
+    int at_home = planner_round_rest_place(r->plan, w->k) == w->place + 1;
+    double ended = planner_round_rest_start(r->plan, w->k) + planner_vehicle_rest_duration(r->sheet, w->v);
     if (!none_set(round + PLANNER_ROUND_SPARE, 4))
         return "a round's unused bytes";
     if ((uint32_t)planner_round_load(r->plan, w->k) != w->load)
         return "a round's load";
     if (!holds(round + PLANNER_ROUND_DISTANCE, distance))
         return "a round's distance";
-    if (!holds(round + PLANNER_ROUND_DURATION, w->time + planner_time(r->sheet, w->last, depot)))
+    if (!holds(round + PLANNER_ROUND_DURATION, at_home ? ended : w->time + way))
         return "a round's duration";
     if (!holds(round + PLANNER_ROUND_LATENESS, w->lateness) || !holds(round + PLANNER_ROUND_LATENESS_COST, w->lateness_cost))
         return "a round's lateness";
@@ -155,7 +246,9 @@ static inline const char *home_fault(struct reading *r, struct walked *w, unsign
         return "a load above capacity";
     r->cost += planner_vehicle_fixed_cost(r->sheet, w->v)
                + planner_vehicle_cost_per_distance(r->sheet, w->v) * (distance + w->lateness_cost);
-    return rest_fault(r, w);
+    r->home_rests += (unsigned)at_home;
+    const char *fault = rest_fault(r, w);
+    return fault != NULL ? fault : home_rest_fault(r, w, distance, w->time + way, w->unrested + way);
 }
 
 /* The number of vehicles if none has the id. */

@@ -90,8 +90,10 @@ static inline void draw_row(uint8_t *sheet, unsigned r, struct shape shape, uint
 
 static inline void draw_vehicle(uint8_t *sheet, unsigned v, struct shape shape, uint64_t *state)
 {
-    unsigned marks = below(state, 8);
+    unsigned marks = below(state, 16);
     unsigned earliest = below(state, 40) * shape.hours;
+    if (!(marks & PLANNER_REST))
+        marks &= ~(unsigned)PLANNER_REST_AT_HOME;
     planner_set_vehicle_id(sheet, v, 100 + v);
     planner_set_vehicle_depot(sheet, v, below(state, shape.depots));
     planner_set_vehicle_capacity(sheet, v, small(state, shape.load));

@@ -29,8 +29,17 @@ const SOURCES: [&str; 15] = [
     "models/solution.rs",
     "models/vehicle.rs",
 ];
-const GLUE: [&str; 5] =
-    ["lib.rs", "constructive/mod.rs", "distance/mod.rs", "evaluation/check.rs", "models/mod.rs"];
+const GLUE: [&str; 7] = [
+    "lib.rs",
+    "constructive/mod.rs",
+    "distance/mod.rs",
+    "evaluation/check.rs",
+    "home/mod.rs",
+    "home/evaluation.rs",
+    "models/mod.rs",
+];
+/// Laid once more, below `home`, where they ask its `evaluation`.
+const ASKING: [&str; 2] = ["constructive/", "fleet.rs"];
 
 fn main() {
     let here = PathBuf::from(env::var_os("CARGO_MANIFEST_DIR").expect("set by cargo"));
@@ -42,8 +51,11 @@ fn main() {
     };
     let sources = SOURCES.map(|file| (sources.join("src").join(file), out.join(file)));
     let glue = GLUE.map(|file| (here.join("glue").join(file), out.join(file)));
-    for (from, to) in sources.iter().chain(&glue) {
-        if let Err(error) = lay(from, to) {
+    let files = SOURCES.iter().chain(&GLUE).zip(sources.iter().chain(&glue));
+    for (file, (from, to)) in files {
+        let again = ASKING.iter().any(|asking| file.starts_with(asking));
+        let again = again.then(|| out.join("home").join(file));
+        if let Err(error) = lay(from, to, again.as_deref()) {
             let from = from.display();
             println!("cargo::error={from}: {error} (U_ROUTING_SRC names the u-routing folder)");
             return;
@@ -54,13 +66,20 @@ fn main() {
 }
 
 /// Copies one file. A last line that is a doc comment of an item the copy lacks gets an empty
-/// item to stand on; every other byte is the original's.
-fn lay(from: &Path, to: &Path) -> io::Result<()> {
+/// item to stand on; every other byte is the original's. What is laid `again` names another module.
+fn lay(from: &Path, to: &Path, again: Option<&Path>) -> io::Result<()> {
     println!("cargo::rerun-if-changed={}", from.display());
     let mut text = fs::read_to_string(from)?;
     if text.lines().last().is_some_and(|line| line.starts_with("///")) {
         text.push_str("const _: () = ();\n");
     }
+    if let Some(again) = again {
+        write(again, &text.replace("crate::evaluation", "crate::home::evaluation"))?;
+    }
+    write(to, &text)
+}
+
+fn write(to: &Path, text: &str) -> io::Result<()> {
     fs::create_dir_all(to.parent().expect("a file has a folder"))?;
     fs::write(to, text)
 }

@@ -240,14 +240,28 @@ static void draw_stop(const struct map *m, unsigned row)
     fputs("</g>\n", m->out);
 }
 
+/* How many rounds rest at a depot. */
+static unsigned rests_at(const struct map *m, unsigned row)
+{
+    unsigned count = 0;
+    for (unsigned k = 0; k < m->r->rounds; k++)
+        count += m->r->round[k].rests_home && m->r->round[k].depot == row;
+    return count;
+}
+
 static void draw_depot(const struct map *m, unsigned row)
 {
     const uint8_t *sheet = m->r->sheet.bytes;
+    unsigned rests = rests_at(m, row);
     int r = radius(m) + 2;
     fprintf(m->out, "<g><title>depot %u", row);
     if (planner_row_marks(sheet, row) & PLANNER_WINDOW)
         fprintf(m->out, ", rounds are home by %s", plain(planner_row_due(sheet, row)));
+    if (rests > 0)
+        fprintf(m->out, ", %u round%s a rest there", rests, rests == 1 ? " has" : "s have");
     fputs("</title>\n", m->out);
+    if (rests > 0)
+        disc(m->out, m->x[row], m->y[row], r + 8, "none", rest_look);
     square(m->out, m->x[row], m->y[row], r);
     number(m, row, r, "#ffffff");
     fputs("</g>\n", m->out);
@@ -267,8 +281,16 @@ static void legend_of_round(struct map *m, unsigned k)
         return;
     m->legend_y += LINE;
     fit(m->out, LEGEND_X + 34, m->legend_y, 13, FAINT_INK, LEGEND_ROOM - 34, "%u stop%s, distance %s, back at %s", round->stops,
-        plural(round->stops), plain(round->distance), plain(round->duration));
+        plural(round->stops), plain(round->distance), plain(round->returned));
     m->legend_y += GAP;
+}
+
+static int rests_home(const struct map *m)
+{
+    unsigned count = 0;
+    for (unsigned row = 0; row < depots_there(m->r); row++)
+        count += rests_at(m, row);
+    return count > 0;
 }
 
 static void legend_of_marks(struct map *m)
@@ -280,7 +302,7 @@ static void legend_of_marks(struct map *m)
     disc(m->out, LEGEND_X + 213, y - 5, 9, "none", rest_look);
     letter(m->out, LEGEND_X + 30, y, 13, FAINT_INK, "start", "depot");
     letter(m->out, LEGEND_X + 130, y, 13, FAINT_INK, "start", "set aside");
-    letter(m->out, LEGEND_X + 230, y, 13, FAINT_INK, "start", "rest before it");
+    letter(m->out, LEGEND_X + 230, y, 13, FAINT_INK, "start", rests_home(m) ? "rest there" : "rest before it");
     letter(m->out, LEGEND_X, y + 2 * LINE, 12, FAINTER_INK, "start", "A picture of the plan's bytes, outside the proof.");
 }
 

@@ -91,6 +91,8 @@ static void print_vehicle(const uint8_t *sheet, unsigned v)
     if (marks & PLANNER_REST)
         printf(", rest of %s from %s to %s", plain(planner_vehicle_rest_duration(sheet, v)),
                plain(planner_vehicle_earliest(sheet, v)), plain(planner_vehicle_latest(sheet, v)));
+    if (marks & PLANNER_REST_AT_HOME)
+        fputs(", at home too", stdout);
     putchar('\n');
 }
 

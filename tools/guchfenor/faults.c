@@ -102,11 +102,11 @@ static void read_whole_field(struct reader *r, const char *field, size_t at, int
         add(r, field, at, "%ld, above %ld", (long)value, (long)most);
 }
 
-static uint32_t read_marks(struct reader *r, size_t at, const char *names)
+static uint32_t read_marks(struct reader *r, size_t at, uint32_t most, const char *names)
 {
     uint32_t marks = (uint32_t)planner_get(r->bytes + r->record + at, 4);
-    if (marks > 7)
-        add(r, "marks", at, "%lu, above 7: marks are a sum of %s", (unsigned long)marks, names);
+    if (marks > most)
+        add(r, "marks", at, "%lu, above %lu: marks are a sum of %s", (unsigned long)marks, (unsigned long)most, names);
     return marks;
 }
 
@@ -181,7 +181,7 @@ static void read_row(struct reader *r, unsigned row)
     read_whole_field(r, "horizontal coordinate", PLANNER_ROW_X, -1000000, 1000000);
     read_whole_field(r, "vertical coordinate", PLANNER_ROW_Y, -1000000, 1000000);
     read_whole_field(r, "demand", PLANNER_ROW_DEMAND, 0, 1000000);
-    uint32_t marks = read_marks(r, PLANNER_ROW_MARKS, "1 depot, 2 window and 4 penalty");
+    uint32_t marks = read_marks(r, PLANNER_ROW_MARKS, 7, "1 depot, 2 window and 4 penalty");
     for (size_t i = 0; i < sizeof row_ranges / sizeof *row_ranges; i++)
         read_range(r, &row_ranges[i], marks);
 }
@@ -246,7 +246,10 @@ static void read_vehicle(struct reader *r, unsigned vehicle)
         add(r, "depot", PLANNER_VEHICLE_DEPOT, "%lu, and the sheet has %u depot%s, counted from 0",
             (unsigned long)planner_vehicle_depot(r->bytes, vehicle), depots, plural(depots));
     read_whole_field(r, "capacity", PLANNER_VEHICLE_CAPACITY, 0, INT32_MAX);
-    uint32_t marks = read_marks(r, PLANNER_VEHICLE_MARKS, "1 max distance, 2 max duration and 4 rest");
+    uint32_t marks = read_marks(r, PLANNER_VEHICLE_MARKS, 15, "1 max distance, 2 max duration, 4 rest and 8 rest at home");
+    if (marks & PLANNER_REST_AT_HOME && !(marks & PLANNER_REST))
+        add(r, "marks", PLANNER_VEHICLE_MARKS, "%lu: mark 8 (rest at home) goes with mark 4 (rest), which is not there",
+            (unsigned long)marks);
     for (size_t i = 0; i < sizeof vehicle_ranges / sizeof *vehicle_ranges; i++)
         read_range(r, &vehicle_ranges[i], marks);
     read_rate(r);

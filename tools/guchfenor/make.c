@@ -128,6 +128,7 @@ static const struct field vehicle_fields[] = {
     {"max-distance", 1, {"a distance", NULL, NULL}, PLANNER_VEHICLE_MAX_DISTANCE, PLANNER_MAX_DISTANCE},
     {"max-duration", 1, {"a duration", NULL, NULL}, PLANNER_VEHICLE_MAX_DURATION, PLANNER_MAX_DURATION},
     {"rest", 3, {"the earliest start", "the latest start", "the rest's duration"}, PLANNER_VEHICLE_EARLIEST, PLANNER_REST},
+    {"home", 0, {NULL, NULL, NULL}, 0, PLANNER_REST_AT_HOME},
 };
 enum { ROW_FIELDS = sizeof row_fields / sizeof *row_fields };
 enum { VEHICLE_FIELDS = sizeof vehicle_fields / sizeof *vehicle_fields };
@@ -266,7 +267,7 @@ static int take_vehicle_word(struct maker *m, struct record *record)
         planner_set_vehicle_depot(m->sheet, m->vehicle, (uint32_t)value);
         return 1;
     }
-    return wrong(m, "expected capacity, depot, cost, fixed, max-distance, max-duration or rest, and found %s",
+    return wrong(m, "expected capacity, depot, cost, fixed, max-distance, max-duration, rest or home, and found %s",
                  quoted(word));
 }
 
@@ -562,6 +563,7 @@ const struct command make_command = {
     "    max-distance D       of a round\n"
     "    max-duration T       of a round\n"
     "    rest EARLIEST LATEST DURATION\n"
+    "    home                 the rest may be taken at the depot too, on return\n"
     "  legs straight        distances are straight lines, as exact as an f64 is; so too\n"
     "                       where nothing is said of legs\n"
     "  legs rounded         straight lines, to whole numbers\n"

@@ -9,7 +9,7 @@
  *     stop 10 5  demand 3  service 2          row 2
  *     stop 20 5  demand 1  window 10 40       row 3: a hard window
  *     stop 30 9  window 0 15  penalty 2.5     row 4: a soft one, late arrivals cost
- *     vehicle 7  capacity 5  cost 1  fixed 20  rest 30 45 10
+ *     vehicle 7  capacity 5  cost 1  fixed 20  rest 30 45 10  home
  *     vehicle 8  capacity 9  depot 1  max-distance 200  max-duration 90
  *     legs rounded                            straight lines, to whole numbers
  *     speed 2                                 times are distances by 2

@@ -112,6 +112,15 @@ static void take_visit(struct reading *r, unsigned k, unsigned stop)
     r->visit_of[stop] = r->visits++;
 }
 
+/* Back at the depot, one step from the plan's last departure. */
+static double return_of(const struct reading *r, const struct round *round)
+{
+    if (round->stops == 0)
+        return planner_time(r->sheet.bytes, round->depot, round->depot);
+    const struct visit *last = &r->visit[round->first + round->stops - 1];
+    return last->departure + planner_time(r->sheet.bytes, last->stop, round->depot);
+}
+
 /* Each sum as the planner makes it, one step from the plan's own figures. */
 static void compare_round(struct reading *r, unsigned k)
 {
@@ -130,11 +139,11 @@ static void compare_round(struct reading *r, unsigned k)
         left = visit->departure;
         last = visit->stop;
     }
-    if (round->stops == 0)
+    if (round->stops == 0 && !round->rests_home)
         return;
     compare(r, k, "load", 0, (double)round->load, (double)load);
     compare(r, k, "distance", 0, round->distance, distance + planner_distance(sheet, last, round->depot));
-    compare(r, k, "duration", 0, round->duration, left + planner_time(sheet, last, round->depot));
+    compare(r, k, "duration", 0, round->duration, round->rests_home ? round->rest_end : return_of(r, round));
 }
 
 static void compare_lateness(struct reading *r, unsigned k)
@@ -154,13 +163,14 @@ static void compare_rest(struct reading *r, unsigned k)
 {
     const struct round *round = &r->round[k];
     double earliest = planner_vehicle_earliest(r->sheet.bytes, round->vehicle);
+    uint32_t mark = round->rests_home ? PLANNER_REST_AT_HOME : PLANNER_REST;
     if (round->rest_place == 0) {
         compare(r, k, "start of a rest", 0, round->rest_start, 0);
         return;
     }
-    double arrival = r->visit[round->first + round->rest_place - 1].arrival;
+    double arrival = round->rests_home ? round->returned : r->visit[round->first + round->rest_place - 1].arrival;
     compare(r, k, "start of the rest", 0, round->rest_start, arrival < earliest ? earliest : arrival);
-    if (!(planner_vehicle_marks(r->sheet.bytes, round->vehicle) & PLANNER_REST))
+    if (!(planner_vehicle_marks(r->sheet.bytes, round->vehicle) & mark))
         compare(r, k, "place of a rest", 0, round->rest_place, 0);
 }
 
@@ -215,11 +225,13 @@ static int take_round(struct reading *r, unsigned k)
     take_figures(r, k);
     for (unsigned stop = planner_round_first(r->plan.bytes, k); stop != 0; stop = planner_stop_next(r->plan.bytes, stop))
         take_visit(r, k, stop);
-    if (round->rest_place > round->stops) {
+    if (round->rest_place > round->stops + 1) {
         tell("%s: round %u, byte %lu: its rest stands before stop %u of %u", r->plan.name, k + 1,
              (unsigned long)(planner_round_at(k) + PLANNER_ROUND_REST_PLACE), round->rest_place, round->stops);
         return WRONG;
     }
+    round->rests_home = round->rest_place == round->stops + 1;
+    round->returned = round->rests_home ? return_of(r, round) : round->duration;
     compare_round(r, k);
     compare_lateness(r, k);
     compare_rest(r, k);

@@ -23,10 +23,12 @@ struct round {
     uint32_t id;
     unsigned vehicle, depot, rest_place;
     unsigned first, stops; /* its visits */
+    int rests_home;        /* whether its rest stands at the depot, after the last stop */
     long load, capacity;
     int closes, is_late; /* whether its depot has a window, and it is back after the due */
     double due;          /* of the depot */
     double distance, duration, lateness, lateness_cost, rest_start, rest_end;
+    double returned; /* the duration, or when a rest at the depot could start */
 };
 
 struct reading {

@@ -9,7 +9,7 @@
 enum column { PLACE, STOP, ARRIVAL, REST, WAITING, START, DEPARTURE, LOAD, WINDOW, LATE, COLUMNS };
 enum { CELL = 72 };
 
-/* One line for the names and one for each stop; a column without content is left out. */
+/* One line for the names, one for each stop and one for a rest at the depot; a column without content is left out. */
 struct table {
     char cell[PLANNER_MOST_ROWS + 1][COLUMNS][CELL];
     unsigned lines, width[COLUMNS];
@@ -59,6 +59,18 @@ static void put_visit(const struct round *round, const struct visit *visit)
     table.lines++;
 }
 
+/* A rest at the depot, after the last stop. */
+static void put_home(const struct round *round)
+{
+    set(PLACE, "%u", round->rest_place);
+    set(STOP, "depot");
+    set(ARRIVAL, "%s", plain(round->returned));
+    set(REST, "%s to %s", plain(round->rest_start), plain(round->rest_end));
+    if (round->rest_start > round->returned)
+        set(WAITING, "%s", plain(round->rest_start - round->returned));
+    table.lines++;
+}
+
 static void print_line(FILE *out, unsigned line)
 {
     char text[COLUMNS * (CELL + 2) + 1] = "";
@@ -84,13 +96,18 @@ static void print_limits(FILE *out, const uint8_t *sheet, unsigned vehicle)
     if (marks & PLANNER_REST)
         fprintf(out, ", rest of %s from %s to %s", plain(planner_vehicle_rest_duration(sheet, vehicle)),
                 plain(planner_vehicle_earliest(sheet, vehicle)), plain(planner_vehicle_latest(sheet, vehicle)));
+    if (marks & PLANNER_REST_AT_HOME)
+        fputs(", at home too", out);
 }
 
 static void print_end(FILE *out, const struct reading *r, const struct round *round)
 {
-    fprintf(out, "  back at depot %u at %s%s; distance %s", round->depot, plain(round->duration),
-            round->is_late ? " AFTER ITS DUE" : "", plain(round->distance));
-    if (round->rest_place > 0)
+    const char *late = round->is_late ? " AFTER ITS DUE" : "";
+    fprintf(out, "  back at depot %u at %s%s; distance %s", round->depot, plain(round->returned), round->rests_home ? "" : late,
+            plain(round->distance));
+    if (round->rests_home)
+        fprintf(out, "; rest there, %s to %s%s", plain(round->rest_start), plain(round->rest_end), late);
+    else if (round->rest_place > 0)
         fprintf(out, "; rest before stop %u, %s to %s", r->visit[round->first + round->rest_place - 1].stop,
                 plain(round->rest_start), plain(round->rest_end));
     if (round->lateness != 0 || round->lateness_cost != 0)
@@ -107,13 +124,15 @@ static void print_round(FILE *out, const struct reading *r, unsigned k)
     if (round->closes)
         fprintf(out, ", home by %s", plain(round->due));
     fputc('\n', out);
-    if (round->stops == 0) {
+    if (round->stops == 0 && !round->rests_home) {
         fputs("  empty\n", out);
         return;
     }
     begin_table();
     for (unsigned i = 0; i < round->stops; i++)
         put_visit(round, &r->visit[round->first + i]);
+    if (round->rests_home)
+        put_home(round);
     for (unsigned line = 0; line < table.lines; line++)
         print_line(out, line);
     print_end(out, r, round);
@@ -129,6 +148,8 @@ static void print_totals(FILE *out, const struct reading *r)
         lateness += r->round[k].lateness;
         lateness_cost += r->round[k].lateness_cost;
         load += r->round[k].load;
+        if (r->round[k].rests_home)
+            waiting += r->round[k].rest_start - r->round[k].returned;
     }
     for (unsigned i = 0; i < r->visits; i++)
         waiting += r->visit[i].waiting;
@@ -203,9 +224,11 @@ const struct command show_command = {
     "depot, load against capacity, its limits and when it has to be home (the depot's\n"
     "due: AFTER ITS DUE where it is not), and for each stop the arrival, the rest and the\n"
     "waiting, the start of service, the departure, the load after it, its window and how\n"
-    "late it is (MISSED: a hard window; a soft one costs); then totals, vehicles that make\n"
-    "several rounds, and the stops set aside. Times are in the sheet's unit, up to three\n"
-    "decimals. Arrival, departure, loads, sums and the rest's start are the plan's; waiting,\n"
-    "start, the rest's end and how late a stop is are worked out with the sheet.\n\n"
+    "late it is (MISSED: a hard window; a soft one costs); a rest at the depot on return\n"
+    "has a line after the stops. Then come totals, vehicles that make several rounds, and\n"
+    "the stops set aside. Times are in the sheet's unit, up to three decimals. Arrival,\n"
+    "departure, loads, sums and the rest's start are the plan's; waiting, start, the rest's\n"
+    "end, the return before a rest at the depot and how late a stop is are worked out with\n"
+    "the sheet.\n\n"
     "A plan whose counts or links do not fit the sheet is told and not followed. One whose\n"
     "figures are not what the sheet gives is shown, and told; the status is then 1.\n"};

@@ -198,8 +198,12 @@ static void draw_bars(unsigned k, double y)
         draw_bar(SERVICE, y, k, visit->start, visit->departure, "stop", visit->stop);
         left = visit->departure;
     }
-    if (round->stops > 0)
-        draw_bar(DRIVING, y, k, left, round->duration, "back to depot", round->depot);
+    if (round->stops > 0 || round->rests_home)
+        draw_bar(DRIVING, y, k, left, round->returned, "back to depot", round->depot);
+    if (round->rests_home) {
+        draw_bar(WAITING, y, k, round->returned, round->rest_start, "for the rest at depot", round->depot);
+        draw_bar(REST, y, k, round->rest_start, round->rest_end, "at depot", round->depot);
+    }
 }
 
 static void label_visits(unsigned k, double y)
@@ -288,7 +292,7 @@ static void draw_strip(unsigned k, int top)
             colour_of(k));
     fit(strips.out, 32, top + 13, 13, INK, NAME_ROOM, "round %u: vehicle %lu", k + 1, (unsigned long)round->id);
     fit(strips.out, 32, top + 29, 11, FAINT_INK, NAME_ROOM, "load %ld of %ld, back at %s", round->load, round->capacity,
-        plain(round->duration));
+        plain(round->returned));
     draw_windows(k, top);
     draw_bars(k, bars);
     draw_closing(round, bars);

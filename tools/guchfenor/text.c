@@ -38,6 +38,8 @@ static void write_vehicle(FILE *out, const uint8_t *sheet, unsigned v)
     if (marks & PLANNER_REST)
         fprintf(out, "  rest %s %s %s", exact(planner_vehicle_earliest(sheet, v)), exact(planner_vehicle_latest(sheet, v)),
                 exact(planner_vehicle_rest_duration(sheet, v)));
+    if (marks & PLANNER_REST_AT_HOME)
+        fputs("  home", out);
     fputc('\n', out);
 }
 

@@ -2,3 +2,4 @@ pub mod Walking
 pub mod Onward
 pub mod Windowed
 pub mod ByRest
+pub mod Soonest

@@ -1,8 +1,8 @@
 -- One turn of the walk with a clock: it goes on, stops once no label is left, or ends. Assumes nothing.
-use mathlib.Core.Path.{_≡_, sym, ap, _∙_}
+use mathlib.Core.Path.{_≡_, refl, sym, ap, _∙_}
 use Prim.Native.Nat.{ℕ, _+_, _≤_, _<_}
 use native.Mathlib.Omega.{arith}
-use mathlib.Core.Bool.{false}
+use mathlib.Core.Bool.{Bool, true, false, _||_, cond, true≢false}
 use mathlib.Core.List.{List}
 use lib.ListN.{length, drop, getD}
 use lib.Ieee.{Float}
@@ -10,16 +10,19 @@ use Rattle.lists.specs.Laws.Fold.{fold-turn, fold-done}
 use Rattle.sheet.specs.Fields.{rowsOf}
 use Rattle.sheet.specs.Values.{nought, distanceOf, timeOf}
 use Rattle.sheet.specs.declared.vehicle.VehicleBreak.{VehicleBreak}
-use Rattle.sheet.specs.declared.vehicle.Rest.the-variants.{Required}
+use Rattle.sheet.specs.declared.vehicle.Rest.the-variants.{NoRest as restless, Required}
+use Rattle.evaluation_clock.specs.declared.label.Served.{Served}
+use Rattle.evaluation_clock.specs.declared.label.Served.the-variants.{Done, Refused}
 use Rattle.evaluation_clock.specs.declared.clock.Scheduled.the-variants.{NotFound}
 use Rattle.evaluation_clock.specs.declared.clock.BreakClock.{BreakClock}
 use Rattle.evaluation_clock.specs.declared.clock.Pushed.{Pushed}
 use Rattle.evaluation_clock.specs.Sums.{_⊕_}
 use Rattle.evaluation_clock.specs.Clocked.{Clocked}
 use Rattle.evaluation.specs.Routed.{Routed}
-use Rattle.evaluation_clock.specs.Clock.{started, movedOf, aliveOf, finishOf, clockOf, breakClock, pushedOf}
+use Rattle.evaluation_clock.specs.Clock.{started, movedOf, served, aliveOf, unrested, finishOf, clockOf, breakClock, pushedOf}
 use Rattle.evaluation.specs.Walk.{Position, driveTo, walkedOver, homeFrom, scheduledOf}
-use Rattle.evaluation.specs.Laws.Walk.{dead-over, dead-home}
+use Rattle.evaluation.specs.Soonest.{soonerOf, soonestOf}
+use Rattle.evaluation.specs.Laws.Walk.{dead-over, dead-home, walked-rest, walked-place, plainFrom, plain-walk}
 
 abbrev pub positionAt : BreakClock → Float → Position
 positionAt c distance = record { clock = clockOf c; distance = distance }
@@ -85,10 +88,37 @@ module _ (s route : List ℕ) (depot : ℕ) (b : VehicleBreak) (c₀ : BreakCloc
   unfolding scheduledOf
   began = ap (λ (c : BreakClock). homeFrom s depot (walkedOver s (positionAt c nought) route)) e
 
-  pub gone : aliveOf (walkedOver s (positionAt c₀ nought) route .clock) ≡ false → NotFound ≡ scheduledOf s depot (Required b) route
-  gone d = sym (dead-home s depot (walkedOver s (positionAt c₀ nought) route) d) ∙ began
+  -- the walk without a rest is the clock's label that has it still to take
+  plain : plainFrom s depot (walkedOver s (positionAt c₀ nought) route) ≡ scheduledOf s depot restless route
+  plain = ap (λ (c : BreakClock). plainFrom s depot (walkedOver s (positionAt c nought) route)) e ∙ plain-walk s depot (Required b) route
 
-  pub home : (c : BreakClock) (distance : Float) → walkedOver s (positionAt c₀ nought) route ≡ positionAt c distance
-      → finishOf (clockOf c) (distance ⊕ distanceOf s (c .prev) depot) (timeOf s (c .prev) depot) ≡ scheduledOf s depot (Required b) route
-  unfolding homeFrom
-  home c distance d = ap (homeFrom s depot) (sym d) ∙ began
+  dead-plain : (x y : Served) (distance back : Float) → (served x || served y) ≡ false → unrested x distance back ≡ NotFound
+  unfolding unrested
+  dead-plain (Done l) y distance back d = absurd (true≢false d)
+  dead-plain Refused y distance back d = refl
+
+  pub gone : (home : Bool) → aliveOf (walkedOver s (positionAt c₀ nought) route .clock) ≡ false → NotFound ≡ soonestOf home s depot b route
+  unfolding aliveOf soonerOf
+  gone home d =
+      let p = walkedOver s (positionAt c₀ nought) route in
+      let x : scheduledOf s depot (Required b) route ≡ NotFound = sym began ∙ dead-home s depot p d in
+      let y : scheduledOf s depot restless route ≡ NotFound = sym plain ∙ dead-plain (p .clock .before) (p .clock .after) _ _ d in
+      rw (x, y) (none home)
+    where
+      none : (t : Bool) → NotFound ≡ cond t NotFound NotFound
+      none true = refl
+      none false = refl
+
+  module _ (c : BreakClock) (distance : Float) (d : walkedOver s (positionAt c₀ nought) route ≡ positionAt c distance) where
+    pub home : finishOf (clockOf c) (distance ⊕ distanceOf s (c .prev) depot) (timeOf s (c .prev) depot) ≡ scheduledOf s depot (Required b) route
+    unfolding homeFrom
+    home = ap (homeFrom s depot) (sym d) ∙ began
+
+    kept : c .rest ≡ b
+    kept = let z : Required (c .rest) ≡ Required b = ap (λ (p : Position). p .clock .rest) (sym d) ∙ walked-rest s (positionAt c₀ nought) route ∙ ap (λ (k : BreakClock). Required (k .rest)) e in cc
+
+    placed : c .place ≡ 1 + length route
+    placed = ap (λ (p : Position). p .clock .place) (sym d) ∙ walked-place s (positionAt c₀ nought) route ∙ ap (λ (k : BreakClock). k .place + length route) e
+
+    pub at-home : soonerOf (c .rest) (c .place) (unrested (c .before) (distance ⊕ distanceOf s (c .prev) depot) (timeOf s (c .prev) depot)) (finishOf (clockOf c) (distance ⊕ distanceOf s (c .prev) depot) (timeOf s (c .prev) depot)) ≡ soonestOf true s depot b route
+    at-home = rw (home, kept, placed, ← plain, d) refl

@@ -3,7 +3,7 @@ use Prim.Native.Nat.{ℕ}
 use mathlib.Core.Bool.{Bool, true, false, _&&_, cond}
 use mathlib.Core.List.{List}
 use lib.Ieee.{Float, lt, le}
-use Rattle.sheet.specs.Values.{stopOf, vehicleOf}
+use Rattle.sheet.specs.Values.{stopOf, vehicleOf, restsHomeAt}
 use Rattle.sheet.specs.declared.customer.Window.{Window}
 use Rattle.sheet.specs.declared.customer.Gate.{Gate}
 use Rattle.sheet.specs.declared.customer.Gate.the-variants.{Open, Hard, Soft}
@@ -16,7 +16,7 @@ use Rattle.evaluation.specs.declared.limits.RouteLimits.{RouteLimits}
 
 -- its maxima and its rest, each there where it is marked
 abbrev pub limitsOf : Vehicle → RouteLimits
-limitsOf v = record { «max_distance» = v .«max_distance»; «max_duration» = v .«max_duration»; rest = v .rest }
+limitsOf v = record { «max_distance» = v .«max_distance»; «max_duration» = v .«max_duration»; rest = v .rest; «at_home» = false }
 
 -- "trucks must be home by its due time": a depot's due, where its row has a window, whatever its penalty
 abbrev pub latestReturn : Gate → Limit
@@ -30,13 +30,13 @@ lowerOf Unlimited b = b
 lowerOf (Max x) Unlimited = Max x
 lowerOf (Max x) (Max y) = cond (lt y x) (Max y) (Max x)
 
--- "a round's duration must also be no later than its depot's due"
-abbrev pub returningBy : Limit → RouteLimits → RouteLimits
-returningBy due l = record { «max_distance» = l .«max_distance»; «max_duration» = lowerOf (l .«max_duration») due; rest = l .rest }
+-- "a round's duration must also be no later than its depot's due"; and whether the rest may be taken at home
+abbrev pub returningBy : Limit → Bool → RouteLimits → RouteLimits
+returningBy due home l = record { «max_distance» = l .«max_distance»; «max_duration» = lowerOf (l .«max_duration») due; rest = l .rest; «at_home» = home }
 
 -- read from a sheet: the vehicle is told by its index, and its depot is its own
 unfoldable pub limitsAt : List ℕ → ℕ → RouteLimits
-limitsAt s v = returningBy (latestReturn (stopOf s (vehicleOf s v .depot) .gate)) (limitsOf (vehicleOf s v))
+limitsAt s v = returningBy (latestReturn (stopOf s (vehicleOf s v .depot) .gate)) (restsHomeAt s v) (limitsOf (vehicleOf s v))
 
 abbrev pub noMaximum : Limit → Bool
 noMaximum Unlimited = true

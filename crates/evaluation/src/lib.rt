@@ -1,5 +1,6 @@
 // What a round is worth: its times, its lateness and its rest, and whether its vehicle allows it.
 pub mod checks;
+pub mod home;
 pub mod keeping;
 pub mod limits;
 pub mod schedule;
@@ -8,9 +9,11 @@ use evaluation_clock::clock::Schedule;
 use evaluation_clock::clock::Scheduled;
 use limits::RouteLimits;
 use sheet::vehicle::Rest;
+use sheet::vehicle::VehicleBreak;
 ghost use mathlib.Core.Path.{_≡_};
+ghost use Rattle.sheet.specs.declared.vehicle.Rest.the-variants.{Required};
 ghost use Rattle.evaluation.specs.Routed.{Routed};
-ghost use Rattle.evaluation.specs.Verdict.{heldTo, isFeasible, evalOf};
+ghost use Rattle.evaluation.specs.Verdict.{noSchedule, heldTo, mendedBy, isFeasible, evalOf};
 ghost use Rattle.evaluation.specs.Feasible.{routeFeasible, routeEval, pricedDistance, costOf, effectiveCost};
 
 pub enum RouteEval {
@@ -45,6 +48,45 @@ pub fn kept_by(limits: RouteLimits, scheduled: Scheduled) -> bool
     }
 }
 
+// The figures with the rest at home, where the walk without it misses no hard window.
+pub fn eval_home(limits: RouteLimits, rest: VehicleBreak, place: u16, plain: Scheduled) -> RouteEval
+    ensures { λ r. ⌜ r ≡ evalOf (mendedBy limits rest place plain noSchedule) ⌝ }
+{
+    match plain {
+        Scheduled::Found(s) => {
+            if home::mends(limits, rest, s.distance, s.duration) {
+                return RouteEval::Allowed(home::rested(rest, place, s));
+            }
+            RouteEval::NotAllowed
+        }
+        Scheduled::NotFound => RouteEval::NotAllowed,
+    }
+}
+
+// The figures of a round of a vehicle with a rest, where it is feasible. The walk without the rest is made only where it can
+// mend what is turned down.
+pub fn eval_rested(
+    sheet: &[u8],
+    route: &[u16],
+    depot: usize,
+    limits: RouteLimits,
+    rest: VehicleBreak,
+) -> RouteEval
+    requires { ⌜ Routed (now sheet) depot (now route) ⌝ }
+    requires { ⌜ limits .rest ≡ Required rest ⌝ }
+    ensures { λ r. ⌜ r ≡ routeEval (now (sheet .entry)) depot limits (now (route .entry)) ⌝ }
+{
+    let eval = eval_by(limits, schedule::schedule(sheet, route, depot, rest, false));
+    let RouteEval::NotAllowed = eval else {
+        return eval;
+    };
+    if !limits.at_home {
+        return RouteEval::NotAllowed;
+    }
+    let place = (route.len() + 1) as u16;
+    eval_home(limits, rest, place, schedule::walk(sheet, route, depot))
+}
+
 // Whether a round from `depot` and back misses no hard window, has its rest placed or needs none, and keeps the limits.
 // Capacity is not asked here.
 pub fn route_feasible(sheet: &[u8], route: &[u16], depot: usize, limits: RouteLimits) -> bool
@@ -54,7 +96,10 @@ pub fn route_feasible(sheet: &[u8], route: &[u16], depot: usize, limits: RouteLi
     let rest = limits.rest;
     match rest {
         Rest::NoRest => kept_by(limits, schedule::walk(sheet, route, depot)),
-        Rest::Required(b) => kept_by(limits, schedule::schedule(sheet, route, depot, b)),
+        Rest::Required(b) => kept_by(
+            limits,
+            schedule::schedule(sheet, route, depot, b, limits.at_home),
+        ),
     }
 }
 
@@ -66,7 +111,7 @@ pub fn route_eval(sheet: &[u8], route: &[u16], depot: usize, limits: RouteLimits
     let rest = limits.rest;
     match rest {
         Rest::NoRest => eval_by(limits, schedule::walk(sheet, route, depot)),
-        Rest::Required(b) => eval_by(limits, schedule::schedule(sheet, route, depot, b)),
+        Rest::Required(b) => eval_rested(sheet, route, depot, limits, b),
     }
 }
 

@@ -15,6 +15,7 @@ pub struct RouteLimits {
     pub max_distance: Limit,
     pub max_duration: Limit,
     pub rest: Rest,
+    pub at_home: bool,
 }
 
 // Limits are inclusive: a figure that equals its maximum keeps it.
@@ -27,7 +28,7 @@ fn within(max: Limit, x: f64) -> bool
     }
 }
 
-// The vehicle's own limits, without its depot's due.
+// The vehicle's own limits, without its depot's due and without a rest at home.
 pub fn limits_of(vehicle: Vehicle) -> RouteLimits
     ensures { λ r. ⌜ r ≡ limitsOf vehicle ⌝ }
 {
@@ -38,6 +39,7 @@ pub fn limits_of(vehicle: Vehicle) -> RouteLimits
         max_distance,
         max_duration,
         rest,
+        at_home: false,
     }
 }
 
@@ -73,8 +75,8 @@ fn lower(a: Limit, b: Limit) -> Limit
     }
 }
 
-fn returning_by(due: Limit, limits: RouteLimits) -> RouteLimits
-    ensures { λ r. ⌜ r ≡ returningBy due limits ⌝ }
+fn returning_by(due: Limit, at_home: bool, limits: RouteLimits) -> RouteLimits
+    ensures { λ r. ⌜ r ≡ returningBy due «at_home» limits ⌝ }
 {
     let max_distance = limits.max_distance;
     let own = limits.max_duration;
@@ -84,6 +86,7 @@ fn returning_by(due: Limit, limits: RouteLimits) -> RouteLimits
         max_distance,
         max_duration,
         rest,
+        at_home,
     }
 }
 
@@ -97,7 +100,8 @@ pub fn limits_at(sheet: &[u8], index: usize) -> RouteLimits
     let depot = vehicle.depot as usize;
     let home = customer::stop_at(sheet, depot);
     let gate = home.gate;
-    returning_by(latest_return(gate), limits_of(vehicle))
+    let at_home = vehicle::rests_home(sheet, index);
+    returning_by(latest_return(gate), at_home, limits_of(vehicle))
 }
 
 impl RouteLimits {

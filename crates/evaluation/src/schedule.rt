@@ -1,4 +1,5 @@
 // The walk of a round from `depot` and back, without a rest and with one.
+use crate::home;
 use evaluation_clock::clock;
 use evaluation_clock::clock::BreakClock;
 use evaluation_clock::clock::Scheduled;
@@ -10,8 +11,9 @@ use sheet::matrix;
 use sheet::vehicle::VehicleBreak;
 ghost use mathlib.Core.Path.{_≡_};
 ghost use Rattle.evaluation.specs.Routed.{Routed};
-ghost use Rattle.sheet.specs.declared.vehicle.Rest.the-variants.{NoRest as restless, Required};
+ghost use Rattle.sheet.specs.declared.vehicle.Rest.the-variants.{NoRest as restless};
 ghost use Rattle.evaluation.specs.Walk.{scheduledOf};
+ghost use Rattle.evaluation.specs.Soonest.{soonestOf};
 
 // Without a rest, up to the first hard window that is missed.
 pub fn walk(sheet: &[u8], route: &[u16], depot: usize) -> Scheduled
@@ -36,10 +38,16 @@ pub fn walk(sheet: &[u8], route: &[u16], depot: usize) -> Scheduled
     Scheduled::Found(clock::home(label, distance, back, RestAnswer::NoRest))
 }
 
-// With a rest, for as long as the clock is alive.
-pub fn schedule(sheet: &[u8], route: &[u16], depot: usize, rest: VehicleBreak) -> Scheduled
+// With a rest, for as long as the clock is alive; with `home` the rest at the depot too, where that ends sooner.
+pub fn schedule(
+    sheet: &[u8],
+    route: &[u16],
+    depot: usize,
+    rest: VehicleBreak,
+    home: bool,
+) -> Scheduled
     requires { ⌜ Routed (now sheet) depot (now route) ⌝ }
-    ensures { λ r. ⌜ r ≡ scheduledOf (now (sheet .entry)) depot (Required rest) (now (route .entry)) ⌝ }
+    ensures { λ r. ⌜ r ≡ soonestOf home (now (sheet .entry)) depot rest (now (route .entry)) ⌝ }
 {
     let mut clock = BreakClock::new(rest, depot);
     let mut distance = 0.0;
@@ -53,5 +61,9 @@ pub fn schedule(sheet: &[u8], route: &[u16], depot: usize, rest: VehicleBreak) -
         clock = pushed.clock;
     }
     distance = distance + matrix::distance(sheet, clock.prev, depot);
-    clock.finish(sheet, distance, depot)
+    let found = clock.finish(sheet, distance, depot);
+    if !home {
+        return found;
+    }
+    home::finish(clock, sheet, distance, depot, found)
 }

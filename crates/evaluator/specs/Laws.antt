@@ -1,2 +1,3 @@
-pub mod Finite
 pub mod Agree
+pub mod Home
+pub mod Finite

@@ -81,20 +81,21 @@ abbrev pub progressOf : List ℕ → Placed → Progress → List ℕ → Progre
 progressOf s t p rows = foldl (visitedOf s t) p rows
 
 -- ---- the round
-unfoldable pub recordOf : List ℕ → ℕ → RestAnswer → Progress → Record
-recordOf s depot rest p = record {
+-- home is the place after the last stop, so of a rest that stands there "the duration is its end"
+unfoldable pub recordOf : List ℕ → ℕ → Placed → Progress → Record
+recordOf s depot t p = record {
   load = p .load;
   distance = p .distance ⊕ distanceOf s (p .prev) depot;
-  duration = p .departure ⊕ timeOf s (p .prev) depot;
+  duration = readyFor (t .answer) (t .duration) (p .place) (p .departure ⊕ timeOf s (p .prev) depot);
   lateness = p .lateness;
   «lateness_cost» = p .«lateness_cost»;
-  rest = rest;
+  rest = t .answer;
 }
 
 unfoldable pub buildRoute : List ℕ → ℕ → RouteLimits → List ℕ → Record
 buildRoute s depot limits route =
     let t = placedOf s depot limits route in
-    recordOf s depot (t .answer) (progressOf s t (beginOf depot) route)
+    recordOf s depot t (progressOf s t (beginOf depot) route)
 
 -- ---- the plan's cost
 -- `route_cost`: the fixed cost, plus the cost per distance times the distance

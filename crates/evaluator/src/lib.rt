@@ -1,4 +1,5 @@
 // A round's record: what each stop's visit and the whole round come to, and what a plan costs.
+use evaluation::RouteEval;
 use evaluation::limits::RouteLimits;
 use evaluation::schedule;
 use evaluation_clock::clock::Scheduled;
@@ -9,12 +10,14 @@ use sheet::customer::Gate;
 use sheet::matrix;
 use sheet::vehicle::Rest;
 use sheet::vehicle::Vehicle;
+use sheet::vehicle::VehicleBreak;
 ghost use mathlib.Core.Path.{_≡_};
 ghost use Prim.Native.Nat.{_+_, _*_, _≤_, _<_};
 ghost use Rattle.sheet.specs.Accepted.{Accepted};
 ghost use Rattle.sheet.specs.Fields.{rowsOf};
+ghost use Rattle.sheet.specs.declared.vehicle.Rest.the-variants.{Required};
 ghost use Rattle.evaluation.specs.Routed.{Routed};
-ghost use Rattle.evaluation.specs.Verdict.{heldTo, placedRest};
+ghost use Rattle.evaluation.specs.Verdict.{heldTo, verdictOn, placedRest};
 ghost use Rattle.evaluator.specs.Record.{placedOf, readyFor, departsAt, lateAfter, costAfter, beginOf, visitedOf, recordOf, buildRoute, routeCost, priceStart, priceWith};
 ghost use Rattle.evaluator.specs.Driven.{Driven};
 
@@ -56,6 +59,29 @@ fn answer(scheduled: Scheduled) -> RestAnswer
     }
 }
 
+// Where a vehicle that has a rest takes it. The limits are asked only where it may be at home: that is for a round that they
+// turn down, and one that it does not mend keeps the schedule's.
+fn rest_answer(
+    sheet: &[u8],
+    route: &[u16],
+    depot: usize,
+    limits: RouteLimits,
+    rest: VehicleBreak,
+) -> RestAnswer
+    requires { ⌜ Routed (now sheet) depot (now route) ⌝ }
+    requires { ⌜ limits .rest ≡ Required rest ⌝ }
+    ensures { λ r. ⌜ r ≡ placedRest (verdictOn (now (sheet .entry)) depot limits (now (route .entry))) ⌝ }
+{
+    if !limits.at_home {
+        return answer(schedule::schedule(sheet, route, depot, rest, false));
+    }
+    let eval = evaluation::eval_rested(sheet, route, depot, limits, rest);
+    match eval {
+        RouteEval::Allowed(figures) => figures.rest,
+        RouteEval::NotAllowed => answer(schedule::schedule(sheet, route, depot, rest, false)),
+    }
+}
+
 // The rest that a vehicle takes on a round; none where the round has no schedule.
 pub fn place_rest(sheet: &[u8], route: &[u16], depot: usize, limits: RouteLimits) -> Placed
     requires { ⌜ Routed (now sheet) depot (now route) ⌝ }
@@ -71,7 +97,7 @@ pub fn place_rest(sheet: &[u8], route: &[u16], depot: usize, limits: RouteLimits
             }
         }
         Rest::Required(b) => {
-            let answer = answer(schedule::schedule(sheet, route, depot, b));
+            let answer = rest_answer(sheet, route, depot, limits, b);
             Placed {
                 answer,
                 duration: b.duration,
@@ -80,7 +106,7 @@ pub fn place_rest(sheet: &[u8], route: &[u16], depot: usize, limits: RouteLimits
     }
 }
 
-// When the vehicle is ready for the stop counted `place`: on arrival, or after the rest before it.
+// When the vehicle is ready at the place counted so, a stop or home: on arrival, or after the rest there.
 fn ready_for(answer: RestAnswer, duration: f64, place: u16, arrival: f64) -> f64
     ensures { λ r. ⌜ r ≡ readyFor answer duration place arrival ⌝ }
 {
@@ -177,19 +203,21 @@ impl Progress {
     }
 
     // Home at `depot`.
-    pub fn record(self, sheet: &[u8], depot: usize, rest: RestAnswer) -> Record
+    pub fn record(self, sheet: &[u8], depot: usize, placed: Placed) -> Record
         requires { ⌜ Accepted (now sheet) ⌝ }
         requires { ⌜ (self .prev < rowsOf (now sheet)) × (depot < rowsOf (now sheet)) ⌝ }
-        ensures { λ r. ⌜ r ≡ recordOf (now (sheet .entry)) depot rest self ⌝ }
+        ensures { λ r. ⌜ r ≡ recordOf (now (sheet .entry)) depot placed self ⌝ }
     {
         let prev = self.prev;
+        let answer = placed.answer;
+        let back = self.departure + matrix::travel_time(sheet, prev, depot);
         Record {
             load: self.load,
             distance: self.distance + matrix::distance(sheet, prev, depot),
-            duration: self.departure + matrix::travel_time(sheet, prev, depot),
+            duration: ready_for(answer, placed.duration, self.place, back),
             lateness: self.lateness,
             lateness_cost: self.lateness_cost,
-            rest,
+            rest: answer,
         }
     }
 }
@@ -204,8 +232,7 @@ pub fn build_route(sheet: &[u8], route: &[u16], depot: usize, limits: RouteLimit
     for i in 0..route.len() {
         progress = progress.visited(sheet, placed, route[i] as usize);
     }
-    let answer = placed.answer;
-    progress.record(sheet, depot, answer)
+    progress.record(sheet, depot, placed)
 }
 
 // What a round of `distance` costs.

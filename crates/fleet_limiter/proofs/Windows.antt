@@ -63,7 +63,7 @@ module _ (s rows : List ℕ) (e : hasTimeWindows s 0 rows ≡ false) where
 
   -- a vehicle without limits needs no check then
   abbrev free : RouteLimits
-  free = record { «max_distance» = Unlimited; «max_duration» = Unlimited; rest = NoRest }
+  free = record { «max_distance» = Unlimited; «max_duration» = Unlimited; rest = NoRest; «at_home» = false }
 
   each : Every (Windowless s) rows
   unfolding routeChecksNeeded isUnlimited

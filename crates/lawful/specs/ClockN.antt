@@ -1,10 +1,10 @@
 -- The clock of two labels over natural numbers: the earliest departure with the rest still to take, and with it taken.
 -- It is the Rust's clock where no window is soft, so that a label is its time alone.
 use Prim.Native.Nat.{ℕ}
-use mathlib.Core.Bool.{Bool, true, false, cond}
+use mathlib.Core.Bool.{Bool, true, false, _||_, cond}
 use mathlib.Core.List.{List, [], _∷_}
 use lib.Dec.{ltb}
-use Rattle.lawful.specs.Lawful.{Walk, failed, left, homeOf, rests, stopN, homeN, keepsMaxima, unneeded, plainWalk}
+use Rattle.lawful.specs.Lawful.{Walk, failed, left, homeOf, rests, stopN, homeN, keepsMaxima, unneeded, plainWalk, homePlace}
 
 pub record ClockN : Type 0 where
   pub before : Walk
@@ -36,6 +36,6 @@ unfoldable pub onwardN : List ℕ → ℕ → ClockN → ℕ → List ℕ → Wa
 onwardN s v c prev [] = homewardN s v (homeN s v prev (c .before)) (homeN s v prev (c .after))
 onwardN s v c prev (i ∷ is) = onwardN s v (pushN s v prev i c) i is
 
--- whether the walk, by the clock where the vehicle has a rest, keeps the maxima
+-- whether the walk, by the clock where the vehicle has a rest, keeps the maxima, or the one with the rest at home does
 unfoldable pub feasibleN : List ℕ → ℕ → List ℕ → Bool
-feasibleN s v is = cond (rests s v) (keepsMaxima s v is (onwardN s v startN (homeOf s v) is)) (plainWalk s v is)
+feasibleN s v is = cond (rests s v) (keepsMaxima s v is (onwardN s v startN (homeOf s v) is) || homePlace s v is) (plainWalk s v is)

@@ -137,10 +137,23 @@ unfoldable pub somePlace : List ℕ → ℕ → List ℕ → ℕ → Bool
 somePlace s v is zero = false
 somePlace s v is (suc n) = somePlace s v is n || keepsMaxima s v is (durationN s v (suc n) is)
 
+-- "Drivers may now rest at the depot on return. Vehicle mark 8 allows it."
+abbrev pub mayRestHome : List ℕ → ℕ → Bool
+mayRestHome s v = marked 8 (vehicleMarks s (vehicleAt s v))
+
+-- "a rest may start at the later of unrested return and earliest, not after latest, and the duration is its end, if the unrested walk misses no hard window"
+abbrev pub restedAtHome : List ℕ → ℕ → Walk → Walk
+restedAtHome s v failed = failed
+restedAtHome s v (left duration) = rested s v duration
+
+-- "Trying every place for the rest includes this last one on marked vehicles"
+abbrev pub homePlace : List ℕ → ℕ → List ℕ → Bool
+homePlace s v is = cond (mayRestHome s v) (keepsMaxima s v is (restedAtHome s v (durationN s v 0 is))) false
+
 unfoldable pub lawful : List ℕ → ℕ → List ℕ → Bool
 lawful s v is =
     cond (rests s v)
-    ((unneeded s v (durationN s v 0 is) && plainWalk s v is) || somePlace s v is (length is))
+    ((unneeded s v (durationN s v 0 is) && plainWalk s v is) || somePlace s v is (length is) || homePlace s v is)
     (plainWalk s v is)
 
 -- "It keeps capacity if its demands sum to no more than its vehicle's."

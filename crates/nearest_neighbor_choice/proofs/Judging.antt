@@ -1,19 +1,45 @@
--- A stop judged: it loses, is out, or is taken; and the best of all stops left, one by one. Assumes nothing.
+-- A stop judged: it keeps the limits, or not; it loses, is out, or is taken; and the best of all stops left, one by one. Assumes nothing.
 use mathlib.Core.Path.{_≡_, refl, sym, ap, _∙_}
 use Prim.Native.Nat.{ℕ, _+_, _-_, _≤_, _<_}
 use native.Mathlib.Numerals.{add-one}
 use native.Mathlib.Omega.{arith}
-use mathlib.Core.Bool.{Bool, true, false}
+use mathlib.Core.Bool.{Bool, true, false, _||_, or-false}
 use mathlib.Core.List.{List, [], _∷_}
 use lib.ListN.{length, getD, take, drop}
 use lib.Seq.{drop-cons, drop-length}
 use lib.Ieee.{Float}
 use Rattle.evaluation.specs.Routed.{Routed}
+use Rattle.evaluation_clock.specs.Clock.{movedOf}
+use Rattle.evaluation.specs.Verdict.{verdictOf}
+use Rattle.evaluation.specs.declared.limits.RouteLimits.{RouteLimits}
+use Rattle.evaluation.proofs.ByRest.{either-passes}
 use Rattle.nearest_neighbor_choice.specs.declared.choice.StopChoice.{StopChoice}
 use Rattle.nearest_neighbor_choice.specs.declared.choice.StopChoice.the-variants.{NoStop, Best}
 use Rattle.nearest_neighbor_choice.specs.Choice.{Offer, winsOf, betterStop, choose}
 use Rattle.nearest_neighbor_choice.specs.Offers.{offerIf}
+use Rattle.nearest_neighbor_choice.specs.declared.partial.PartialClock.{PartialClock}
+use Rattle.nearest_neighbor_choice.specs.declared.partial.PartialClock.the-variants.{NoClock, Kept}
+use Rattle.nearest_neighbor_choice.specs.Partial.{allowsBy, allowsOnWay, allowsHome}
 
+-- ---- the limits are kept on the way, or with the rest at home
+pub unmarked : (s : List ℕ) (depot : ℕ) (limits : RouteLimits) (kept : PartialClock) (i : ℕ) (distance : Float) → limits .«at_home» ≡ false → allowsHome s depot limits kept i distance ≡ false
+unfolding allowsHome
+unmarked s depot limits NoClock i distance e = refl
+unmarked s depot limits (Kept c) i distance e = rw e refl
+
+split : (s : List ℕ) (depot : ℕ) (limits : RouteLimits) (kept : PartialClock) (i : ℕ) (distance duration : Float) → allowsBy s depot limits kept i distance duration ≡ (allowsOnWay s depot limits kept i distance duration || allowsHome s depot limits kept i distance)
+unfolding allowsBy allowsOnWay allowsHome verdictOf movedOf
+split s depot limits NoClock i distance duration = sym (or-false _)
+split s depot limits (Kept c) i distance duration = either-passes limits (c .rest) _ _ _
+
+module _ (s : List ℕ) (depot : ℕ) (limits : RouteLimits) (kept : PartialClock) (i : ℕ) (distance duration : Float) where
+  pub fits-on-way : allowsOnWay s depot limits kept i distance duration ≡ true → allowsBy s depot limits kept i distance duration ≡ true
+  fits-on-way e = split s depot limits kept i distance duration ∙ ap (λ (t : Bool). t || allowsHome s depot limits kept i distance) e
+
+  pub fits-home : allowsOnWay s depot limits kept i distance duration ≡ false → allowsBy s depot limits kept i distance duration ≡ allowsHome s depot limits kept i distance
+  fits-home e = split s depot limits kept i distance duration ∙ ap (λ (t : Bool). t || allowsHome s depot limits kept i distance) e
+
+-- ---- a stop against the best so far
 module _ (c : StopChoice) (j : ℕ) (t : Bool) (k : Float) where
   pub loses : (key : Float) → key ≡ k → winsOf key c ≡ false → c ≡ betterStop c j (offerIf t k)
   loses key e f = go t

@@ -1,6 +1,6 @@
 -- A round so far as it is kept: the clock after it instead of its stops. What a rule says of a next stop, read from that.
 use Prim.Native.Nat.{ℕ, _*_, _≤_, _<_}
-use mathlib.Core.Bool.{Bool, not, _&&_}
+use mathlib.Core.Bool.{Bool, false, not, _&&_}
 use mathlib.Core.List.{List, [], _∷_}
 use lib.Dec.{eqb}
 use lib.Ieee.{Float, le}
@@ -11,10 +11,10 @@ use Rattle.sheet.specs.declared.vehicle.Rest.{Rest}
 use Rattle.sheet.specs.declared.vehicle.Rest.the-variants.{NoRest, Required}
 use Rattle.sheet.specs.declared.vehicle.Vehicle.{Vehicle}
 use Rattle.evaluation_clock.specs.Sums.{_⊕_, _⊗_}
-use Rattle.evaluation_clock.specs.Clock.{started, nextOf, clockOf, breakClock, nextBy}
+use Rattle.evaluation_clock.specs.Clock.{started, nextOf, unrested, finishOf, clockOf, breakClock, nextBy}
 use Rattle.evaluation.specs.Limits.{allowOf}
 use Rattle.evaluation_clock.specs.Clocked.{Clocked}
-use Rattle.evaluation.specs.Verdict.{verdictOf, isFeasible}
+use Rattle.evaluation.specs.Verdict.{noSchedule, heldTo, mendedBy, verdictOf, isFeasible}
 use Rattle.evaluation.specs.Feasible.{effectiveCost}
 use Rattle.evaluation.specs.declared.limits.RouteLimits.{RouteLimits}
 use Rattle.nearest_neighbor_choice.specs.declared.partial.Partial.{Partial}
@@ -41,6 +41,18 @@ pushedBy s (Kept c) row = Kept (nextBy s c row)
 unfoldable pub allowsBy : List ℕ → ℕ → RouteLimits → PartialClock → ℕ → Float → Float → Bool
 allowsBy s depot limits NoClock i distance duration = allowOf limits distance duration
 allowsBy s depot limits (Kept c) i distance duration = isFeasible (verdictOf limits (nextOf s (clockOf c) i) distance (timeOf s i depot))
+
+-- the two questions of the code that make it up: without a rest at home
+unfoldable pub allowsOnWay : List ℕ → ℕ → RouteLimits → PartialClock → ℕ → Float → Float → Bool
+allowsOnWay s depot limits NoClock i distance duration = allowOf limits distance duration
+allowsOnWay s depot limits (Kept c) i distance duration = isFeasible (heldTo limits (finishOf (nextOf s (clockOf c) i) distance (timeOf s i depot)))
+
+-- and with one
+unfoldable pub allowsHome : List ℕ → ℕ → RouteLimits → PartialClock → ℕ → Float → Bool
+allowsHome s depot limits NoClock i distance = false
+allowsHome s depot limits (Kept c) i distance =
+    let next = nextOf s (clockOf c) i in
+    limits .«at_home» && isFeasible (mendedBy limits (c .rest) (next .place) (unrested (next .before) distance (timeOf s i depot)) noSchedule)
 
 -- ---- the round
 abbrev pub emptyPartial : Rest → ℕ → Partial

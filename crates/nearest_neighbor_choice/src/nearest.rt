@@ -34,7 +34,10 @@ fn fits(sheet: &[u8], depot: usize, limits: RouteLimits, partial: Partial, row: 
         + matrix::travel_time(sheet, current, row)
         + stop.service
         + matrix::travel_time(sheet, row, depot);
-    partial::allows(sheet, depot, limits, kept, row, distance, duration)
+    if partial::allows_on_way(sheet, depot, limits, kept, row, distance, duration) {
+        return true;
+    }
+    partial::allows_home(sheet, depot, limits, kept, row, distance)
 }
 
 // The better of the best so far and the stop at place j. What is no nearer is not looked at further.

@@ -92,7 +92,10 @@ fn fits(
         + matrix::distance(sheet, partial.current, row)
         + matrix::distance(sheet, row, depot);
     let duration = departure + matrix::travel_time(sheet, row, depot);
-    partial::allows(sheet, depot, limits, kept, row, distance, duration)
+    if partial::allows_on_way(sheet, depot, limits, kept, row, distance, duration) {
+        return true;
+    }
+    partial::allows_home(sheet, depot, limits, kept, row, distance)
 }
 
 // What a stop adds to the round so far, with its lateness.

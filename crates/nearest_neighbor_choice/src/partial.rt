@@ -8,7 +8,7 @@ use sheet::vehicle::Vehicle;
 ghost use mathlib.Core.Path.{_≡_};
 ghost use Prim.Native.Nat.{_<_};
 ghost use Rattle.sheet.specs.Fields.{rowsOf};
-ghost use Rattle.nearest_neighbor_choice.specs.Partial.{emptyPartial, clockFor, pushedBy, allowsBy, partialCarries, PartialRoute, ClockKept};
+ghost use Rattle.nearest_neighbor_choice.specs.Partial.{emptyPartial, clockFor, pushedBy, allowsOnWay, allowsHome, partialCarries, PartialRoute, ClockKept};
 
 // The clock after the round so far, where the vehicle has a rest to place.
 pub enum PartialClock {
@@ -70,9 +70,9 @@ pub fn carries(sheet: &[u8], vehicle: Vehicle, partial: Partial, row: usize) -> 
     partial.load + customer::demand(sheet, row) <= vehicle.capacity
 }
 
-// Whether the limits are kept with the row as the last stop: by the clock, where there is one to keep; else by the distance
-// and the duration that are given.
-pub fn allows(
+// Whether the limits are kept with the row as the last stop and no rest at home: by the clock, where there is one to keep;
+// else by the distance and the duration that are given.
+pub fn allows_on_way(
     sheet: &[u8],
     depot: usize,
     limits: RouteLimits,
@@ -83,11 +83,41 @@ pub fn allows(
 ) -> bool
     requires { ⌜ ClockKept (now sheet) kept ⌝ }
     requires { ⌜ (row < rowsOf (now sheet)) × (depot < rowsOf (now sheet)) ⌝ }
-    ensures { λ r. ⌜ r ≡ allowsBy (now (sheet .entry)) depot limits kept row distance duration ⌝ }
+    ensures { λ r. ⌜ r ≡ allowsOnWay (now (sheet .entry)) depot limits kept row distance duration ⌝ }
 {
     match kept {
         PartialClock::NoClock => limits.allow(distance, duration),
         PartialClock::Kept(clock) => keeping::keeps_with(
+            clock,
+            sheet,
+            row,
+            depot,
+            distance,
+            limits,
+        ),
+    }
+}
+
+// Whether they are kept with the rest at home, where the vehicle has one and may take it there: asked only of what is
+// turned down.
+pub fn allows_home(
+    sheet: &[u8],
+    depot: usize,
+    limits: RouteLimits,
+    kept: PartialClock,
+    row: usize,
+    distance: f64,
+) -> bool
+    requires { ⌜ ClockKept (now sheet) kept ⌝ }
+    requires { ⌜ (row < rowsOf (now sheet)) × (depot < rowsOf (now sheet)) ⌝ }
+    ensures { λ r. ⌜ r ≡ allowsHome (now (sheet .entry)) depot limits kept row distance ⌝ }
+{
+    if !limits.at_home {
+        return false;
+    }
+    match kept {
+        PartialClock::NoClock => false,
+        PartialClock::Kept(clock) => keeping::keeps_home(
             clock,
             sheet,
             row,

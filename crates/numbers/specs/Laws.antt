@@ -3,3 +3,4 @@ pub mod Upto
 pub mod Range
 pub mod Thousandth
 pub mod Differ
+pub mod Order

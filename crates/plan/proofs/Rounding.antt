@@ -25,7 +25,7 @@ module _ (s : List ℕ) (v : Vehicle) (limits : RouteLimits) (route : List ℕ) 
   pub from : Routed s (v .depot) route → p .prev < rowsOf s
   from ok = rw gone (prev-in s t route (beginOf (v .depot)) (ok .home) (ok .row))
 
-  module _ (r : Record) (summed : r ≡ recordOf s (v .depot) (t .answer) p) where
+  module _ (r : Record) (summed : r ≡ recordOf s (v .depot) t p) where
     pub figures : r ≡ buildRoute s (v .depot) limits route
     unfolding buildRoute
     figures = rw (summed, gone, told)

@@ -107,8 +107,7 @@ fn write_round(
     let depot = vehicle.depot as usize;
     let placed = evaluator::place_rest(sheet, route, depot, limits);
     let progress = write_visits(plan, sheet, placed, route, depot);
-    let answer = placed.answer;
-    let figures = progress.record(sheet, depot, answer);
+    let figures = progress.record(sheet, depot, placed);
     records::put_round(plan, 16 + 56 * k, vehicle.id, link(route, 0), figures);
     figures
 }

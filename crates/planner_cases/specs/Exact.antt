@@ -4,8 +4,8 @@ use Prim.Native.Nat.{ℕ, _+_}
 use mathlib.Core.List.{List}
 use Rattle.wire.specs.Bytes.{u16At, u32At, f64At}
 use Rattle.lawful.specs.Whole.{Is}
-use Rattle.lawful.specs.Lawful.{left, distanceN, homeOf, durationN, travelN, loadN}
-use Rattle.lawful.specs.Figures.{restStartN}
+use Rattle.lawful.specs.Lawful.{left, distanceN, homeOf, travelN, loadN}
+use Rattle.lawful.specs.Figures.{durationWith, restStartN}
 use Rattle.constructive.specs.declared.terms.Terms.{Terms}
 use Rattle.constructive.specs.Outcome.{Round}
 use Rattle.plan.specs.Plan.{roundRecordAt}
@@ -19,6 +19,6 @@ pub record RoundExact (s plan : List ℕ) (n : ℕ) (r : Round) : Type 0 where
   pub load : u32At plan (roundRecordAt n + 4) ≡ loadN s (r .stops)
   pub distance : Is (travelN s (r .vehicle) (homeOf s (r .vehicle)) (r .stops)) (f64At plan (roundRecordAt n + 16))
   pub time : ℕ
-  pub walk : durationN s (r .vehicle) (u16At plan (roundRecordAt n + 10)) (r .stops) ≡ left time
+  pub walk : durationWith s (r .vehicle) (u16At plan (roundRecordAt n + 10)) (r .stops) ≡ left time
   pub duration : Is time (f64At plan (roundRecordAt n + 24))
   pub start : Is (restStartN s (r .vehicle) (u16At plan (roundRecordAt n + 10)) (left 0) (homeOf s (r .vehicle)) (r .stops)) (f64At plan (roundRecordAt n + 48))

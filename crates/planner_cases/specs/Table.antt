@@ -47,6 +47,9 @@ twentyThree = 0x4037_0000_0000_0000
 abbrev pub twentyFour : ℕ
 twentyFour = 0x4038_0000_0000_0000
 
+abbrev pub twentyNine : ℕ
+twentyNine = 0x403d_0000_0000_0000
+
 abbrev pub thirtyOne : ℕ
 thirtyOne = 0x403f_0000_0000_0000
 
@@ -98,6 +101,10 @@ oneTwo = planHeader 1 0 twentyFour ++ (roundRecord 2 1 twentyFour ++ (unusedRoun
 abbrev pub oneTwoRested : List ℕ
 oneTwoRested = planHeader 1 0 twentyFour ++ (restedRecord 2 1 1 twentyFour thirtyOne twelve ++ (unusedRounds 2 ++ (depotRecord ++ (leftRecord 2 1 f10 seventeen ++ visitRecord 0 2 twentyOne))))
 
+-- round 1, 2 with the rest at home, from 24 to 29: the visits of the walk without it
+abbrev pub oneTwoHome : List ℕ
+oneTwoHome = planHeader 1 0 twentyFour ++ (restedRecord 2 1 3 twentyFour twentyNine twentyFour ++ (unusedRounds 2 ++ (depotRecord ++ (visitRecord 2 1 f10 ++ visitRecord 0 2 fourteen))))
+
 -- round 2, 1
 abbrev pub twoOne : List ℕ
 twoOne = planHeader 1 0 twentyFour ++ (roundRecord 2 2 twentyFour ++ (unusedRounds 2 ++ (depotRecord ++ (visitRecord 0 2 fourteen ++ visitRecord 1 1 f10))))
@@ -145,6 +152,22 @@ closingRested due =
     sheetHeader 3 1 2
     ++ (rowBytes 0 0 2 (0 ∷ 0 ∷ due ∷ 0 ∷ []) ++ (rowBytes 10 1 0 noTimes ++ (rowBytes 0xffff_fff6 1 0 noTimes ++ (restVehicle forty forty ++ tableBytes))))
 
+-- ---- a rest at home
+-- sheet A's vehicle with a rest of 5 that starts from `earliest` to `latest`, and may be taken at the depot on return
+abbrev pub homeVehicle : ℕ → ℕ → List ℕ
+homeVehicle earliest latest = bytes 4 7 ++ (bytes 4 0 ++ (bytes 4 2 ++ (bytes 4 12 ++ f64s (f1 ∷ 0 ∷ 0 ∷ 0 ∷ earliest ∷ latest ∷ five ∷ []))))
+
+-- sheet A with it, by savings, at one time
+abbrev pub homeAt : ℕ → List ℕ
+homeAt time = sheetHeader 3 1 0 ++ (stopRows ++ (homeVehicle time time ++ tableBytes))
+
+-- and with due times of both stops
+abbrev pub homeBetween : ℕ → ℕ → ℕ → ℕ → List ℕ
+homeBetween due₁ due₂ earliest latest =
+    sheetHeader 3 1 0
+    ++ ((rowBytes 0 0 0 noTimes ++ (rowBytes 10 1 2 (0 ∷ 0 ∷ due₁ ∷ 0 ∷ []) ++ rowBytes 0xffff_fff6 1 2 (0 ∷ 0 ∷ due₂ ∷ 0 ∷ [])))
+    ++ (homeVehicle earliest latest ++ tableBytes))
+
 -- ---- the table
 -- a sheet and its plan, from bytes to bytes; or the time of a rest, and what round 1, 2 then is told
 pub data TableRow : Type 0 where
@@ -190,4 +213,8 @@ tableRows =
     -- insertion, due 23, and a depot with due 19 and penalty 1 by savings
     ∷ planRow (sheetClosing 1 2 twentyThree 0) oneAndTwo
     ∷ planRow (sheetClosing 0 6 nineteen f1) bothAside
+    -- "Vehicle mark 8 allows it." Both 12: the rest before stop 1, as 11. Stops due 10 and 14, from 20 to 24: at home, from 24 to 29. Both 9: both aside.
+    ∷ planRow (homeAt twelve) oneTwoRested
+    ∷ planRow (homeBetween f10 fourteen twenty twentyFour) oneTwoHome
+    ∷ planRow (homeAt nine) bothAside
     ∷ []

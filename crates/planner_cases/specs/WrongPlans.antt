@@ -7,11 +7,11 @@ use Rattle.wire.specs.Bytes.{bytes, u32At, u64At}
 use Rattle.sheet.specs.SheetA.{f1, f4, f10, f64s, sheetHeader, rowBytes, noTimes, stopRows, tableBytes, sheetA, sheetCarrying}
 use Rattle.sheet.specs.Refusal.{refusalOf}
 use Rattle.lawful.specs.Whole.{Whole}
-use Rattle.lawful.specs.Lawful.{failed, left, durationN, lawful}
+use Rattle.lawful.specs.Lawful.{restedAtHome, failed, left, durationN, lawful}
 use Rattle.clarke_wright_savings.specs.Laws.Cases.{within}
 use Rattle.solomon_i1.specs.Laws.Cases.{due}
 use Rattle.plan.specs.Plan.{roundRecordAt}
-use Rattle.planner_cases.specs.Table.{five, nine, twelve, fourteen, nineteen, twenty, twentyThree, twentyFour, forty, noCost, planHeader, roundRecord, unusedRounds, visitRecord, depotRecord, asideRecord, restVehicle, sheetAt}
+use Rattle.planner_cases.specs.Table.{homeBetween, five, nine, twelve, fourteen, nineteen, twenty, twentyThree, twentyFour, forty, noCost, planHeader, roundRecord, unusedRounds, visitRecord, depotRecord, asideRecord, restVehicle, sheetAt}
 
 abbrev pub fifteen : ℕ
 fifteen = 0x402e_0000_0000_0000
@@ -105,3 +105,6 @@ pub record LawfulRests : Type 0 where
   -- "No rest stands on the way home": both stops are due as they are reached, and a rest from 20 to 24 could only start at the return
   pub returned-at : durationN (sheetBetween f10 fourteen twenty twentyFour) 0 0 (1 ∷ 2 ∷ []) ≡ left 24
   pub not-at-home : lawful (sheetBetween f10 fourteen twenty twentyFour) 0 (1 ∷ 2 ∷ []) ≡ false
+  -- "Drivers may now rest at the depot on return.": with the mark it does, and ends at 29
+  pub at-home : lawful (homeBetween f10 fourteen twenty twentyFour) 0 (1 ∷ 2 ∷ []) ≡ true
+  pub home-ends : restedAtHome (homeBetween f10 fourteen twenty twentyFour) 0 (left 24) ≡ left 29

@@ -7,7 +7,7 @@ use lib.ListN.{length}
 use Rattle.numbers.specs.Range.{whole}
 use Rattle.sheet.specs.Fields.{rowsOf, vehiclesOf, methodOf, timesOf, spareOf, rowAt, xField, yField, demandField, rowMarks, serviceAt, readyAt, penaltyAt, vehicleAt, idField, depotField, capacityField, vehicleMarks, costAt, fixedAt, maxDistanceAt, maxDurationAt, earliestAt, restAt, entriesOf, entryAt, sheetLength, marked, mostRows, mostVehicles}
 use Rattle.sheet.specs.Depots.{depotsOf}
-use Rattle.sheet.specs.Ranges.{coordinate, demand, capacity, marks, amount, optional, interval, costPerDistance}
+use Rattle.sheet.specs.Ranges.{coordinate, demand, capacity, marks, vehicleMarking, amount, optional, interval, costPerDistance}
 use Rattle.sheet.specs.Refusal.{needsVehicle}
 
 -- the row whose record starts at `at`
@@ -24,7 +24,7 @@ pub record RowRanges (s : List ℕ) (at : ℕ) : Type 0 where
 pub record VehicleRanges (s : List ℕ) (at : ℕ) : Type 0 where
   pub depot : depotField s at < depotsOf s
   pub carries : T (capacity (capacityField s at))
-  pub marking : T (marks (vehicleMarks s at))
+  pub marking : T (vehicleMarking (vehicleMarks s at))
   pub cost : T (costPerDistance s (costAt at))
   pub fixed : T (amount s (fixedAt at))
   pub distance : T (optional (marked 1 (vehicleMarks s at)) (whole (10 ^ 12)) s (maxDistanceAt at))

@@ -25,9 +25,13 @@ unfoldable pub capacity : ℤ → Bool
 capacity (pos n) = true
 capacity (negsuc n) = false
 
--- marks are sums of 1, 2 and 4
+-- a row's marks are sums of 1, 2 and 4
 unfoldable pub marks : ℕ → Bool
 marks n = leb n 7
+
+-- a vehicle's are sums of 1, 2, 4 and 8; "mark 8 without mark 4 is a 7"
+unfoldable pub vehicleMarking : ℕ → Bool
+vehicleMarking n = leb n 15 && (not (marked 8 n) || marked 4 n)
 
 -- "0 to 10^9": distances, times, service, ready, due, earliest, latest, rest duration and fixed cost. "Negative zero lies outside": so says `inRange`.
 unfoldable pub amount : List ℕ → ℕ → Bool
@@ -83,7 +87,7 @@ unfoldable pub vehicleInRange : List ℕ → ℕ → Bool
 vehicleInRange s at =
     ltb (depotField s at) (depotsOf s)
     && (capacity (capacityField s at)
-    && (marks (vehicleMarks s at)
+    && (vehicleMarking (vehicleMarks s at)
     && (costPerDistance s (costAt at)
     && (amount s (fixedAt at)
     && (maximaInRange s at && restInRange s at)))))

@@ -74,6 +74,10 @@ vehicleOf s v = record {
   rest = restAfter s (vehicleAt s v);
 }
 
+-- "Drivers may now rest at the depot on return. Vehicle mark 8 allows it."
+unfoldable pub restsHomeAt : List ℕ → ℕ → Bool
+restsHomeAt s v = marked 8 (vehicleMarks s (vehicleAt s v))
+
 -- "rows × rows distances": the leg from row i to row j
 unfoldable pub distanceOf : List ℕ → ℕ → ℕ → Float
 distanceOf s i j = f64At s (entryAt s (i * rowsOf s + j))

@@ -7,7 +7,7 @@ ghost use Rattle.wire.specs.Bytes.{isNumber};
 ghost use Rattle.sheet.specs.Accepted.{Accepted};
 ghost use Rattle.sheet.specs.Fields.{vehiclesOf, vehicleAt, vehicleMarks, vehicleSize};
 ghost use Rattle.sheet.specs.Finite.{VehicleNumbers};
-ghost use Rattle.sheet.specs.Values.{limitAt, restAfter, vehicleOf, fixedInDistance};
+ghost use Rattle.sheet.specs.Values.{limitAt, restAfter, vehicleOf, restsHomeAt, fixedInDistance};
 
 // A maximum that is there or not.
 pub enum Limit {
@@ -92,6 +92,16 @@ pub fn vehicle_at(sheet: &[u8], index: usize) -> Vehicle
         max_duration,
         rest,
     }
+}
+
+// Whether its rest may be taken at the depot on return.
+pub fn rests_home(sheet: &[u8], index: usize) -> bool
+    requires { ⌜ Accepted (now sheet) ⌝ }
+    requires { ⌜ index < vehiclesOf (now sheet) ⌝ }
+    ensures { λ r. ⌜ r ≡ restsHomeAt (now (sheet .entry)) index ⌝ }
+{
+    let at = start(sheet, index);
+    crate::has_mark(8, wire::u32_at(sheet, at + 12))
 }
 
 // What the fixed cost of a round is worth in distance.

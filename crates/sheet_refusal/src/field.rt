@@ -4,7 +4,7 @@ ghost use Prim.Native.Nat.{_+_, _≤_};
 ghost use mathlib.Core.Bool.{true};
 ghost use lib.ListN.{length};
 ghost use Rattle.wire.specs.Bytes.{signed};
-ghost use Rattle.sheet.specs.Ranges.{costPerDistance};
+ghost use Rattle.sheet.specs.Ranges.{vehicleMarking, costPerDistance};
 
 // -1,000,000 has the pattern 4,293,967,296.
 pub fn coordinate(pattern: u32) -> bool
@@ -32,6 +32,19 @@ pub fn marks(marks: u32) -> bool
     ensures { λ r. ⌜ r ≡ Rattle.sheet.specs.Ranges.marks marks ⌝ }
 {
     marks <= 7
+}
+
+// A vehicle's marks. A rest at home is a rest.
+pub fn vehicle_marks(marks: u32) -> bool
+    ensures { λ r. ⌜ r ≡ vehicleMarking marks ⌝ }
+{
+    if 15 < marks {
+        return false;
+    }
+    if !sheet::has_mark(8, marks) {
+        return true;
+    }
+    sheet::has_mark(4, marks)
 }
 
 // From 0 to 10^9.

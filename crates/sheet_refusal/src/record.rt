@@ -83,7 +83,7 @@ pub fn vehicle_in_range(sheet: &[u8], at: usize, depots: usize) -> bool
     if !field::capacity(wire::u32_at(sheet, at + 8)) {
         return false;
     }
-    if !field::marks(wire::u32_at(sheet, at + 12)) {
+    if !field::vehicle_marks(wire::u32_at(sheet, at + 12)) {
         return false;
     }
     if !field::cost_per_distance(sheet, at + 16) {

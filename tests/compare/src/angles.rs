@@ -3,7 +3,6 @@
 
 use std::cmp::Ordering;
 
-use u_routing::constructive::sweep;
 use u_routing::models::{num_depots, Customer, Solution};
 
 use crate::kinds::{Kind, Seen};
@@ -102,7 +101,7 @@ pub fn swept(table: &Table) -> Solution {
         }
     };
     let customers: Vec<Customer> = table.customers.iter().enumerate().map(moved).collect();
-    sweep(&customers, table.distances, driver(table))
+    Table { customers: &customers, ..*table }.solution()
 }
 
 /// The same customer elsewhere.

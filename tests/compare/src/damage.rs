@@ -56,6 +56,13 @@ impl Values {
         }
     }
 
+    /// The same with every sum of marks that a vehicle may have, and the next.
+    pub fn all_marks() -> Values {
+        let mut values = Values::all();
+        values.whole.extend(10..17);
+        values
+    }
+
     /// The least that still tells unmarked fields and closed windows apart from others.
     pub fn few() -> Values {
         Values {

@@ -2,6 +2,7 @@
 
 use u_routing::models::Solution;
 
+use crate::corners::{Corners, LIMITER};
 use crate::lawful::{judge, Claims};
 use crate::limit_calls::Call;
 use crate::plan::{chains, encode, round_at};
@@ -11,16 +12,12 @@ use crate::sheet::{field, Sheet, Vehicle};
 use crate::sheet::{DEPOT, INSERTION, MAX_DURATION, NEAREST, NN_TW, PENALTY, REST, SAVINGS};
 use crate::sheet::{SWEEP, WINDOW};
 
-/// The methods by their numbers, and the limiter.
-pub const COLUMNS: usize = 6;
-pub const LIMITER: u8 = 5;
 const ALL: &[u8] = &[SAVINGS, INSERTION, NEAREST, NN_TW, SWEEP, LIMITER];
 const METHODS: &[u8] = &[SAVINGS, INSERTION, NEAREST, NN_TW, SWEEP];
 /// Those whose rounds have to be lawful.
 const LAWFUL: &[u8] = &[SAVINGS, INSERTION, NN_TW, SWEEP];
 
-/// Each with the columns that have to meet it.
-pub const CORNERS: [(&str, &[u8]); 14] = [
+pub const CORNERS: Corners = &[
     ("the due changes the plan", ALL),
     ("such a due on a soft row", ALL),
     ("such a due on row 0 without its mark", ALL),
@@ -39,22 +36,6 @@ pub const CORNERS: [(&str, &[u8]); 14] = [
 
 /// So many of them are told of plans and of limited plans alike.
 const SHARED: usize = 9;
-
-/// Whether each was met.
-pub type Corners = Vec<bool>;
-
-/// A number for each corner in each of these columns that has to meet it.
-pub fn numbers(columns: &[u8]) -> impl Iterator<Item = usize> + '_ {
-    CORNERS.iter().enumerate().flat_map(move |(corner, (_, of))| {
-        let met = of.iter().filter(|column| columns.contains(column));
-        met.map(move |&column| corner * COLUMNS + usize::from(column))
-    })
-}
-
-/// Whether a number's corner is among those that were met in a column.
-pub fn seen(column: u8, met: &[bool]) -> impl Fn(usize) -> bool + '_ {
-    move |number| number % COLUMNS == usize::from(column) && met[number / COLUMNS]
-}
 
 /// A round of a plan, and what its vehicle is held to.
 struct Record<'a> {
@@ -136,7 +117,7 @@ impl Asked<'_> {
 }
 
 /// Of a sheet and its plan.
-pub fn planned(bytes: &[u8], right: &[u8]) -> Corners {
+pub fn planned(bytes: &[u8], right: &[u8]) -> Vec<bool> {
     let sheet = &Sheet::decode(bytes);
     let is_held = |vehicle: &Vehicle| is_held(sheet.method, vehicle);
     let asked = Asked { sheet, held: &is_held, solution: &|problem| problem.solution() };
@@ -161,7 +142,7 @@ pub fn planned(bytes: &[u8], right: &[u8]) -> Corners {
 }
 
 /// Of a call of the limiter that is not refused, and its plan out.
-pub fn limited(call: &Call, right: &[u8]) -> Corners {
+pub fn limited(call: &Call, right: &[u8]) -> Vec<bool> {
     let accepted = limiter_accepted(&call.sheet, &call.plan_in, right.len());
     let (sheet, before) = &accepted.expect("a plan of the Rust's");
     let greatest = call.greatest as usize;

@@ -3,12 +3,14 @@
 
 use u_routing::evaluation::RouteLimits;
 
+use crate::fit_return::fit_rest_at_home;
 use crate::generate::beside;
 use crate::greedy::{Candidate, Front};
 use crate::random::Random;
 use crate::reference::Problem;
 use crate::refusal::{needs_vehicle, MOST_DEMAND, MOST_FIGURE, MOST_MAXIMUM};
-use crate::sheet::{Sheet, Vehicle, DEPOT, MAX_DISTANCE, MAX_DURATION, PENALTY, REST, WINDOW};
+use crate::sheet::{Sheet, Vehicle, DEPOT, HOME};
+use crate::sheet::{MAX_DISTANCE, MAX_DURATION, PENALTY, REST, WINDOW};
 use crate::trial::{priced, Trial};
 use crate::tried::tried;
 
@@ -67,7 +69,7 @@ pub fn fit_maximum(sheet: &mut Sheet, round: &Round, random: &mut Random) {
     let route = problem.built(&problem.vehicles[round.vehicle], &round.stops);
     let vehicle = &mut sheet.vehicles[round.vehicle];
     if random.one_in(2) {
-        vehicle.marks &= REST;
+        vehicle.marks &= REST | HOME;
         (vehicle.max_distance, vehicle.max_duration) = (0.0, 0.0);
     }
     if random.one_in(2) {
@@ -188,6 +190,7 @@ impl Step {
             Fit::Window => fit_window(sheet, &self.extended(), random),
             Fit::Rest => fit_rest(sheet, &self.extended(), random),
             Fit::RestEnd => self.fit_rest_end(sheet, random),
+            Fit::RestAtHome => fit_rest_at_home(sheet, &self.extended(), random),
             Fit::Capacity => self.fit_capacity(sheet, random),
             Fit::Key => self.fit_key(sheet, random),
             Fit::Dear => self.fit_dear(sheet, random),
@@ -501,6 +504,7 @@ pub enum Fit {
     Window,
     Rest,
     RestEnd,
+    RestAtHome,
     Capacity,
     Key,
     Dear,

@@ -5,13 +5,13 @@
 
 use crate::damage::{noise, noise_after_header, Base, Values};
 use crate::fit::{Fit, Step};
-use crate::generate::{random_sheet, straight};
+use crate::generate::{mark_rests, random_sheet, straight};
 use crate::plan::plan_len;
 use crate::points::lay_points;
 use crate::random::Random;
 use crate::refusal::{needs_vehicle, refusal, MOST_FIGURE, MOST_ROWS, MOST_VEHICLES, OFFERED};
 use crate::sheet::{Row, Sheet, Vehicle};
-use crate::sheet::{DEPOT, MAX_DISTANCE, MAX_DURATION, PENALTY, REST, WINDOW};
+use crate::sheet::{DEPOT, HOME, MAX_DISTANCE, MAX_DURATION, PENALTY, REST, WINDOW};
 use crate::sheet::{INSERTION, SAVINGS, SWEEP};
 
 /// The most stops of a usual sheet, and the fewest of a large one.
@@ -78,8 +78,8 @@ const REFUSED: usize = 10;
 const OWN: usize = 11;
 /// How likely each is, where its method is among those drawn.
 const SHARES: [usize; 16] = [12, 9, 14, 15, 15, 18, 18, 12, 2, 6, 8, 30, 20, 30, 20, 50];
-/// How likely whole sheets are among those that are all fitted to a depot's due.
-const WHOLE_WITH_DUE: usize = 40;
+/// How likely whole sheets are among those that are all fitted to one thing.
+const WHOLE_WHERE_FITTED: usize = 40;
 
 const MAXIMA: u32 = MAX_DISTANCE | MAX_DURATION;
 
@@ -305,27 +305,46 @@ pub fn any_sheet(methods: &[u8], random: &mut Random) -> Sheet {
 /// A sheet of a number where a depot that has a vehicle has a window, fitted to rounds that come home
 /// just in time.
 pub fn drawn_with_due(seed: u64, number: usize) -> Drawn {
-    let random = &mut Random::numbered(seed, number);
+    fitted(&mut Random::numbered(seed, number), |sheet, random| {
+        for _ in 0..sheet.depots() + random.below(2) {
+            if let Some(step) = Step::new(sheet, random) {
+                step.fit(sheet, Fit::Home, random);
+            }
+        }
+        sheet.vehicles.iter().any(|vehicle| sheet.home_due(vehicle).is_some())
+    })
+}
+
+/// A sheet of a number where a vehicle may rest at home, fitted to rounds that do.
+pub fn drawn_at_home(seed: u64, number: usize) -> Drawn {
+    fitted(&mut Random::numbered(seed, number), |sheet, random| {
+        mark_rests(sheet, random);
+        for _ in 0..1 + random.below(3) {
+            if let Some(step) = Step::new(sheet, random) {
+                step.fit(sheet, Fit::RestAtHome, random);
+            }
+        }
+        sheet.vehicles.iter().any(|vehicle| vehicle.marks & HOME != 0)
+    })
+}
+
+/// A sheet that is not refused, and that `fit` says it has fitted; whole ones stay whole.
+fn fitted(random: &mut Random, fit: impl Fn(&mut Sheet, &mut Random) -> bool) -> Drawn {
     loop {
         let method = random.pick(OFFERED);
         let kept = |flavour| match flavour {
             REFUSED => 0,
-            WHOLE => WHOLE_WITH_DUE,
+            WHOLE => WHOLE_WHERE_FITTED,
             _ => share(&[method], flavour),
         };
         let flavour = random.by_share((0..FLAVOURS.len()).map(kept));
         let mut sheet = sheet(&[method], flavour, random);
-        for _ in 0..sheet.depots() + random.below(2) {
-            if let Some(step) = Step::new(&sheet, random) {
-                step.fit(&mut sheet, Fit::Home, random);
-            }
-        }
+        let is_fitted = fit(&mut sheet, random);
         if flavour == WHOLE {
             make_whole(&mut sheet);
         }
-        let due = sheet.vehicles.iter().any(|vehicle| sheet.home_due(vehicle).is_some());
         let (sheet, plan_len) = (sheet.encode(), plan_len(sheet.rows.len()));
-        if due && refusal(&sheet, plan_len) == 0 {
+        if is_fitted && refusal(&sheet, plan_len) == 0 {
             return Drawn { flavour, sheet, plan_len };
         }
     }

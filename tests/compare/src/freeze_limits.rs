@@ -4,20 +4,19 @@
 //! rounds and the plan out's length, then the sheet and the plan in. Its line is that of a frozen
 //! plan: `refused` and the number, or the plan out's bytes.
 
-use crate::due_corners;
-use crate::dues::limiter_call;
-use crate::flavours::drawn_with_due;
+use crate::flavours::{drawn_at_home, drawn_with_due};
 use crate::freeze::Kept;
-use crate::freeze_plans::{is_long, DUES};
+use crate::freeze_plans::{is_long, CORNERS};
 use crate::kinds::{kinds, LIMITER};
 use crate::limit_calls::{call, Call};
 use crate::limits::{expected, Expected};
 use crate::sample::{Sample, Wanted, MOST_LENT};
+use crate::{corners, due_corners, dues, rest_corners, rests};
 
 const LIMITED: Wanted =
     Wanted { answers: &[0, 1, 2, 3, 4, 5, 6, 7, 8, 9, 10], often: 4, count: 280 };
 
-/// Of the comparison of limited plans, and then of that of depots' dues.
+/// Of the comparison of limited plans, and then of those of depots' dues and of rests at home.
 pub fn sample(seed: u64) -> Vec<Kept> {
     let kinds = kinds(&[LIMITER]).map(|(kind, _)| kind);
     let mut kept = Sample::kept(kinds, LIMITED, |sample, number| {
@@ -26,13 +25,22 @@ pub fn sample(seed: u64) -> Vec<Kept> {
             sample.offer(&right, |kind| seen.has(kind), asked(&call));
         }
     });
-    let corners = due_corners::numbers(&[due_corners::LIMITER]);
-    kept.extend(Sample::kept(corners, DUES, |sample, number| {
-        let call = limiter_call(&drawn_with_due(seed, number), seed, number);
+    let dues = corners::numbers(due_corners::CORNERS, &[corners::LIMITER]);
+    kept.extend(Sample::kept(dues, CORNERS, |sample, number| {
+        let call = dues::limiter_call(&drawn_with_due(seed, number), seed, number);
         let Some(call) = call else { return };
         if let Some(Expected { right: Ok(right), .. }) = kept_answer(&call) {
             let met = due_corners::limited(&call, &right);
-            sample.offer(&Ok(right), due_corners::seen(due_corners::LIMITER, &met), asked(&call));
+            sample.offer(&Ok(right), corners::seen(corners::LIMITER, &met), asked(&call));
+        }
+    }));
+    let rests = corners::numbers(rest_corners::CORNERS, &[corners::LIMITER]);
+    kept.extend(Sample::kept(rests, CORNERS, |sample, number| {
+        let call = rests::limiter_call(&drawn_at_home(seed, number), seed, number);
+        let Some(call) = call else { return };
+        if let Some(Expected { right: Ok(right), .. }) = kept_answer(&call) {
+            let met = rest_corners::limited(&call, &right);
+            sample.offer(&Ok(right), corners::seen(corners::LIMITER, &met), asked(&call));
         }
     }));
     kept

@@ -7,20 +7,20 @@
 //! No sheet that is planned has more than `MOST_ROWS` rows, and no plan buffer has more than
 //! `MOST_LENT` bytes.
 
-use crate::due_corners;
-use crate::flavours::{drawn, drawn_with_due, Drawn};
+use crate::flavours::{drawn, drawn_at_home, drawn_with_due, Drawn};
 use crate::freeze::Kept;
 use crate::kinds::kinds;
 use crate::plans::{expected, Expected};
 use crate::refusal::{self, OFFERED};
 use crate::sample::{Sample, Wanted, MOST_LENT};
+use crate::{corners, due_corners, rest_corners};
 
 const PLANS: Wanted = Wanted { answers: &[0, 1, 2, 3, 4, 5, 6, 7, 8], often: 4, count: 300 };
-/// Every corner of depots' dues, plans and limited plans alike.
-pub const DUES: Wanted = Wanted { answers: &[0], often: 2, count: 0 };
+/// Every corner of depots' dues and of rests at home, plans and limited plans alike.
+pub const CORNERS: Wanted = Wanted { answers: &[0], often: 2, count: 0 };
 const MOST_ROWS: usize = 12;
 
-/// Of the comparison of plans, and then of that of depots' dues.
+/// Of the comparison of plans, and then of those of depots' dues and of rests at home.
 pub fn sample(seed: u64) -> Vec<Kept> {
     let kinds = kinds(OFFERED).map(|(kind, _)| kind);
     let mut kept = Sample::kept(kinds, PLANS, |sample, number| {
@@ -29,12 +29,21 @@ pub fn sample(seed: u64) -> Vec<Kept> {
             sample.offer(&right, |kind| seen.has(kind), asked(&drawn));
         }
     });
-    let corners = due_corners::numbers(OFFERED);
-    kept.extend(Sample::kept(corners, DUES, |sample, number| {
+    let dues = corners::numbers(due_corners::CORNERS, OFFERED);
+    kept.extend(Sample::kept(dues, CORNERS, |sample, number| {
         let drawn = drawn_with_due(seed, number);
         if let Some(Expected { right: Ok(right), .. }) = kept_answer(&drawn) {
             let met = due_corners::planned(&drawn.sheet, &right);
-            let seen = due_corners::seen(drawn.sheet[4], &met);
+            let seen = corners::seen(drawn.sheet[4], &met);
+            sample.offer(&Ok(right), seen, asked(&drawn));
+        }
+    }));
+    let rests = corners::numbers(rest_corners::CORNERS, OFFERED);
+    kept.extend(Sample::kept(rests, CORNERS, |sample, number| {
+        let drawn = drawn_at_home(seed, number);
+        if let Some(Expected { right: Ok(right), .. }) = kept_answer(&drawn) {
+            let met = rest_corners::planned(&drawn.sheet, &right);
+            let seen = corners::seen(drawn.sheet[4], &met);
             sample.offer(&Ok(right), seen, asked(&drawn));
         }
     }));

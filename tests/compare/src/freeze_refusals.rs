@@ -26,7 +26,7 @@ pub fn sample(seed: u64) -> Vec<Kept> {
 /// ones until there are `COUNT`.
 fn cases(seed: u64) -> Vec<Case> {
     let mut random = Random::new(seed);
-    let (all, few) = (Values::all(), Values::few());
+    let (all, few) = (Values::all_marks(), Values::few());
     let mut cases = Base::new(&marked(0.5, MOST_FIGURE)).all_damages(&all);
     cases.extend(Base::new(&marked(0.0, 0.0)).record_damages(&few));
     cases.extend(Base::new(&plain()).all_damages(&few));
@@ -67,7 +67,7 @@ fn marked(early: f64, late: f64) -> Sheet {
         id: 7,
         depot: 0,
         capacity: 1,
-        marks: 7,
+        marks: 15,
         cost_per_distance: 1.0,
         fixed_cost: 1.0,
         max_distance: 1.0,

@@ -3,7 +3,7 @@
 use crate::random::Random;
 use crate::refusal::{LEAST_RATE, MOST_FIGURE, MOST_MAXIMUM, MOST_PENALTY, MOST_RATE, OFFERED};
 use crate::sheet::{Row, Sheet, Vehicle};
-use crate::sheet::{DEPOT, MAX_DISTANCE, MAX_DURATION, PENALTY, REST, WINDOW};
+use crate::sheet::{DEPOT, HOME, MAX_DISTANCE, MAX_DURATION, PENALTY, REST, WINDOW};
 
 /// Every way through a series of choices in turn; each choice is a digit of a counter.
 #[derive(Default)]
@@ -74,7 +74,7 @@ fn tiny_row(choices: &mut Choices, k: usize) -> Row {
     }
 }
 
-/// The first vehicle has no marks, the second has all.
+/// The first vehicle has no marks, the second has all but that of a rest at home.
 fn tiny_vehicle(choices: &mut Choices, k: usize) -> Vehicle {
     let plain = Vehicle {
         id: if k == 0 { 0 } else { choices.below(2) as u32 },
@@ -233,6 +233,14 @@ fn vehicle(random: &mut Random, style: Style, id: u32, depots: usize, kept: u32)
         vehicle.rest_duration = number(random, style, MOST_FIGURE);
     }
     vehicle
+}
+
+/// Lets vehicles that rest do so at home, each as likely as not.
+pub fn mark_rests(sheet: &mut Sheet, random: &mut Random) {
+    let rests = |vehicle: &&mut Vehicle| vehicle.marks & REST != 0;
+    for vehicle in sheet.vehicles.iter_mut().filter(rests) {
+        vehicle.marks |= random.pick(&[0, HOME]);
+    }
 }
 
 /// A matrix as the rows lie, symmetric, symmetric but for one leg, or directed.

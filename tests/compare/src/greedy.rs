@@ -1,7 +1,7 @@
 //! What the nearest neighbours weigh at a step: a candidate's figures, summed as the Rust sums
 //! them, so that sheets can be fitted to them and boundaries be counted.
 
-use u_routing::evaluation::{has_soft_windows, route_eval, route_feasible, RouteLimits};
+use u_routing::home::evaluation::{has_soft_windows, route_eval, route_feasible, RouteLimits};
 use u_routing::models::{Customer, Solution, Vehicle};
 
 use crate::reference::Table;

@@ -5,6 +5,7 @@ use std::cell::RefCell;
 
 use u_routing::distance::DistanceMatrix;
 use u_routing::evaluation::{has_soft_windows, route_eval, RouteEval, RouteLimits};
+use u_routing::home::evaluation::unmarked_limits;
 use u_routing::models::{num_depots, Customer, Solution, Vehicle, VehicleBreak};
 
 use crate::greedy::{follow, Candidate, Front, Out};
@@ -400,7 +401,7 @@ impl Seen {
     }
 
     fn rest(&mut self, table: &Table, front: &Front, candidate: &Candidate) {
-        let limits = RouteLimits::of(front.driver);
+        let limits = unmarked_limits(&RouteLimits::of(front.driver));
         let Some(rest) = limits.rest else { return };
         let (stops, depot) = (front.with(candidate.stop), front.driver.depot_id());
         let eval = |limits: &RouteLimits| -> Option<RouteEval> {

@@ -3,7 +3,7 @@
 
 use crate::plan::{round_at, stop_at};
 use crate::sheet::{field, Sheet, INSERTION, NEAREST, SAVINGS};
-use crate::sheet::{MAX_DISTANCE, MAX_DURATION, PENALTY, REST, WINDOW};
+use crate::sheet::{HOME, MAX_DISTANCE, MAX_DURATION, PENALTY, REST, WINDOW};
 
 /// How often each claim was checked.
 #[derive(Default)]
@@ -191,6 +191,11 @@ impl Ground<'_> {
         self.sheet.vehicles[vehicle].marks & REST != 0
     }
 
+    /// Document 02, request Four.
+    fn may_rest_at_home(&self, vehicle: usize) -> bool {
+        self.sheet.vehicles[vehicle].marks & HOME != 0
+    }
+
     fn depot(&self, vehicle: usize) -> usize {
         self.sheet.vehicles[vehicle].depot as usize
     }
@@ -199,19 +204,15 @@ impl Ground<'_> {
         table[from * self.sheet.rows.len() + to]
     }
 
-    /// The duration of the walk with the rest before the stop at `place`, or without one; `None`
-    /// if it fails.
+    /// The duration of the walk with the rest before the stop at `place`, at home where that is after
+    /// the last, or without one; `None` if it fails.
     fn walk(&self, vehicle: usize, stops: &[usize], place: Option<usize>) -> Option<u64> {
         let (mut departure, mut distance, mut last) = (0, 0, self.depot(vehicle));
         for (k, &stop) in stops.iter().enumerate() {
             distance += self.leg(&self.distances, last, stop);
             let mut arrival = departure + self.leg(&self.times, last, stop);
             if place == Some(k) {
-                let start = arrival.max(self.earliest[vehicle]);
-                if start > self.latest[vehicle] {
-                    return None;
-                }
-                arrival = start + self.rest[vehicle];
+                arrival = self.rested(vehicle, arrival)?;
             }
             if self.sheet.rows[stop].marks & WINDOW != 0 && arrival > self.due[stop] {
                 return None;
@@ -220,10 +221,19 @@ impl Ground<'_> {
             last = stop;
         }
         distance += self.leg(&self.distances, last, self.depot(vehicle));
-        let duration = departure + self.leg(&self.times, last, self.depot(vehicle));
+        let mut duration = departure + self.leg(&self.times, last, self.depot(vehicle));
+        if place == Some(stops.len()) {
+            duration = self.rested(vehicle, duration)?;
+        }
         let lawful = self.keeps_maxima(vehicle, distance, duration)
             && self.is_home_in_time(vehicle, duration);
         lawful.then_some(duration)
+    }
+
+    /// When a rest on arrival ends.
+    fn rested(&self, vehicle: usize, arrival: u64) -> Option<u64> {
+        let start = arrival.max(self.earliest[vehicle]);
+        (start <= self.latest[vehicle]).then(|| start + self.rest[vehicle])
     }
 
     /// Document 02, request One: no later than the due of the depot's row, if that has a window.
@@ -244,7 +254,8 @@ impl Ground<'_> {
         let rests = self.rests(vehicle);
         let free = |duration| !rests || duration <= self.earliest[vehicle];
         let rested = |place| self.walk(vehicle, stops, Some(place)).is_some();
-        self.walk(vehicle, stops, None).is_some_and(free) || (rests && (0..stops.len()).any(rested))
+        let places = stops.len() + usize::from(self.may_rest_at_home(vehicle));
+        self.walk(vehicle, stops, None).is_some_and(free) || (rests && (0..places).any(rested))
     }
 
     fn keeps_capacity(&self, vehicle: usize, stops: &[usize]) -> bool {

@@ -5,6 +5,7 @@
 
 use crate::damage::{Base, Values};
 use crate::fit::{fit_home, fit_maximum, fit_rest, fit_window, Round};
+use crate::fit_return::fit_rest_at_home;
 use crate::flavours::{any_sheet, Drawn, MOST_LENT};
 use crate::generate::beside;
 use crate::limiting::{limited, rounds, Event, Move, MOST_ROWS};
@@ -258,6 +259,35 @@ pub fn call_with_due(drawn: &Drawn, random: &mut Random) -> Call {
     }
     let plan_out_len = plan_in.len();
     Call { flavour: PLANNED, sheet: sheet.encode(), plan_in, greatest, plan_out_len }
+}
+
+/// A call on a sheet of one depot where a vehicle may rest at home, at times with room for every stop.
+/// The sheet is fitted to a move, or to a round as it is given, an empty one too.
+pub fn call_at_home(drawn: &Drawn, random: &mut Random) -> Call {
+    let mut sheet = Sheet::decode(&drawn.sheet);
+    if random.one_in(2) {
+        sheet.vehicles.iter_mut().for_each(|vehicle| vehicle.capacity = i32::MAX);
+    }
+    let flavour = random.pick(&[PLANNED, DEALT, DEALT, LONE]);
+    let plan = match flavour {
+        PLANNED => {
+            let made = encode(sheet.rows.len(), &Problem::taken(&sheet).solution());
+            chains(&made, &sheet).expect("the Rust's plan has each stop once")
+        }
+        LONE => lone(&sheet, random),
+        _ => dealt(&sheet, random),
+    };
+    let count = plan.rounds.len();
+    let greatest = if random.one_in(3) { count } else { 1.max(random.below(count + 1)) } as u32;
+    if count > 0 && sheet.rows.len() <= MOST_ROWS {
+        let problem = Problem::held(&sheet);
+        let mut rounds = rounds(&problem, &plan);
+        rounds.extend(tried(&problem, &plan, greatest).iter().map(Tried::round));
+        fit_rest_at_home(&mut sheet, &rounds[random.below(rounds.len())], random);
+    }
+    let plan_in = encode_chains(sheet.rows.len(), &plan);
+    let plan_out_len = plan_in.len();
+    Call { flavour, sheet: sheet.encode(), plan_in, greatest, plan_out_len }
 }
 
 /// Fits the sheet to a move that the limiter tries with this plan, or to the choice of a round.

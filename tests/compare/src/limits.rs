@@ -92,11 +92,14 @@ pub fn expected(call: &Call) -> Expected {
 }
 
 impl Expected {
+    pub fn lost(&self) -> Option<String> {
+        self.lost.then(|| "the steps of the limiter are not the Rust's".into())
+    }
+
     /// What is wrong with an answer: another one, a promise not kept, or a plan out that is not
     /// its own plan out.
     pub fn fault(&self, call: &Call, said: &Result<Vec<u8>, u32>) -> Option<String> {
-        let lost = self.lost.then(|| "the steps of the limiter are not the Rust's".into());
-        apart(said, &self.right).or(lost).or_else(|| {
+        apart(said, &self.right).or(self.lost()).or_else(|| {
             let plan_out = said.as_ref().ok()?;
             let (sheet, chains) =
                 limiter_accepted(&call.sheet, &call.plan_in, plan_out.len()).ok()?;

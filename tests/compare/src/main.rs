@@ -9,6 +9,8 @@
 //!     compare limits COUNT SEED      the limiter's plans out of COUNT calls, and of all tiny plans
 //!     compare limit NUMBER SEED      one call of these again, both plans shown
 //!     compare dues COUNT SEED        plans of COUNT sheets where a depot has a due, and limited ones
+//!     compare rest_rounds COUNT SEED   the port's evaluation on COUNT rounds that may rest at home
+//!     compare rests COUNT SEED       plans of COUNT sheets with such vehicles, and limited ones
 //!     compare imports COUNT SEED     the importer's sheets of COUNT texts, and of fixed ones
 //!     compare roots COUNT SEED       the importer's square root on COUNT numbers
 //!     compare checked COUNT SEED     the checker of demand 3 on COUNT plans of the Rust's
@@ -35,11 +37,14 @@ mod bench_limits;
 mod bench_plans;
 mod bench_sides;
 mod checked;
+mod corners;
+mod cross;
 mod damage;
 mod due_corners;
 mod dues;
 mod example;
 mod fit;
+mod fit_return;
 mod flavours;
 mod freeze;
 mod freeze_imports;
@@ -48,6 +53,7 @@ mod freeze_plans;
 mod freeze_refusals;
 mod generate;
 mod greedy;
+mod hard_rests;
 mod import_calls;
 mod import_draft;
 mod import_faults;
@@ -74,11 +80,15 @@ mod random;
 mod reference;
 mod refusal;
 mod refusals;
+mod rest_corners;
+mod rest_rounds;
+mod rests;
 mod roots;
 mod rounds;
 mod sample;
 mod selftest;
 mod selftest_imports;
+mod selftest_rests;
 mod sheet;
 mod slow_limits;
 mod slow_starts;
@@ -88,6 +98,7 @@ mod tiny_plans;
 mod trial;
 mod tried;
 mod vary;
+mod wrong_rests;
 
 use std::io;
 use std::path::Path;
@@ -99,6 +110,7 @@ use bench_plans::Planning;
 const USAGE: &str = "usage: compare selftest | refusals COUNT SEED | rounds COUNT SEED | \
                      plans COUNT SEED | plan NUMBER SEED | checked COUNT SEED | \
                      limits COUNT SEED | limit NUMBER SEED | dues COUNT SEED | \
+                     rest_rounds COUNT SEED | rests COUNT SEED | \
                      imports COUNT SEED | roots COUNT SEED | listings PROGRAM COUNT SEED | \
                      bench [plans | limits] [instructions | SIDE CASE RUNS] | bench imports | \
                      freeze SEED DIR | example DIR | \
@@ -121,6 +133,8 @@ fn main() -> ExitCode {
         ["limits", count, seed] => numbers(count, seed).map(|(c, s)| limits::run(c, s)),
         ["limit", number, seed] => numbers(number, seed).map(|(n, s)| limits::show(n, s)),
         ["dues", count, seed] => numbers(count, seed).map(|(c, s)| dues::run(c, s)),
+        ["rests", count, seed] => numbers(count, seed).map(|(c, s)| rests::run(c, s)),
+        ["rest_rounds", count, seed] => numbers(count, seed).map(|(c, s)| rest_rounds::run(c, s)),
         ["imports", count, seed] => numbers(count, seed).map(|(c, s)| imports::run(c, s)),
         ["roots", count, seed] => numbers(count, seed).map(|(c, s)| roots::run(c, s)),
         ["listings", program, count, seed] => {

@@ -1,5 +1,9 @@
 //! The planner's library and the probe's: the one place that calls them.
 
+/// Whether there is a planner, and a probe, to call.
+pub const PLANNER: bool = cfg!(planner);
+pub const PROBE: bool = cfg!(probe);
+
 #[cfg(planner)]
 #[link(name = "planner", kind = "static")]
 extern "C" {

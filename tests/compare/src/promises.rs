@@ -1,7 +1,7 @@
 //! What every plan out of the limiter keeps, read from the bytes alone; only whether a round is
 //! feasible is the Rust's to say.
 
-use u_routing::evaluation::{route_feasible, RouteLimits};
+use u_routing::home::evaluation::{route_feasible, RouteLimits};
 
 use crate::plan::{chains, Chains};
 use crate::reference::Problem;

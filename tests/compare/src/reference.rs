@@ -1,12 +1,13 @@
-//! The reference answers: the Rust's own, as plan bytes.
+//! The reference answers: the Rust's own, as plan bytes. Where a vehicle may rest at home they are
+//! those of the Rust's constructors and limiter over a walk of this harness's
+//! (glue/home/evaluation.rs).
 
-use u_routing::constructive::{
-    clarke_wright_savings, construct_by_depot, nearest_neighbor, nearest_neighbor_tw, solomon_i1,
-    sweep,
-};
+use u_routing::constructive as today;
 use u_routing::distance::DistanceMatrix;
-use u_routing::evaluation::{route_eval, RouteEval, RouteEvaluator, RouteLimits};
 use u_routing::fleet::limit_routes;
+use u_routing::home;
+use u_routing::home::evaluation::{is_marked, marked, route_eval, RouteEvaluator};
+use u_routing::home::evaluation::{RouteEval, RouteLimits};
 use u_routing::models::{num_depots, Customer, Route, Solution, TimeWindow, Vehicle, VehicleBreak};
 
 use crate::plan::{encode, plan_len, Chains};
@@ -122,13 +123,28 @@ impl Problem {
     /// The solution where each depot's table is planned so, whenever it is.
     pub fn solution_by(&self, plan: impl Fn(&Table) -> Solution) -> Solution {
         let &Problem { method, ref customers, ref distances, ref vehicles } = self;
-        construct_by_depot(customers, distances, vehicles, |customers, distances, vehicles| {
+        let plan = |customers: &[Customer], distances: &DistanceMatrix, vehicles: &[Vehicle]| {
             plan(&Table { method, customers, distances, vehicles })
-        })
+        };
+        if vehicles.iter().any(is_marked) {
+            home::constructive::construct_by_depot(customers, distances, vehicles, plan)
+        } else {
+            today::construct_by_depot(customers, distances, vehicles, plan)
+        }
     }
 
     pub fn built(&self, driver: &Vehicle, stops: &[usize]) -> Route {
         RouteEvaluator::new(&self.customers, &self.distances, driver).build_route(stops).0
+    }
+
+    pub fn passes(&self, driver: &Vehicle, stops: &[usize]) -> bool {
+        self.eval(driver, stops, &RouteLimits::of(driver)).is_some()
+    }
+
+    /// A round without a rest.
+    pub fn walked(&self, driver: &Vehicle, stops: &[usize]) -> Route {
+        let restless = Vehicle::new(driver.id(), driver.capacity()).with_depot(driver.depot_id());
+        self.built(&restless, stops)
     }
 
     pub fn eval(
@@ -144,23 +160,52 @@ impl Problem {
         let Problem { customers, distances, vehicles, .. } = self;
         let (ids, routes): (Vec<u32>, Vec<Vec<usize>>) = chains.rounds.into_iter().unzip();
         let driven = ids.into_iter().map(|id| self.driver_of(id)).collect();
-        let limited = limit_routes(routes, driven, vehicles, greatest, distances, customers);
-
-        let mut solution = Solution::new();
-        for (stops, &driver) in limited.routes.iter().zip(&limited.vehicles) {
-            let evaluator = RouteEvaluator::new(customers, distances, &vehicles[driver]);
-            solution.add_route(evaluator.build_route(stops).0);
-        }
-        let mut aside = [chains.aside, limited.unserved].concat();
+        let (routes, driven, unserved) = if vehicles.iter().any(is_marked) {
+            use home::fleet::limit_routes;
+            let left = limit_routes(routes, driven, vehicles, greatest, distances, customers);
+            (left.routes, left.vehicles, left.unserved)
+        } else {
+            let left = limit_routes(routes, driven, vehicles, greatest, distances, customers);
+            (left.routes, left.vehicles, left.unserved)
+        };
+        let routes = driven.iter().zip(&routes);
+        let routes = routes.map(|(&driver, stops)| self.built(&vehicles[driver], stops));
+        let mut aside = [chains.aside, unserved].concat();
         aside.sort_unstable();
-        aside.into_iter().for_each(|stop| solution.add_unassigned(stop));
-        solution.price(|route| &vehicles[self.driver_of(route.vehicle_id() as u32)]);
+        self.priced(routes, &aside)
+    }
+
+    /// Rounds and stops set aside, as a solution.
+    pub fn priced(&self, routes: impl Iterator<Item = Route>, aside: &[usize]) -> Solution {
+        let mut solution = Solution::new();
+        routes.for_each(|route| solution.add_route(route));
+        aside.iter().for_each(|&stop| solution.add_unassigned(stop));
+        solution.price(|route| &self.vehicles[self.driver_of(route.vehicle_id() as u32)]);
         solution
     }
 }
 
 impl Table<'_> {
     pub fn solution(&self) -> Solution {
+        let &Table { method, customers, distances, vehicles } = self;
+        if vehicles.iter().any(is_marked) {
+            return self.solution_at_home();
+        }
+        match method {
+            sheet::SAVINGS => today::clarke_wright_savings(customers, distances, &vehicles[0]),
+            sheet::INSERTION => today::solomon_i1(customers, distances, &vehicles[0]),
+            sheet::NEAREST => today::nearest_neighbor(customers, distances, vehicles),
+            sheet::NN_TW => today::nearest_neighbor_tw(customers, distances, vehicles),
+            sheet::SWEEP => today::sweep(customers, distances, &vehicles[0]),
+            _ => unreachable!("refused as 3"),
+        }
+    }
+
+    /// That of vehicles of which one may rest at home.
+    fn solution_at_home(&self) -> Solution {
+        use home::constructive::{
+            clarke_wright_savings, nearest_neighbor, nearest_neighbor_tw, solomon_i1, sweep,
+        };
         let &Table { method, customers, distances, vehicles } = self;
         match method {
             sheet::SAVINGS => clarke_wright_savings(customers, distances, &vehicles[0]),
@@ -205,7 +250,8 @@ fn vehicle(from: &sheet::Vehicle, due: Option<f64>) -> Vehicle {
     }
     if from.marks & sheet::REST != 0 {
         let rest = VehicleBreak::new(from.earliest, from.latest, from.rest_duration);
-        vehicle = vehicle.with_break(rest);
+        let at_home = from.marks & sheet::HOME != 0;
+        vehicle = vehicle.with_break(if at_home { marked(rest) } else { rest });
     }
     vehicle
 }

@@ -2,14 +2,15 @@
 
 use crate::plan::{chains, plan_len, Chains};
 use crate::sheet::{Header, Row, Sheet, Vehicle, INSERTION, SAVINGS, SWEEP};
-use crate::sheet::{HEADER, MAX_DISTANCE, MAX_DURATION, PENALTY, REST, WINDOW};
+use crate::sheet::{HEADER, HOME, MAX_DISTANCE, MAX_DURATION, PENALTY, REST, WINDOW};
 
 pub const MOST_ROWS: usize = 101;
 pub const MOST_VEHICLES: usize = 16;
 /// The methods of document 01, and those that the planner offers today: it refuses the others as 3.
 pub const METHODS: &[u8] = &[0, 1, 2, 3, 4];
 pub const OFFERED: &[u8] = &[0, 1, 2, 3, 4];
-const MOST_MARKS: u32 = 7;
+const MOST_ROW_MARKS: u32 = 7;
+const MOST_VEHICLE_MARKS: u32 = 15;
 pub const MOST_COORDINATE: i32 = 1_000_000;
 pub const MOST_DEMAND: i32 = 1_000_000;
 /// Distances, times, service, windows, rests and fixed cost.
@@ -101,7 +102,7 @@ fn row_in_range(row: &Row) -> bool {
     } else {
         zero_bits(&[row.ready, row.due])
     };
-    row.marks <= MOST_MARKS
+    row.marks <= MOST_ROW_MARKS
         && coordinates.contains(&row.x)
         && coordinates.contains(&row.y)
         && (0..=MOST_DEMAND).contains(&row.demand)
@@ -122,7 +123,7 @@ fn maybe(mark: u32, field: f64, most: f64) -> bool {
 fn vehicle_in_range(sheet: &Sheet, k: usize) -> bool {
     let vehicle = &sheet.vehicles[k];
     let rate = vehicle.cost_per_distance;
-    vehicle.marks <= MOST_MARKS
+    vehicle.marks <= MOST_VEHICLE_MARKS
         && (vehicle.depot as usize) < sheet.depots()
         && vehicle.capacity >= 0
         && (rate.to_bits() == 0 || (LEAST_RATE..=MOST_RATE).contains(&rate))
@@ -136,7 +137,7 @@ fn vehicle_in_range(sheet: &Sheet, k: usize) -> bool {
 fn rest_in_range(vehicle: &Vehicle) -> bool {
     let fields = [vehicle.earliest, vehicle.latest, vehicle.rest_duration];
     if vehicle.marks & REST == 0 {
-        return zero_bits(&fields);
+        return vehicle.marks & HOME == 0 && zero_bits(&fields);
     }
     fields.iter().all(|&x| within(x, MOST_FIGURE)) && vehicle.earliest <= vehicle.latest
 }

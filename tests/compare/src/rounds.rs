@@ -33,7 +33,7 @@ const MOST_STOPS: usize = 100;
 const SHOWN: usize = 3;
 
 /// How a sheet's numbers are drawn: as whole numbers, tenths or thirds, or as the generator does.
-const FLAVOURS: [&str; 4] = ["whole", "tenths", "thirds", "any"];
+pub const FLAVOURS: [&str; 4] = ["whole", "tenths", "thirds", "any"];
 
 /// What rounds there were; each kind has to occur in each flavour.
 const KINDS: [&str; 23] = [
@@ -147,41 +147,14 @@ impl Tally {
         for kind in answers.kinds(case, round) {
             self.kinds[kind][case.flavour] += 1;
         }
-        let rows = round.rows();
-        let differs = |(which, right): (usize, &f64)| {
-            let said = probe_figure(&case.bytes, &rows, round.vehicle, which);
-            let (said, right) = (said.to_bits(), right.to_bits());
-            (said != right).then(|| format!("figure {which} is {said:016x}, not {right:016x}"))
-        };
-        if let Some(wrong) = answers.figures().iter().enumerate().find_map(differs) {
+        if let Some(wrong) = wrong_figure(&case.bytes, round, &answers.figures()) {
             self.differ(case, round, &wrong);
         }
     }
 
-    /// `route_feasible` of many rounds in one call: those of one vehicle, one length and one
-    /// answer, so that no two errors make up for each other.
     fn try_together(&mut self, case: &Case, rounds: &[Round]) {
-        let mut groups: BTreeMap<(usize, usize, bool), Vec<&Round>> = BTreeMap::new();
-        for round in rounds.iter().filter(|round| !round.stops.is_empty()) {
-            let key = (round.vehicle, round.stops.len(), case.feasible(round));
-            groups.entry(key).or_default().push(round);
-        }
-        for ((vehicle, len, feasible), group) in groups {
-            let passed = |rounds: &[&Round]| {
-                let rows: Vec<u16> = rounds.iter().flat_map(|round| round.rows()).collect();
-                probe_rounds(&case.bytes, &rows, len, vehicle)
-            };
-            let right = |count: usize| Some(if feasible { count } else { 0 });
-            if passed(&group) == right(group.len()) {
-                continue;
-            }
-            let before = self.differences;
-            for round in group.iter().filter(|&&round| passed(&[round]) != right(1)) {
-                self.differ(case, round, &format!("feasible is {}", !feasible));
-            }
-            if self.differences == before {
-                self.differ(case, group[0], "a wrong count of this round and others");
-            }
+        for (round, wrong) in wrong_counts(&case.bytes, rounds, |round| case.feasible(round)) {
+            self.differ(case, round, &wrong);
         }
     }
 
@@ -217,15 +190,61 @@ impl Tally {
     fn differ(&mut self, case: &Case, round: &Round, what: &str) {
         self.differences += 1;
         if self.differences <= SHOWN {
-            let hex: String = case.bytes.iter().map(|byte| format!("{byte:02x}")).collect();
-            let Round { vehicle, stops } = round;
-            println!("difference: {what}; vehicle {vehicle}, stops {stops:?}, sheet {hex}");
+            show(what, &case.bytes, round);
         }
     }
 }
 
+pub fn show(what: &str, sheet: &[u8], round: &Round) {
+    let hex: String = sheet.iter().map(|byte| format!("{byte:02x}")).collect();
+    let Round { vehicle, stops } = round;
+    println!("difference: {what}; vehicle {vehicle}, stops {stops:?}, sheet {hex}");
+}
+
+/// The first figure that the port gives otherwise.
+pub fn wrong_figure(sheet: &[u8], round: &Round, figures: &[f64]) -> Option<String> {
+    let rows = round.rows();
+    figures.iter().enumerate().find_map(|(which, right)| {
+        let said = probe_figure(sheet, &rows, round.vehicle, which);
+        let (said, right) = (said.to_bits(), right.to_bits());
+        (said != right).then(|| format!("figure {which} is {said:016x}, not {right:016x}"))
+    })
+}
+
+/// `route_feasible` of many rounds in one call: those of one vehicle, one length and one answer, so
+/// that no two errors make up for each other. What the port answers otherwise is told of each round.
+pub fn wrong_counts<'a>(
+    sheet: &[u8],
+    rounds: &'a [Round],
+    feasible: impl Fn(&Round) -> bool,
+) -> Vec<(&'a Round, String)> {
+    let mut groups: BTreeMap<(usize, usize, bool), Vec<&Round>> = BTreeMap::new();
+    for round in rounds.iter().filter(|round| !round.stops.is_empty()) {
+        let key = (round.vehicle, round.stops.len(), feasible(round));
+        groups.entry(key).or_default().push(round);
+    }
+    let mut wrong = Vec::new();
+    for ((vehicle, len, feasible), group) in groups {
+        let passed = |rounds: &[&Round]| {
+            let rows: Vec<u16> = rounds.iter().flat_map(|round| round.rows()).collect();
+            probe_rounds(sheet, &rows, len, vehicle)
+        };
+        let right = |count: usize| Some(if feasible { count } else { 0 });
+        if passed(&group) == right(group.len()) {
+            continue;
+        }
+        let before = wrong.len();
+        let alone = group.iter().filter(|&&round| passed(&[round]) != right(1));
+        wrong.extend(alone.map(|&round| (round, format!("feasible is {}", !feasible))));
+        if wrong.len() == before {
+            wrong.push((group[0], "a wrong count of this round and others".into()));
+        }
+    }
+    wrong
+}
+
 /// A sheet with a vehicle and a stop, its numbers drawn anew as the flavour says.
-fn sheet(random: &mut Random, flavour: usize) -> Sheet {
+pub fn sheet(random: &mut Random, flavour: usize) -> Sheet {
     let rows =
         if random.one_in(LARGE) { MOST_ROWS - random.below(4) } else { 2 + random.below(11) };
     let vehicles = 1 + random.below(3);
@@ -287,7 +306,7 @@ impl Case {
 
 impl Round {
     /// Stops in any order, some of them twice.
-    fn new(sheet: &Sheet, random: &mut Random) -> Round {
+    pub fn new(sheet: &Sheet, random: &mut Random) -> Round {
         let most = if random.one_in(16) { MOST_STOPS.min(2 * sheet.rows.len()) } else { USUAL };
         let count = random.below(most + 1);
         Round {
@@ -297,7 +316,7 @@ impl Round {
     }
 
     /// A stop more or less, two stops in each other's place, or another vehicle.
-    fn varied(&self, sheet: &Sheet, random: &mut Random) -> Round {
+    pub fn varied(&self, sheet: &Sheet, random: &mut Random) -> Round {
         let mut round = self.clone();
         let count = round.stops.len();
         match random.below(4) {
@@ -319,6 +338,27 @@ impl Round {
 
 fn stop(sheet: &Sheet, random: &mut Random) -> usize {
     sheet.depots() + random.below(sheet.rows.len() - sheet.depots())
+}
+
+/// In the order of the port's numbers.
+pub fn figures(eval: Option<RouteEval>, route: &Route) -> Vec<f64> {
+    let rest = |rest: Option<(usize, f64)>| {
+        rest.map_or([0.0, 0.0], |(index, start)| [(index + 1) as f64, start])
+    };
+    let eval = eval.map_or([-1.0; 6], |eval| {
+        let [place, start] = rest(eval.rest);
+        [eval.distance, eval.duration, eval.lateness, eval.lateness_cost, place, start]
+    });
+    let [place, start] = rest(route.rest());
+    let (lateness, cost) = (route.total_lateness(), route.lateness_cost());
+    let load = f64::from(route.total_load());
+    let built =
+        [route.total_distance(), route.total_duration(), lateness, cost, place, start, load];
+    let visits = route
+        .visits()
+        .iter()
+        .flat_map(|visit| [visit.arrival_time, visit.departure_time, f64::from(visit.load_after)]);
+    eval.into_iter().chain(built).chain(visits).collect()
 }
 
 /// The Rust's answers on a round: for its vehicle, and for one that rests as it does and has no
@@ -346,25 +386,8 @@ impl Answers {
         }
     }
 
-    /// In the order of the port's numbers.
     fn figures(&self) -> Vec<f64> {
-        let rest = |rest: Option<(usize, f64)>| {
-            rest.map_or([0.0, 0.0], |(index, start)| [(index + 1) as f64, start])
-        };
-        let eval = self.eval.map_or([-1.0; 6], |eval| {
-            let [place, start] = rest(eval.rest);
-            [eval.distance, eval.duration, eval.lateness, eval.lateness_cost, place, start]
-        });
-        let route = &self.route;
-        let [place, start] = rest(route.rest());
-        let (lateness, cost) = (route.total_lateness(), route.lateness_cost());
-        let load = f64::from(route.total_load());
-        let built =
-            [route.total_distance(), route.total_duration(), lateness, cost, place, start, load];
-        let visits = route.visits().iter().flat_map(|visit| {
-            [visit.arrival_time, visit.departure_time, f64::from(visit.load_after)]
-        });
-        eval.into_iter().chain(built).chain(visits).collect()
+        figures(self.eval, &self.route)
     }
 
     /// The kinds that a round is of, by their places in `KINDS`.

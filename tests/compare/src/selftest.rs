@@ -14,7 +14,7 @@ use crate::refusal::{accepted, limiter_accepted, refusal, METHODS, OFFERED};
 use crate::sheet::{field, Row, Sheet, Vehicle};
 use crate::sheet::{DEPOT, INSERTION, MAX_DISTANCE, NEAREST, NN_TW, PENALTY, REST, SAVINGS};
 use crate::sheet::{SWEEP, WINDOW};
-use crate::{promises, selftest_imports};
+use crate::{promises, selftest_imports, selftest_rests};
 
 const LISTING: &str = "\
 rounds 1 aside 0
@@ -56,6 +56,7 @@ pub fn run() -> ExitCode {
     directions(&mut tally);
     explained(&mut tally);
     selftest_imports::run(&mut tally);
+    selftest_rests::run(&mut tally);
     println!("selftest: {} run, {} failed", tally.run, tally.failed);
     ExitCode::from(u8::from(tally.failed > 0))
 }

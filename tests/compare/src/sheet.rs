@@ -22,6 +22,8 @@ pub const PENALTY: u32 = 4;
 pub const MAX_DISTANCE: u32 = 1;
 pub const MAX_DURATION: u32 = 2;
 pub const REST: u32 = 4;
+/// The rest may be taken at home (document 02, request Four).
+pub const HOME: u32 = 8;
 
 #[derive(Clone, Default)]
 pub struct Row {

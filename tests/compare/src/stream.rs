@@ -3,7 +3,7 @@
 use std::collections::VecDeque;
 
 use crate::damage::{noise, noise_after_header, Base, Case, Values};
-use crate::generate::{random_sheet, tiny};
+use crate::generate::{mark_rests, random_sheet, tiny};
 use crate::random::Random;
 use crate::refusal::refusal;
 
@@ -27,7 +27,7 @@ impl Stream {
     pub fn new(seed: u64) -> Stream {
         Stream {
             random: Random::new(seed),
-            values: Values::all(),
+            values: Values::all_marks(),
             waiting: tiny().iter().map(|sheet| Base::new(sheet).case).collect(),
             noise_len: 0,
         }
@@ -36,7 +36,11 @@ impl Stream {
     /// Another random sheet, its damages unless it is too long to be read, and some noise.
     fn refill(&mut self) {
         let random = &mut self.random;
-        let base = Base::new(&random_sheet(random));
+        let mut sheet = random_sheet(random);
+        if random.one_in(2) {
+            mark_rests(&mut sheet, random);
+        }
+        let base = Base::new(&sheet);
         self.waiting.push_back(base.case.clone());
         if refusal(&base.case.sheet, base.case.plan_len) != 2 {
             if base.case.sheet.len() <= SMALL && random.one_in(FULL) {

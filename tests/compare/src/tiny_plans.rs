@@ -4,7 +4,8 @@
 use crate::generate::{entries, Choices};
 use crate::limit_calls::{Call, TINY};
 use crate::plan::{encode_chains, plan_len, Chains};
-use crate::sheet::{Row, Sheet, Vehicle, MAX_DISTANCE, NEAREST, PENALTY, REST, WINDOW};
+use crate::sheet::{Row, Sheet, Vehicle, HOME, MAX_DISTANCE, MAX_DURATION, NEAREST, PENALTY};
+use crate::sheet::{REST, WINDOW};
 
 const MOST_ROWS: usize = 4;
 const MOST_GREATEST: u32 = 4;
@@ -16,11 +17,21 @@ enum Style {
     Soft,
     Rests,
     Due,
+    Home,
 }
 const STYLES: [Style; 5] = [Style::Plain, Style::Windows, Style::Soft, Style::Rests, Style::Due];
 
-pub fn each_tiny(mut ask: impl FnMut(&Call)) {
-    for style in STYLES {
+pub fn each_tiny(ask: impl FnMut(&Call)) {
+    each_of(&STYLES, ask);
+}
+
+/// The same where the vehicles may rest at home.
+pub fn each_tiny_at_home(ask: impl FnMut(&Call)) {
+    each_of(&[Style::Home], ask);
+}
+
+fn each_of(styles: &[Style], mut ask: impl FnMut(&Call)) {
+    for &style in styles {
         for rows in 0..=MOST_ROWS {
             let sheet = sheet(style, rows);
             let (bytes, mut choices) = (sheet.encode(), Choices::default());
@@ -63,7 +74,7 @@ fn sheet(style: Style, rows: usize) -> Sheet {
     let leg = |from: usize, to: usize| match style {
         Style::Plain | Style::Due => from.abs_diff(to) as f64,
         Style::Windows => (2 + from.abs_diff(to) + usize::from(from < to)) as f64,
-        Style::Soft => (1 + (from + 2 * to) % 3) as f64,
+        Style::Soft | Style::Home => (1 + (from + 2 * to) % 3) as f64,
         Style::Rests => 0.1 * (1 + (3 * from + to) % 5) as f64,
     };
     let vehicles = vec![vehicle(style, 0), vehicle(style, 1)];
@@ -80,6 +91,9 @@ fn row(style: Style, k: usize) -> Row {
         }
         (Style::Soft, 1 | 2) => Row { marks: WINDOW | PENALTY, due: k as f64, penalty: 0.5, ..row },
         (Style::Soft, 3) => Row { marks: WINDOW, due: 5.0, ..row },
+        // The first stop is reached by its due, with no time for a rest.
+        (Style::Home, 0 | 1) => Row { marks: WINDOW, due: [8.0, 3.0][k], ..row },
+        (Style::Home, 3) => Row { marks: WINDOW | PENALTY, due: 4.0, penalty: 0.5, ..row },
         (Style::Rests, 2) => Row { demand: 0, service: 0.3, ..row },
         // The third stop's lone round is late.
         (Style::Due, 0) => Row { marks: WINDOW, ready: 1.0, due: 5.0, ..row },
@@ -101,6 +115,14 @@ fn vehicle(style: Style, k: usize) -> Vehicle {
             let earliest = 1.0;
             Vehicle { marks: REST, earliest, latest: 2.0, rest_duration: 0.5, ..plain }
         }
+        (Style::Home, _) => Vehicle {
+            marks: [REST | HOME, REST | HOME | MAX_DURATION][k],
+            max_duration: [0.0, 6.0][k],
+            earliest: [0.5, 2.0][k],
+            latest: [6.0, 5.0][k],
+            rest_duration: [2.0, 1.0][k],
+            ..plain
+        },
         _ => plain,
     }
 }

@@ -1,6 +1,6 @@
 //! A round that a constructor tries, and what the walk says of it.
 
-use u_routing::evaluation::{route_eval, route_feasible, RouteEval, RouteLimits};
+use u_routing::home::evaluation::{route_eval, route_feasible, RouteEval, RouteLimits};
 use u_routing::models::Vehicle;
 
 use crate::kinds::{Kind, Seen};

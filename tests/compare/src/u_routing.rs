@@ -1,4 +1,4 @@
-//! The u-routing sources as they are; build.rs lays them into OUT_DIR.
+//! The u-routing sources as they are, and once more below `home`; build.rs lays them into OUT_DIR.
 
 #![allow(dead_code, unused_imports)]
 

@@ -3,7 +3,7 @@
 use crate::random::Random;
 use crate::refusal::MOST_VEHICLES;
 use crate::sheet::{Sheet, Vehicle};
-use crate::sheet::{DEPOT, MAX_DISTANCE, MAX_DURATION, PENALTY, REST, WINDOW};
+use crate::sheet::{DEPOT, HOME, MAX_DISTANCE, MAX_DURATION, PENALTY, REST, WINDOW};
 
 /// One change, of any of the sheet's parts.
 pub fn vary(sheet: &mut Sheet, random: &mut Random) {
@@ -139,6 +139,7 @@ fn keep_to_marks(vehicle: &mut Vehicle) {
     vehicle.max_duration = set(MAX_DURATION, vehicle.max_duration);
     vehicle.latest = set(REST, vehicle.latest).max(vehicle.earliest);
     if vehicle.marks & REST == 0 {
+        vehicle.marks &= !HOME;
         (vehicle.earliest, vehicle.latest, vehicle.rest_duration) = (0.0, 0.0, 0.0);
     }
 }

@@ -17,7 +17,7 @@ use Rattle.evaluation_clock.specs.Serve.{pass, serveOf}
 use Rattle.evaluation_clock.specs.Clock.{stepOf, takenOf, movedOf, unrested, returned}
 use Rattle.evaluation.specs.Walk.{driveTo}
 use Rattle.evaluation.specs.Limits.{limitsAt, isUnlimited, allowOf}
-use Rattle.evaluation.specs.Verdict.{heldTo, verdictOf, verdictFrom}
+use Rattle.evaluation.specs.Verdict.{heldTo, mends, orHome, verdictOf, verdictFrom}
 use Rattle.evaluation.specs.Feasible.{routeFeasible}
 use Rattle.evaluation.specs.Checks.{someWindowed, hasTimeWindows, hasSoftWindows, routeChecksNeeded}
 use Rattle.constructive.specs.Terms.{termsOf}
@@ -52,7 +52,7 @@ pub record Rows : Type 0 where
   pub row14 : planned (relative 0 0 0) ≡ each
 
 pub cases : Rows
-unfolding clarkeWright plannedBy asideOf roundsOf mergedBy mergeOf mergePasses slotOf startsOf startsAlone ranked numbered savingsOf savingsFrom directedOf termsOf symmetric sameBack loadOf count lastOf routeChecksNeeded hasSoftWindows hasTimeWindows someWindowed routeFeasible verdictFrom verdictOf heldTo allowOf isUnlimited driveTo movedOf takenOf returned unrested stepOf serveOf pass fixedInDistance gateAt demandOf stopOf depotField limitsAt limitAt restAfter vehicleOf distanceOf rowsOf vehiclesOf rowMarks vehicleMarks marked sorted insert number bytes f64At add sub div ofBits lt le
+unfolding clarkeWright plannedBy asideOf roundsOf mergedBy mergeOf mergePasses slotOf startsOf startsAlone ranked numbered savingsOf savingsFrom directedOf termsOf symmetric sameBack loadOf count lastOf routeChecksNeeded hasSoftWindows hasTimeWindows someWindowed routeFeasible verdictFrom verdictOf heldTo mends orHome allowOf isUnlimited driveTo movedOf takenOf returned unrested stepOf serveOf pass fixedInDistance gateAt demandOf stopOf depotField limitsAt limitAt restAfter vehicleOf distanceOf rowsOf vehiclesOf rowMarks vehicleMarks marked sorted insert number bytes f64At add sub div ofBits lt le
 cases = record { row1 = refl; row6 = refl; row7 = refl; row8 = refl; row14 = refl }
 
 -- ---- the ways of joining stop 1's round, in slot 0, and stop 2's, in slot 1

@@ -1,9 +1,10 @@
 -- `evaluation::route_feasible` meets its contract. Assumes nothing.
-use mathlib.Core.Path.{_∙_, ap}
+use mathlib.Core.Path.{refl, _∙_, ap}
 use borrow.Author.Needs.{needs}
 use Rattle.evaluation.specs.Verdict.{isFeasible}
 use Rattle.evaluation.specs.Feasible.{routeFeasible}
 use Rattle.evaluation.proofs.ByRest.{by-rest}
+use Rattle.evaluation.proofs.Soonest.{soonest-feasible}
 use Rattle.evaluation.proofs.route_feasible.Statement.{statement}
 use Rattle.evaluation.proofs.route_feasible.Tie as tie
 
@@ -27,11 +28,10 @@ kept-by-requires-2 c κs = search needs
 
 returns : tie.Need-returns
 unfolding routeFeasible
-returns c = c .kept-by .ensures ∙ ap isFeasible (by-rest _ _ _ _ _ _ (c .before .before .enum-told .given .1) (c .before .walk .ensures))
+returns c = c .kept-by .ensures ∙ ap isFeasible (by-rest _ _ _ _ _ _ (c .before .before .enum-told .given .1) refl (c .before .walk .ensures))
 
 returns-2 : tie.Need-returns-2
-unfolding routeFeasible
-returns-2 c = c .kept-by2 .ensures ∙ ap isFeasible (by-rest _ _ _ _ _ _ (c .before .before .before .rest .given .1) (c .before .schedule .ensures))
+returns-2 c = c .kept-by2 .ensures ∙ soonest-feasible _ _ _ _ _ (c .before .before .before .rest .given .1) _ (c .before .schedule .ensures)
 
 pub route-feasible-spec : {M : Type 1} → statement M
 route-feasible-spec =

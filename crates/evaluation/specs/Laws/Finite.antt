@@ -1,14 +1,15 @@
 -- On an accepted sheet every figure of a round is finite, not negative and no NaN, so that it can be compared and written. Assumes nothing.
-use mathlib.Core.Path.{sym, subst}
+use mathlib.Core.Path.{_≡_, refl, sym, subst}
 use Prim.Native.Nat.{ℕ, suc, _+_, _*_, _^_, _≤_, _<_, suc-le-suc}
-use native.Mathlib.Nat.{zero-lt-suc}
+use native.Mathlib.Nat.{zero-lt-suc, le-trans, le-of-eq, mul-right-comm, mul-le-mul-right, le-of-mul-le-mul-right}
 use native.Mathlib.Omega.{arith}
 use mathlib.Core.Bool.{Bool, true, false, not, cond}
 use mathlib.Core.List.{List, [], _∷_}
 use lib.Dec.{T}
 use lib.ListN.{length, getD}
-use lib.Ieee.{Float, le, isNan}
-use Rattle.numbers.specs.Laws.Upto.{Upto, widen, exact-scaled, add-upto, add-units, no-nan}
+use lib.Ieee.{Float, nan, inf, fin, up, down, lt, le, isNan}
+use lib.Ieee.Fits.{down-pos, and-l}
+use Rattle.numbers.specs.Laws.Upto.{Upto, widen, exact-scaled, add-upto, add-units, no-nan, or-le}
 use Rattle.numbers.specs.Laws.Range.{zero-upto}
 use Rattle.sheet.specs.Fields.{rowsOf}
 use Rattle.sheet.specs.Accepted.{Accepted}
@@ -31,11 +32,11 @@ use Rattle.evaluation.specs.declared.RouteEval.{RouteEval}
 use Rattle.evaluation.specs.declared.RouteEval.the-variants.{Allowed, NotAllowed}
 use Rattle.evaluation_clock.specs.Sums.{_⊕_}
 use Rattle.evaluation.specs.Routed.{Routed}
-use Rattle.evaluation_clock.specs.Serve.{restStart, atDepot}
+use Rattle.evaluation_clock.specs.Serve.{restStart, laterOf, atDepot}
 use Rattle.evaluation_clock.specs.Clock.{Clock, stepOf, stepRested, winsOver, earlierOf, takenOf, movedOf, homeSchedule, unrested, endOf, homeward, returned}
 use Rattle.evaluation.specs.Walk.{Position, startAt, driveTo, walkedOver, homeFrom, scheduledOf}
 use Rattle.evaluation.specs.Limits.{allowOf}
-use Rattle.evaluation.specs.Verdict.{Verdict, allowed, overLimit, heldTo, evalOf}
+use Rattle.evaluation.specs.Verdict.{Verdict, allowed, overLimit, noSchedule, heldTo, homeStart, mends, restedHome, mendedBy, mended, orHome, evalOf}
 use Rattle.evaluation.specs.Feasible.{routeEval, pricedDistance, costOf, effectiveCost}
 use Rattle.evaluation.specs.Laws.Verdict.{verdict-scheduled}
 use Rattle.evaluation_clock.specs.Laws.Bounds.{Times, one-time, AnswerBounded, LabelBounded, ServedBounded, serve-bounded, rested-bounded}
@@ -175,6 +176,41 @@ unfolding costOf isNan
 cost-of-number (Allowed k) ok = no-nan (2 ^ 68) (pricedDistance k) (priced-bounded k ok)
 cost-of-number NotAllowed ok = tt
 
+-- ---- with the rest at home
+le-upto : (m n : ℕ) (x y : Float) → Upto m x → Upto n y → T (le x y) → Upto n x
+unfolding le
+le-upto m n nan y u v h = absurd u
+le-upto m n (inf s) y u v h = absurd u
+le-upto m n (fin true a e) y u v h = absurd u
+le-upto m n (fin false a e) nan u v h = absurd v
+le-upto m n (fin false a e) (inf t) u v h = absurd v
+le-upto m n (fin false a e) (fin true c d) u v h = absurd v
+le-upto m n (fin false a e) (fin false c d) u v h =
+    le-of-mul-le-mul-right {k = down d}
+    (le-trans (or-le (a * up e * down d) (c * up d * down e) h) (le-trans (mul-le-mul-right (down e) v) (le-of-eq (mul-right-comm n (down d) (down e)))))
+    (down-pos d)
+
+later-upto : (n : ℕ) (x y : Float) → Upto n x → Upto n y → Upto n (laterOf x y)
+later-upto n x y u v = go (lt x y)
+  where
+    go : (t : Bool) → Upto n (cond t y x)
+    go true = v
+    go false = u
+
+pub mended-bounded : (limits : RouteLimits) (b : VehicleBreak) (place : ℕ) (k : Schedule) → BreakBounded b → ScheduleBounded k → mends limits b (k .distance) (k .duration) ≡ true → ScheduleBounded (restedHome b place k)
+unfolding mends
+mended-bounded limits b place k r ok e =
+    let start = homeStart b (k .duration) in
+    let l = and-l (le start (b .latest)) (allowOf limits (k .distance) (start ⊕ b .duration)) (subst T (sym e) tt) in
+    let u : Upto (10 ^ 9) start = le-upto (2 ^ 40) (10 ^ 9) start (b .latest) (later-upto (2 ^ 40) (k .duration) (b .earliest) (ok .duration) (widen (10 ^ 9) (2 ^ 40) (b .earliest) (omega arith) (r .earliest))) (r .latest) l in
+    record {
+      distance = ok .distance;
+      duration = add-upto (10 ^ 9) (10 ^ 9) (2 ^ 40) start (b .duration) u (r .duration) (omega arith) (exact-scaled 1 40 (omega arith) (omega arith));
+      lateness = ok .lateness;
+      cost = ok .cost;
+      rest = widen (10 ^ 9) (2 ^ 40) start (omega arith) u;
+    }
+
 -- ---- a round of an accepted sheet, for a vehicle whose rest is in range, as `vehicle-bounded` has it
 module _ (s : List ℕ) (depot : ℕ) (route : List ℕ) (ok : Routed s depot route) where
   pub scheduled-bounded : (rest : Rest) → RestBounded rest → ScheduledBounded (scheduledOf s depot rest route)
@@ -192,11 +228,34 @@ module _ (s : List ℕ) (depot : ℕ) (route : List ℕ) (ok : Routed s depot ro
       go true = u
       go false = tt
 
+  home-bounded-by : (limits : RouteLimits) (place : ℕ) (v : Verdict) → EvalBounded (evalOf v) → (rest : Rest) → RestBounded rest → (plain : Scheduled) → ScheduledBounded plain → EvalBounded (evalOf (mended limits rest place plain v))
+  home-bounded-by limits place v u restless r plain w = u
+  home-bounded-by limits place v u (Required b) r plain w = marked (limits .«at_home»)
+    where
+      fit : (k : Schedule) → ScheduleBounded k → (t : Bool) → mends limits b (k .distance) (k .duration) ≡ t → EvalBounded (evalOf (cond t (allowed (restedHome b place k)) v))
+      fit k ok true e = mended-bounded limits b place k r ok e
+      fit k ok false e = u
+
+      walked : (x : Scheduled) → ScheduledBounded x → EvalBounded (evalOf (mendedBy limits b place x v))
+      walked NotFound ok = u
+      walked (Found k) ok = fit k ok (mends limits b (k .distance) (k .duration)) refl
+
+      marked : (t : Bool) → EvalBounded (evalOf (cond t (mendedBy limits b place plain v) v))
+      marked true = walked plain w
+      marked false = u
+
+  or-home-bounded : (limits : RouteLimits) (rest : Rest) (place : ℕ) (plain : Scheduled) (v : Verdict) → EvalBounded (evalOf v) → RestBounded rest → ScheduledBounded plain → EvalBounded (evalOf (orHome limits rest place plain v))
+  unfolding orHome
+  or-home-bounded limits rest place plain (allowed k) u r w = u
+  or-home-bounded limits rest place plain (overLimit k) u r w = home-bounded-by limits place (overLimit k) u rest r plain w
+  or-home-bounded limits rest place plain noSchedule u r w = home-bounded-by limits place noSchedule u rest r plain w
+
   pub eval-bounded : (limits : RouteLimits) → RestBounded (limits .rest) → EvalBounded (routeEval s depot limits route)
   unfolding routeEval
   eval-bounded limits u =
       subst (λ (v : Verdict). EvalBounded (evalOf v)) (sym (verdict-scheduled s depot limits route))
-      (held-bounded limits (scheduledOf s depot (limits .rest) route) (scheduled-bounded (limits .rest) u))
+      (or-home-bounded limits (limits .rest) (1 + length route) (scheduledOf s depot restless route) (heldTo limits (scheduledOf s depot (limits .rest) route))
+      (held-bounded limits (scheduledOf s depot (limits .rest) route) (scheduled-bounded (limits .rest) u)) u (scheduled-bounded restless tt))
 
   -- an effective cost can be compared: it is a number, or the infinity of a round that is not allowed
   pub cost-number : (limits : RouteLimits) → RestBounded (limits .rest) → T (not (isNan (effectiveCost s depot limits route)))

@@ -1,22 +1,19 @@
 -- What the limits of a vehicle of the sheet are. They are unfolded here alone. Assumes nothing.
-use mathlib.Core.Path.{_≡_, refl}
-use Prim.Native.Nat.{ℕ, _*_, _^_, _≤_, _<_}
-use native.Mathlib.Nat.{le-of-lt, lt-of-lt-of-le}
+use mathlib.Core.Path.{_≡_, refl, sym, subst}
+use Prim.Native.Nat.{ℕ, _^_, _<_}
+use native.Mathlib.Nat.{lt-of-lt-of-le}
 use native.Mathlib.Omega.{arith}
 use mathlib.Core.Bool.{Bool, true, false, _&&_, cond}
 use mathlib.Core.List.{List}
 use lib.Dec.{T}
-use borrow.Author.Tests.{ltb-true, ltb-false}
-use lib.Ieee.{Float, nan, inf, fin, up, down, lt, le}
-use lib.Ieee.Fits.{down-pos}
-use lib.Ieee.Order.{le-of-values}
-use lib.Ieee.Positive.{num, den, through}
-use Rattle.numbers.specs.Laws.Upto.{Upto, or-le, widen}
+use lib.Ieee.{Float, lt, le}
+use Rattle.numbers.specs.Laws.Upto.{Upto, widen, lt→le}
+use Rattle.numbers.specs.Laws.Order.{le-through, not-below-le}
 use Rattle.sheet.specs.Fields.{rowsOf, vehiclesOf, vehicleAt, depotField}
 use Rattle.sheet.specs.Accepted.{Accepted}
 use Rattle.sheet.specs.Laws.Depots.{depots-few}
 use Rattle.sheet.specs.Laws.Finite.{GateBounded, LimitBounded, stop-bounded}
-use Rattle.sheet.specs.Values.{stopOf, vehicleOf}
+use Rattle.sheet.specs.Values.{restsHomeAt, stopOf, vehicleOf}
 use Rattle.sheet.specs.declared.customer.Gate.{Gate}
 use Rattle.sheet.specs.declared.customer.Gate.the-variants.{Open, Hard, Soft}
 use Rattle.sheet.specs.declared.vehicle.Limit.{Limit}
@@ -27,6 +24,10 @@ use Rattle.evaluation.specs.Limits.{latestReturn, lowerOf, limitsAt, wit
 pub limits-rest : (s : List ℕ) (v : ℕ) → limitsAt s v .rest ≡ vehicleOf s v .rest
 unfolding limitsAt
 limits-rest s v = refl
+
+pub limits-home : (s : List ℕ) (v : ℕ) → limitsAt s v .«at_home» ≡ restsHomeAt s v
+unfolding limitsAt
+limits-home s v = refl
 
 -- when the vehicle's rounds have to be home, by its own depot's row
 abbrev pub returnOf : List ℕ → ℕ → Limit
@@ -43,43 +44,6 @@ pub home-row : (s : List ℕ) (v : ℕ) → Accepted s → v < vehiclesOf s → 
 home-row s v a h r = lt-of-lt-of-le (a .vehicle v h .depot) (depots-few s r)
 
 -- ---- two limits in one
--- numbers that are not negative: z ≤ y ≤ x
-le-through : (a b c : ℕ) (x y z : Float) → Upto a x → Upto b y → Upto c z → num y * den x ≤ num x * den y → T (le z y) → T (le z x)
-unfolding le
-le-through a b c nan y z u v w g h = absurd u
-le-through a b c (inf s) y z u v w g h = absurd u
-le-through a b c (fin true m e) y z u v w g h = absurd u
-le-through a b c (fin false m e) nan z u v w g h = absurd v
-le-through a b c (fin false m e) (inf s) z u v w g h = absurd v
-le-through a b c (fin false m e) (fin true k d) z u v w g h = absurd v
-le-through a b c (fin false m e) (fin false k d) nan u v w g h = absurd w
-le-through a b c (fin false m e) (fin false k d) (inf s) u v w g h = absurd w
-le-through a b c (fin false m e) (fin false k d) (fin true n p) u v w g h = absurd w
-le-through a b c (fin false m e) (fin false k d) (fin false n p) u v w g h =
-    le-of-values (fin false n p) (fin false m e) (n * up p) (down p) (m * up e) (down e) (down-pos p) (down-pos e) (refl, refl) (refl, refl)
-    (through (n * up p) (k * up d) (m * up e) (down p) (down d) (down e) (down-pos d) (or-le (n * up p * down d) (k * up d * down p) h) g)
-
--- the order that `lt` tells
-lt-cross : (a b : ℕ) (x y : Float) → Upto a x → Upto b y → lt y x ≡ true → num y * den x ≤ num x * den y
-unfolding lt
-lt-cross a b nan y u v h = absurd u
-lt-cross a b (inf s) y u v h = absurd u
-lt-cross a b (fin true m e) y u v h = absurd u
-lt-cross a b (fin false m e) nan u v h = absurd v
-lt-cross a b (fin false m e) (inf s) u v h = absurd v
-lt-cross a b (fin false m e) (fin true k d) u v h = absurd v
-lt-cross a b (fin false m e) (fin false k d) u v h = le-of-lt (ltb-true (k * up d * down e) (m * up e * down d) h)
-
-ge-cross : (a b : ℕ) (x y : Float) → Upto a x → Upto b y → lt y x ≡ false → num x * den y ≤ num y * den x
-unfolding lt
-ge-cross a b nan y u v h = absurd u
-ge-cross a b (inf s) y u v h = absurd u
-ge-cross a b (fin true m e) y u v h = absurd u
-ge-cross a b (fin false m e) nan u v h = absurd v
-ge-cross a b (fin false m e) (inf s) u v h = absurd v
-ge-cross a b (fin false m e) (fin true k d) u v h = absurd v
-ge-cross a b (fin false m e) (fin false k d) u v h = ltb-false (k * up d * down e) (m * up e * down d) h
-
 -- what keeps the lower keeps both
 lower-keeps : (a b : Limit) (c : ℕ) (z : Float) → LimitBounded a → LimitBounded b → Upto c z → T (withinOf (lowerOf a b) z) → T (withinOf a z) × T (withinOf b z)
 lower-keeps Unlimited b c z u v w h = (tt, h)
@@ -87,8 +51,8 @@ lower-keeps (Max x) Unlimited c z u v w h = (h, tt)
 lower-keeps (Max x) (Max y) c z u v w h = go (lt y x) refl h
   where
     go : (t : Bool) → lt y x ≡ t → T (withinOf (cond t (Max y) (Max x)) z) → T (le z x) × T (le z y)
-    go true e h = (le-through _ _ c x y z u v w (lt-cross _ _ x y u v e) h, h)
-    go false e h = (h, le-through _ _ c y x z v u w (ge-cross _ _ x y u v e) h)
+    go true e h = (le-through c (10 ^ 12) (10 ^ 12) z y x w v u h (lt→le y x (subst T (sym e) tt)), h)
+    go false e h = (h, le-through c (10 ^ 12) (10 ^ 12) z x y w u v h (not-below-le (10 ^ 12) (10 ^ 12) x y u v e))
 
 -- and what keeps both keeps the lower
 lower-kept : (a b : Limit) (z : Float) → T (withinOf a z) → T (withinOf b z) → T (withinOf (lowerOf a b) z)

@@ -17,6 +17,7 @@ use Rattle.evaluation_clock.specs.declared.label.RestAnswer.the-variants.{NoRes
 use Rattle.evaluation_clock.specs.declared.label.Served.{Served}
 use Rattle.evaluation_clock.specs.declared.label.Served.the-variants.{Done, Refused}
 use Rattle.evaluation_clock.specs.declared.clock.Schedule.{Schedule}
+use Rattle.evaluation_clock.specs.declared.clock.Scheduled.{Scheduled}
 use Rattle.evaluation_clock.specs.declared.clock.Scheduled.the-variants.{Found, NotFound}
 use Rattle.evaluation_clock.specs.Sums.{_⊕_}
 use Rattle.evaluation_clock.specs.Clock.{Clock, stepOf, stepRested, earlierOf, takenOf, movedOf, served, aliveOf, nextOf, homeSchedule, unrested, endOf, homeward, returned, finishOf, clockOf, breakClock}
@@ -103,3 +104,33 @@ unfolding scheduledOf homeFrom
 unrested-answer s depot route k e =
     let c = walkedOver s (startAt restless depot) route .clock in
     home-unrested (c .rest) (c .before) (c .after) _ _ k (walked-rest s (startAt restless depot) route) e
+
+-- ---- the label with the rest still to take is that of the walk without one
+record Alike (p q : Position) : Type 0 where
+  before : p .clock .before ≡ q .clock .before
+  prev : p .clock .prev ≡ q .clock .prev
+  distance : p .distance ≡ q .distance
+
+alike-on : (s : List ℕ) (p q : Position) (row : ℕ) → Alike p q → Alike (driveTo s p row) (driveTo s q row)
+unfolding driveTo movedOf
+alike-on s p q row a = record { before = rw (a .before, a .prev); prev = refl; distance = rw (a .distance, a .prev) }
+
+alike-over : (s : List ℕ) (p q : Position) (rows : List ℕ) → Alike p q → Alike (walkedOver s p rows) (walkedOver s q rows)
+alike-over s p q [] a = a
+alike-over s p q (row ∷ rows) a = alike-over s (driveTo s p row) (driveTo s q row) rows (alike-on s p q row a)
+
+-- its schedule, from a position that has walked with a rest
+abbrev pub plainFrom : List ℕ → ℕ → Position → Scheduled
+plainFrom s depot p = unrested (p .clock .before) (p .distance ⊕ distanceOf s (p .clock .prev) depot) (timeOf s (p .clock .prev) depot)
+
+plain-returned : (rest : Rest) (before after : Served) (distance back : Float) → rest ≡ restless → unrested before distance back ≡ returned rest before after distance back
+unfolding returned
+plain-returned restless before after distance back e = refl
+plain-returned (Required b) before after distance back e = let z : _≡_ {A = ℕ} 0 1 = cc in absurd (omega arith)
+
+pub plain-walk : (s : List ℕ) (depot : ℕ) (rest : Rest) (route : List ℕ) → plainFrom s depot (walkedOver s (startAt rest depot) route) ≡ scheduledOf s depot restless route
+unfolding scheduledOf homeFrom
+plain-walk s depot rest route =
+    let q = walkedOver s (startAt restless depot) route in
+    let a = alike-over s (startAt rest depot) (startAt restless depot) route (record { before = refl; prev = refl; distance = refl }) in
+    rw (a .before, a .prev, a .distance) (plain-returned (q .clock .rest) (q .clock .before) (q .clock .after) _ _ (walked-rest s (startAt restless depot) route))

@@ -1,5 +1,5 @@
 -- `evaluation_prefix::eval_on` meets its contract. Assumes nothing.
-use mathlib.Core.Path.{_∙_, ap}
+use mathlib.Core.Path.{refl, _∙_, ap}
 use Prim.Native.Nat.{_-_}
 use native.Mathlib.Omega.{arith}
 use lib.ListN.{length}
@@ -39,7 +39,7 @@ returns-2 : tie.Need-returns-2
 unfolding routeEval
 returns-2 c =
     let o = c .before .before .before .before .before .before in
-    c .eval-by .ensures ∙ ap evalOf (by-rest _ _ _ _ _ _ (o .pre .1 .unrested (omega (arith, c .before .before .before .if1 .left))) (whole _ _ _ _ _ (o .pre .1) _ (c .before .walk-on .ensures)))
+    c .eval-by .ensures ∙ ap evalOf (by-rest _ _ _ _ _ _ (o .pre .1 .unrested (omega (arith, c .before .before .before .if1 .left))) refl (whole _ _ _ _ _ (o .pre .1) _ (c .before .walk-on .ensures)))
 
 pub eval-on-spec : {M : Type 1} → statement M
 eval-on-spec =

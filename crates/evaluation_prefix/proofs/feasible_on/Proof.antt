@@ -1,5 +1,5 @@
 -- `evaluation_prefix::feasible_on` meets its contract. Assumes nothing.
-use mathlib.Core.Path.{_∙_, ap}
+use mathlib.Core.Path.{refl, _∙_, ap}
 use Prim.Native.Nat.{_-_}
 use native.Mathlib.Omega.{arith}
 use lib.ListN.{length}
@@ -39,7 +39,7 @@ returns-2 : tie.Need-returns-2
 unfolding routeFeasible
 returns-2 c =
     let o = c .before .before .before .before .before .before in
-    c .kept-by .ensures ∙ ap isFeasible (by-rest _ _ _ _ _ _ (o .pre .1 .unrested (omega (arith, c .before .before .before .if1 .left))) (whole _ _ _ _ _ (o .pre .1) _ (c .before .walk-on .ensures)))
+    c .kept-by .ensures ∙ ap isFeasible (by-rest _ _ _ _ _ _ (o .pre .1 .unrested (omega (arith, c .before .before .before .if1 .left))) refl (whole _ _ _ _ _ (o .pre .1) _ (c .before .walk-on .ensures)))
 
 pub feasible-on-spec : {M : Type 1} → statement M
 feasible-on-spec =

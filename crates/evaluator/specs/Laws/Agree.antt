@@ -3,7 +3,9 @@ use mathlib.Core.Path.{_≡_, refl, sym, ap, _∙_, subst}
 use Prim.Native.Nat.{ℕ, _+_, _≤_, _<_}
 use native.Mathlib.Omega.{arith}
 use mathlib.Core.Bool.{Bool, true, false, cond}
+use mathlib.Core.Logic.{_⊎_, inl, inr}
 use mathlib.Core.List.{List, [], _∷_}
+use lib.ListN.{length}
 use lib.Ieee.{Float, lt, le}
 use borrow.Author.Tests.{eq-eqb, ne-eqb}
 use Rattle.sheet.specs.Values.{nought, stopOf, distanceOf, timeOf}
@@ -14,7 +16,7 @@ use Rattle.sheet.specs.declared.vehicle.Rest.{Rest}
 use Rattle.sheet.specs.declared.vehicle.Rest.the-variants.{NoRest as Unrested, Required}
 use Rattle.evaluation_clock.specs.Sums.{_⊕_}
 use Rattle.evaluation_clock.specs.Window.{violatedOf}
-use Rattle.evaluation.specs.Verdict.{heldTo, verdictOn, placedRest}
+use Rattle.evaluation.specs.Verdict.{Verdict, allowed, overLimit, noSchedule, homeStart, restedHome, verdictOn, evalOf, placedRest}
 use Rattle.evaluation.specs.Feasible.{routeEval}
 use Rattle.evaluation.specs.declared.limits.RouteLimits.{RouteLimits}
 use Rattle.evaluation.specs.declared.RouteEval.the-variants.{Allowed}
@@ -29,8 +31,8 @@ use Rattle.evaluation_clock.specs.declared.clock.Schedule.{Schedule}
 use Rattle.evaluation_clock.specs.declared.clock.Scheduled.{Scheduled}
 use Rattle.evaluation_clock.specs.declared.clock.Scheduled.the-variants.{Found, NotFound}
 use Rattle.evaluation.specs.Walk.{Position, startAt, driveTo, walkedOver, homeFrom, scheduledOf}
-use Rattle.evaluation.specs.Laws.Walk.{unrested-answer}
-use Rattle.evaluation.specs.Laws.Verdict.{verdict-scheduled, allowed-figures, held-rest}
+use Rattle.evaluation.specs.Laws.Walk.{walked-place, unrested-answer, plainFrom, plain-walk}
+use Rattle.evaluation.specs.Laws.Verdict.{Mended, allowed-figures}
 use Rattle.evaluator.specs.declared.Progress.{Progress}
 use Rattle.evaluator.specs.declared.Placed.{Placed}
 use Rattle.evaluator.specs.declared.Record.{Record}
@@ -240,71 +242,141 @@ kept d NotFound = d
 unlawful : (k : Schedule) → NotFound ≡ Found k → ⊥
 unlawful k e = let z : _≡_ {A = ℕ} 0 1 = cc in omega arith
 
-home : (s : List ℕ) (depot prev : ℕ) (distance : Float) (r : RestAnswer) (l : Label) (p : Progress) → Agree l p → p .prev ≡ prev → p .distance ≡ distance
-    → figures (recordOf s depot r p) ≡ homeSchedule l (distance ⊕ distanceOf s prev depot) (timeOf s prev depot) r
+-- a rest that stands before `place`, or none
+abbrev pub Behind : ℕ → RestAnswer → Type 0
+Behind place NoRest = Unit
+Behind place (Before at start) = at < place
+
+-- does not matter there
+pub ready-behind : (r : RestAnswer) (duration : Float) (place : ℕ) (x : Float) → Behind place r → readyFor r duration place x ≡ x
+unfolding readyFor
+ready-behind NoRest duration place x h = refl
+ready-behind (Before at start) duration place x h = rw (ne-eqb at place (λ e. omega (arith, h, e)))
+
+home : (s : List ℕ) (depot prev : ℕ) (distance : Float) (t : Placed) (l : Label) (p : Progress) → Agree l p → p .prev ≡ prev → p .distance ≡ distance → Behind (p .place) (t .answer)
+    → figures (recordOf s depot t p) ≡ homeSchedule l (distance ⊕ distanceOf s prev depot) (timeOf s prev depot) (t .answer)
 unfolding recordOf
-home s depot prev distance r l p a e d = rw (a .time, a .lateness, a .cost, e, d)
+home s depot prev distance t l p a e d h = rw (ready-behind (t .answer) (t .duration) (p .place) (p .departure ⊕ timeOf s (p .prev) depot) h, a .time, a .lateness, a .cost, e, d)
 
-abbrev Ends : List ℕ → ℕ → (RestAnswer → Progress) → Schedule → Type 0
-Ends s depot f k = figures (recordOf s depot (k .rest) (f (k .rest))) ≡ k
+-- with the rest there
+home-rested : (s : List ℕ) (depot prev place : ℕ) (distance start duration : Float) (l : Label) (p : Progress) → Agree l p → p .prev ≡ prev → p .distance ≡ distance → place ≡ p .place
+    → figures (recordOf s depot (placed duration (Before place start)) p) ≡ record { distance = distance ⊕ distanceOf s prev depot; duration = start ⊕ duration; lateness = l .lateness; «lateness_cost» = l .«lateness_cost»; rest = Before place start }
+unfolding recordOf readyFor
+home-rested s depot prev place distance start duration l p a e d h = rw (eq-eqb place (p .place) h, a .lateness, a .cost, e, d)
 
-module _ (s : List ℕ) (depot : ℕ) where
-  finished : (rest : Rest) (p : Position) (f : RestAnswer → Progress) → Tracks rest p f → (k : Schedule) → homeFrom s depot p ≡ Found k → Ends s depot f k
-  unfolding homeFrom returned unrested homeward endOf kept
-  finished rest p f t k e = by rest (rw (t .rest) at e)
+abbrev Ends : List ℕ → ℕ → Float → (RestAnswer → Progress) → Schedule → Type 0
+Ends s depot duration f k = figures (recordOf s depot (placed duration (k .rest)) (f (k .rest))) ≡ k
+
+module _ (s : List ℕ) (depot : ℕ) (rest : Rest) (p : Position) (f : RestAnswer → Progress) (t : Tracks rest p f) where
+  far : Float
+  far = p .distance ⊕ distanceOf s (p .clock .prev) depot
+
+  back : Float
+  back = timeOf s (p .clock .prev) depot
+
+  -- the schedule's rest stands on the way, and the record with it there is the schedule
+  abbrev Comes : Schedule → Type 0
+  Comes k = Behind (p .clock .place) (k .rest) × Ends s depot (lasts rest) f k
+
+  finished : (k : Schedule) → homeFrom s depot p ≡ Found k → Comes k
+  unfolding homeFrom returned unrested homeward endOf kept far back
+  finished k e = by rest (rw (t .rest) at e)
     where
-      far : Float
-      far = p .distance ⊕ distanceOf s (p .clock .prev) depot
+      early-home : (l : Label) → Agree l (f NoRest) → Found (homeSchedule l far back NoRest) ≡ Found k → Comes k
+      early-home l a q = subst Comes (ap (kept k) q) (tt, home s depot (p .clock .prev) (p .distance) (placed (lasts rest) NoRest) l (f NoRest) a (t .prev NoRest) (t .travelled NoRest) tt)
 
-      back : Float
-      back = timeOf s (p .clock .prev) depot
-
-      early-home : (l : Label) → Agree l (f NoRest) → Found (homeSchedule l far back NoRest) ≡ Found k → Ends s depot f k
-      early-home l a q = subst (Ends s depot f) (ap (kept k) q) (home s depot (p .clock .prev) (p .distance) NoRest l (f NoRest) a (t .prev NoRest) (t .travelled NoRest))
-
-      ended : (x : Served) → IfDone (Rested (p .clock .place) f) x → endOf x far back ≡ Found k → Ends s depot f k
+      ended : (x : Served) → IfDone (Rested (p .clock .place) f) x → endOf x far back ≡ Found k → Comes k
       ended Refused a q = absurd (unlawful k q)
       ended (Done l) a q =
-          subst (Ends s depot f) (ap (kept k) (sym (ap (λ (r : RestAnswer). Found (homeSchedule l far back r)) (a .rest)) ∙ q))
-          (home s depot (p .clock .prev) (p .distance) (Before (a .at) (a .start)) l (f (Before (a .at) (a .start))) (a .agree) (t .prev _) (t .travelled _))
+          let r = Before (a .at) (a .start) in
+          subst Comes (ap (kept k) (sym (ap (λ (r : RestAnswer). Found (homeSchedule l far back r)) (a .rest)) ∙ q))
+          (a .past, home s depot (p .clock .prev) (p .distance) (placed (lasts rest) r) l (f r) (a .agree) (t .prev r) (t .travelled r) (omega (arith, a .past, t .place r)))
 
-      plain : (x : Served) → IfDone (λ (l : Label). Agree l (f NoRest)) x → unrested x far back ≡ Found k → Ends s depot f k
+      plain : (x : Served) → IfDone (λ (l : Label). Agree l (f NoRest)) x → unrested x far back ≡ Found k → Comes k
       plain Refused a q = absurd (unlawful k q)
       plain (Done l) a q = early-home l a q
 
-      rested : (b : VehicleBreak) (x y : Served) → IfDone (λ (l : Label). Agree l (f NoRest)) x → IfDone (Rested (p .clock .place) f) y → homeward b x y far back ≡ Found k → Ends s depot f k
+      rested : (b : VehicleBreak) (x y : Served) → IfDone (λ (l : Label). Agree l (f NoRest)) x → IfDone (Rested (p .clock .place) f) y → homeward b x y far back ≡ Found k → Comes k
       rested b Refused y u v q = ended y v q
       rested b (Done l) y u v q = early (le (l .time ⊕ back) (b .earliest)) q
         where
-          early : (w : Bool) → cond w (Found (homeSchedule l far back NoRest)) (endOf y far back) ≡ Found k → Ends s depot f k
+          early : (w : Bool) → cond w (Found (homeSchedule l far back NoRest)) (endOf y far back) ≡ Found k → Comes k
           early true r = early-home l u r
           early false r = ended y v r
 
-      by : (r : Rest) → returned r (p .clock .before) (p .clock .after) far back ≡ Found k → Ends s depot f k
+      by : (r : Rest) → returned r (p .clock .before) (p .clock .after) far back ≡ Found k → Comes k
       by Unrested q = plain (p .clock .before) (t .before) q
       by (Required b) q = rested b (p .clock .before) (p .clock .after) (t .before) (t .after) q
 
-  walk-ends : (route : List ℕ) (rest : Rest) (p : Position) (f : RestAnswer → Progress) → Tracks rest p f → (k : Schedule) → homeFrom s depot (walkedOver s p route) ≡ Found k
-      → Ends s depot (λ (r : RestAnswer). progressOf s (placed (lasts rest) r) (f r) route) k
-  walk-ends [] rest p f t k e = finished rest p f t k e
-  walk-ends (row ∷ rows) rest p f t k e = walk-ends rows rest (driveTo s p row) (next s row (lasts rest) f) (tracked s row rest p f t) k e
+  -- the walk without a rest, with it at home: until there it did not matter
+  finished-home : (b : VehicleBreak) (j : Schedule) → plainFrom s depot p ≡ Found j → Ends s depot (b .duration) f (restedHome b (p .clock .place) j)
+  unfolding unrested kept far back
+  finished-home b j e = go (p .clock .before) (t .before) e
+    where
+      go : (x : Served) → IfDone (λ (l : Label). Agree l (f NoRest)) x → unrested x far back ≡ Found j → Ends s depot (b .duration) f (restedHome b (p .clock .place) j)
+      go Refused a q = absurd (unlawful j q)
+      go (Done l) a q =
+          let start = homeStart b (l .time ⊕ back) in
+          subst (λ (i : Schedule). Ends s depot (b .duration) f (restedHome b (p .clock .place) i)) (ap (kept j) q)
+          (rw (t .future (p .clock .place) start (omega arith))
+          (home-rested s depot (p .clock .prev) (p .clock .place) (p .distance) start (b .duration) l (f NoRest) a (t .prev NoRest) (t .travelled NoRest) (sym (t .place NoRest))))
 
 -- ---- the whole round
--- the rest stands where the schedule has it
-placed-lawful : (s : List ℕ) (depot : ℕ) (limits : RouteLimits) (route : List ℕ) (k : Schedule) → scheduledOf s depot (limits .rest) route ≡ Found k → placedOf s depot limits route ≡ placed (lasts (limits .rest)) (k .rest)
-unfolding placedOf
-placed-lawful s depot limits route k e =
-    by (limits .rest) (λ r. unrested-answer s depot route k (ap (λ (x : Rest). scheduledOf s depot x route) (sym r) ∙ e))
-    (ap placedRest (verdict-scheduled s depot limits route ∙ ap (heldTo limits) e) ∙ held-rest limits k)
-  where
-    by : (r : Rest) → (r ≡ Unrested → k .rest ≡ NoRest) → placedRest (verdictOn s depot limits route) ≡ k .rest → placedBy r (verdictOn s depot limits route) ≡ placed (lasts r) (k .rest)
-    by Unrested none there = ap (placed nought) (sym (none refl))
-    by (Required b) none there = ap (placed (b .duration)) there
+-- the records of every rest, after the round's stops
+abbrev driven : List ℕ → ℕ → Rest → List ℕ → RestAnswer → Progress
+driven s depot rest route r = progressOf s (placed (lasts rest) r) (beginOf depot) route
+
+tracked-over : (s : List ℕ) (rest : Rest) (p : Position) (f : RestAnswer → Progress) (rows : List ℕ) → Tracks rest p f → Tracks rest (walkedOver s p rows) (λ (r : RestAnswer). progressOf s (placed (lasts rest) r) (f r) rows)
+tracked-over s rest p f [] t = t
+tracked-over s rest p f (row ∷ rows) t = tracked-over s rest (driveTo s p row) (next s row (lasts rest) f) rows (tracked s row rest p f t)
+
+tracked-round : (s : List ℕ) (depot : ℕ) (rest : Rest) (route : List ℕ) → Tracks rest (walkedOver s (startAt rest depot) route) (driven s depot rest route)
+tracked-round s depot rest route =
+    tracked-over s rest (startAt rest depot) (λ (r : RestAnswer). beginOf depot) route
+    (record { rest = refl; prev = λ r. refl; place = λ r. refl; travelled = λ r. refl; future = λ at start h. refl; before = record { time = refl; lateness = refl; cost = refl }; after = tt })
+
+-- a schedule's rest stands before one of its stops
+pub schedule-behind : (s : List ℕ) (depot : ℕ) (rest : Rest) (route : List ℕ) (k : Schedule) → scheduledOf s depot rest route ≡ Found k → Behind (1 + length route) (k .rest)
+unfolding scheduledOf
+schedule-behind s depot rest route k e =
+    subst (λ (n : ℕ). Behind n (k .rest)) (walked-place s (startAt rest depot) route)
+    (finished s depot rest (walkedOver s (startAt rest depot) route) (driven s depot rest route) (tracked-round s depot rest route) k e .0)
+
+-- the rest stands where the verdict has it
+pub verdict-rest : (v : Verdict) (k : Schedule) → evalOf v ≡ Allowed k → placedRest v ≡ k .rest
+verdict-rest (allowed j) k e = let same : j ≡ k = cc in ap (λ (i : Schedule). i .rest) same
+verdict-rest (overLimit j) k e = let z : _≡_ {A = ℕ} 0 1 = cc in absurd (omega arith)
+verdict-rest noSchedule k e = let z : _≡_ {A = ℕ} 0 1 = cc in absurd (omega arith)
+
+module _ (s : List ℕ) (depot : ℕ) (limits : RouteLimits) (route : List ℕ) (k : Schedule) (a : routeEval s depot limits route ≡ Allowed k) where
+  placed-allowed : (limits .rest ≡ Unrested → k .rest ≡ NoRest) → placedOf s depot limits route ≡ placed (lasts (limits .rest)) (k .rest)
+  unfolding placedOf routeEval
+  placed-allowed none = by (limits .rest) none
+    where
+      by : (r : Rest) → (r ≡ Unrested → k .rest ≡ NoRest) → placedBy r (verdictOn s depot limits route) ≡ placed (lasts r) (k .rest)
+      by Unrested none = ap (placed nought) (sym (none refl))
+      by (Required b) none = ap (placed (b .duration)) (verdict-rest (verdictOn s depot limits route) k a)
+
+  scheduled-agree : scheduledOf s depot (limits .rest) route ≡ Found k → figures (buildRoute s depot limits route) ≡ k
+  unfolding buildRoute scheduledOf
+  scheduled-agree e =
+      rw (placed-allowed (λ r. unrested-answer s depot route k (ap (λ (x : Rest). scheduledOf s depot x route) (sym r) ∙ e)))
+      (finished s depot (limits .rest) (walkedOver s (startAt (limits .rest) depot) route) (driven s depot (limits .rest) route) (tracked-round s depot (limits .rest) route) k e .1)
+
+  mended-agree : Mended limits (limits .rest) (1 + length route) (scheduledOf s depot Unrested route) k → figures (buildRoute s depot limits route) ≡ k
+  unfolding buildRoute
+  mended-agree m =
+      let b = m .b in
+      let ends = finished-home s depot (Required b) (walkedOver s (startAt (Required b) depot) route) (driven s depot (Required b) route) (tracked-round s depot (Required b) route) b (m .j) (plain-walk s depot (Required b) route ∙ m .walked) in
+      rw (placed-allowed (λ r. absurd (resting b (sym r ∙ m .resting))), m .resting)
+      (subst (Ends s depot (b .duration) (driven s depot (Required b) route)) (ap (λ (n : ℕ). restedHome b n (m .j)) (walked-place s (startAt (Required b) depot) route) ∙ m .is) ends)
+    where
+      resting : (b : VehicleBreak) → Unrested ≡ Required b → ⊥
+      resting b e = let z : _≡_ {A = ℕ} 0 1 = cc in omega arith
 
 pub eval-agree : (s : List ℕ) (depot : ℕ) (limits : RouteLimits) (route : List ℕ) (k : Schedule) → routeEval s depot limits route ≡ Allowed k → figures (buildRoute s depot limits route) ≡ k
-unfolding buildRoute scheduledOf
-eval-agree s depot limits route k a =
-    let e = allowed-figures s depot limits route k a in
-    rw (placed-lawful s depot limits route k e)
-    (walk-ends s depot route (limits .rest) (startAt (limits .rest) depot) (λ (r : RestAnswer). beginOf depot)
-    (record { rest = refl; prev = λ r. refl; place = λ r. refl; travelled = λ r. refl; future = λ at start h. refl; before = record { time = refl; lateness = refl; cost = refl }; after = tt }) k e)
+eval-agree s depot limits route k a = go (allowed-figures s depot limits route k a)
+  where
+    go : (scheduledOf s depot (limits .rest) route ≡ Found k) ⊎ Mended limits (limits .rest) (1 + length route) (scheduledOf s depot Unrested route) k → figures (buildRoute s depot limits route) ≡ k
+    go (inl e) = scheduled-agree s depot limits route k a e
+    go (inr m) = mended-agree s depot limits route k a m

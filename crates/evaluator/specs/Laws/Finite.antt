@@ -5,6 +5,7 @@ use Prim.Native.Nat.{ℕ, suc, _+_, _-_, _*_, _^_, _≤_, _<_, zero-le, suc-le-s
 use native.Mathlib.Nat.{one-mul, add-mul, add-zero, zero-add, zero-mul, mul-one, mul-le-mul-left, mul-le-mul-right}
 use native.Mathlib.Omega.{arith}
 use mathlib.Core.Bool.{Bool, true, false, cond}
+use mathlib.Core.Logic.{inl, inr}
 use mathlib.Core.List.{List, [], _∷_}
 use lib.Dec.{T, ltb, eqb}
 use lib.Ieee.Fits.{down-pos}
@@ -25,13 +26,14 @@ use Rattle.sheet.specs.declared.customer.Gate.the-variants.{Open, Hard, Soft}
 use Rattle.evaluation_clock.specs.Sums.{_⊕_, _⊗_}
 use Rattle.evaluation_clock.specs.Window.{violatedOf, waitingOf, latenessOf}
 use Rattle.evaluation_clock.specs.Laws.Bounds.{Times, one-time, one-penalty, waiting-bounded, lateness-bounded}
-use Rattle.evaluation.specs.Laws.Finite.{ScheduledBounded, scheduled-bounded}
+use Rattle.evaluation.specs.Laws.Finite.{ScheduledBounded, mended-bounded, scheduled-bounded}
 use Rattle.evaluation_clock.specs.Serve.{restStart}
 use Rattle.evaluation.specs.Walk.{scheduledOf}
 use Rattle.evaluation.specs.Verdict.{Verdict, heldTo, verdictOn, placedRest}
-use Rattle.evaluation.specs.Laws.Verdict.{verdict-scheduled, held-none, held-rest}
+use Rattle.evaluation.specs.Laws.Verdict.{held-none, held-rest}
 use Rattle.evaluation.specs.declared.limits.RouteLimits.{RouteLimits}
 use Rattle.evaluation.specs.Routed.{Routed}
+use Rattle.evaluation_clock.specs.declared.clock.Schedule.{Schedule}
 use Rattle.evaluation_clock.specs.declared.clock.Scheduled.{Scheduled}
 use Rattle.evaluation_clock.specs.declared.clock.Scheduled.the-variants.{Found, NotFound}
 use Rattle.evaluation_clock.specs.declared.label.RestAnswer.{RestAnswer}
@@ -39,6 +41,7 @@ use Rattle.evaluation_clock.specs.declared.label.RestAnswer.the-variants.{NoRes
 use Rattle.evaluator.specs.declared.Progress.{Progress}
 use Rattle.evaluator.specs.declared.Placed.{Placed}
 use Rattle.evaluator.specs.declared.Record.{Record}
+use Rattle.evaluator.specs.Laws.Home.{Told, kept-or-mended}
 use Rattle.evaluator.specs.Record.{placedBy, placedOf, readyFor, departsAt, lateAfter, costAfter, beginOf, visitedOf, progressOf, recordOf, buildRoute, routeCost, priceStart, priceWith}
 
 -- ---- a visit, of a stop that the vehicle is ready for at `ready`
@@ -140,37 +143,47 @@ pub record RecordBounded (k n : ℕ) (r : Record) : Type 0 where
   pub cost : Units 50 (n * late k) (r .«lateness_cost»)
   pub start : StartBounded k (r .rest)
 
-pub record-of-bounded : (s : List ℕ) → Accepted s → (k depot : ℕ) (r : RestAnswer) (p : Progress) (n : ℕ) → k < 2 ^ 20 → n ≤ mostRows → depot < rowsOf s → p .prev < rowsOf s → StartBounded k r
-    → ProgressBounded k n p → RecordBounded k n (recordOf s depot r p)
+pub record-of-bounded : (s : List ℕ) → Accepted s → (k depot : ℕ) (t : Placed) (p : Progress) (n : ℕ) → k < 2 ^ 20 → n ≤ mostRows → depot < rowsOf s → p .prev < rowsOf s → StartBounded k (t .answer) → Times 1 (t .duration)
+    → ProgressBounded k n p → RecordBounded k n (recordOf s depot t p)
 unfolding recordOf
-record-of-bounded s a k depot r p n small few home from start b = record {
+record-of-bounded s a k depot t p n small few home from start resting b = record {
   distance = add-units 30 n 1 (p .distance) (distanceOf s (p .prev) depot) (omega arith) (omega arith) (b .distance) (one-time (distanceOf s (p .prev) depot) (distance-bounded s a (p .prev) depot from home));
-  duration = add-units 30 (k + 4 * n + 1) 1 (p .departure) (timeOf s (p .prev) depot) (omega arith) (omega arith) (b .departure) (one-time (timeOf s (p .prev) depot) (time-bounded s a (p .prev) depot from home));
+  duration = ready-bounded k (k + 4 * n + 1 + 1) (t .answer) (t .duration) (p .place) (p .departure ⊕ timeOf s (p .prev) depot) (omega arith) (omega arith) start resting
+      (add-units 30 (k + 4 * n + 1) 1 (p .departure) (timeOf s (p .prev) depot) (omega arith) (omega arith) (b .departure) (one-time (timeOf s (p .prev) depot) (time-bounded s a (p .prev) depot from home)));
   lateness = b .lateness;
   cost = b .cost;
   start = start;
 }
 
 -- ---- the rest that a round takes starts within 2 ^ 40, which is 1024 units
+start-bounded-by : (r : RestAnswer) → Upto (2 ^ 40) (restStart r) → StartBounded 1024 r
+start-bounded-by NoRest v = tt
+start-bounded-by (Before at start) v = v
+
 answer-bounded : (limits : RouteLimits) (x : Scheduled) → ScheduledBounded x → StartBounded 1024 (placedRest (heldTo limits x))
 answer-bounded limits NotFound u = rw (held-none limits) tt
-answer-bounded limits (Found k) u = subst (StartBounded 1024) (sym (held-rest limits k)) (go (k .rest) (u .rest))
-  where
-    go : (r : RestAnswer) → Upto (2 ^ 40) (restStart r) → StartBounded 1024 r
-    go NoRest v = tt
-    go (Before at start) v = v
+answer-bounded limits (Found k) u = subst (StartBounded 1024) (sym (held-rest limits k)) (start-bounded-by (k .rest) (u .rest))
 
 module _ (s : List ℕ) (depot : ℕ) (route : List ℕ) (ok : Routed s depot route) where
   rest-bounded : (v : Verdict) → StartBounded 1024 (placedRest v) → (rest : Rest) → RestBounded rest → StartBounded 1024 (placedBy rest v .answer) × Times 1 (placedBy rest v .duration)
   rest-bounded v a Unrested u = (tt, zero-upto (1 * 2 ^ 30))
   rest-bounded v a (Required b) u = (a, one-time (b .duration) (u .duration))
 
+  -- where the verdict has it, a round mended by it at home too
+  verdict-bounded : (limits : RouteLimits) → RestBounded (limits .rest) → StartBounded 1024 (placedRest (verdictOn s depot limits route))
+  verdict-bounded limits u = go (kept-or-mended s depot limits route)
+    where
+      go : Told s depot limits route → StartBounded 1024 (placedRest (verdictOn s depot limits route))
+      go (inl e) = subst (λ (v : Verdict). StartBounded 1024 (placedRest v)) (sym e) (answer-bounded limits (scheduledOf s depot (limits .rest) route) (scheduled-bounded s depot route ok (limits .rest) u))
+      go (inr m) =
+          let w = m .how in
+          let c = subst ScheduledBounded (w .walked) (scheduled-bounded s depot route ok Unrested tt) in
+          let k = mended-bounded limits (w .b) (1 + length route) (w .j) (subst RestBounded (w .resting) u) c (w .fits) in
+          subst (λ (v : Verdict). StartBounded 1024 (placedRest v)) (sym (m .is)) (start-bounded-by (m .k .rest) (subst (λ (k : Schedule). Upto (2 ^ 40) (restStart (k .rest))) (w .is) (k .rest)))
+
   pub placed-bounded : (limits : RouteLimits) → RestBounded (limits .rest) → StartBounded 1024 (placedOf s depot limits route .answer) × Times 1 (placedOf s depot limits route .duration)
   unfolding placedOf
-  placed-bounded limits u =
-      rest-bounded (verdictOn s depot limits route)
-      (subst (λ (v : Verdict). StartBounded 1024 (placedRest v)) (sym (verdict-scheduled s depot limits route))
-      (answer-bounded limits (scheduledOf s depot (limits .rest) route) (scheduled-bounded s depot route ok (limits .rest) u))) (limits .rest) u
+  placed-bounded limits u = rest-bounded (verdictOn s depot limits route) (verdict-bounded limits u) (limits .rest) u
 
   -- every figure of a round's record
   pub record-bounded : (limits : RouteLimits) → RestBounded (limits .rest) → RecordBounded 1024 (length route) (buildRoute s depot limits route)
@@ -179,7 +192,7 @@ module _ (s : List ℕ) (depot : ℕ) (route : List ℕ) (ok : Routed s depot ro
       let t = placedOf s depot limits route in
       let v = placed-bounded limits u in
       let p = progress-bounded s (ok .sheet) 1024 (omega arith) t (v .0) (v .1) route (beginOf depot) 0 (omega (arith, ok .few)) (ok .home) (ok .row) (begin-bounded 1024 depot) in
-      record-of-bounded s (ok .sheet) 1024 depot (t .answer) (progressOf s t (beginOf depot) route) (length route) (omega arith) (ok .few) (ok .home) (p .1) (v .0)
+      record-of-bounded s (ok .sheet) 1024 depot t (progressOf s t (beginOf depot) route) (length route) (omega arith) (ok .few) (ok .home) (p .1) (v .0) (v .1)
       (subst (λ (n : ℕ). ProgressBounded 1024 n (progressOf s t (beginOf depot) route)) (zero-add (length route)) (p .0))
 
 -- -0.0 and a number from 0 up add to that number, rounded

@@ -16,7 +16,7 @@ use Rattle.evaluation_clock.specs.Serve.{pass, serveOf}
 use Rattle.evaluation_clock.specs.Clock.{stepOf, takenOf, movedOf, unrested, returned}
 use Rattle.evaluation.specs.Walk.{driveTo}
 use Rattle.evaluation.specs.Limits.{limitsAt, allowOf}
-use Rattle.evaluation.specs.Verdict.{heldTo, verdictOf, verdictFrom}
+use Rattle.evaluation.specs.Verdict.{heldTo, mends, orHome, verdictOf, verdictFrom}
 use Rattle.evaluation.specs.Feasible.{routeFeasible, routeEval, costOf, effectiveCost}
 use Rattle.evaluation.specs.Checks.{someWindowed, hasSoftWindows}
 use Rattle.constructive.specs.Outcome.{Round, Outcome, chains}
@@ -52,7 +52,7 @@ pub record Rows : Type 0 where
   pub stays : limitRoutes (sheetA 1) 1 (outcome ((2 ∷ []) ∷ [] ∷ []) (1 ∷ [])) ≡ outcome ((2 ∷ []) ∷ []) (1 ∷ [])
 
 pub cases : Rows
-unfolding limitRoutes limitOn dropRound refitOn refit putIn victimOf leastFrom pickFrom insertionFrom inRound takes placesFrom judgeAt filtered chains count loadOf hasSoftWindows someWindowed routeFeasible verdictFrom verdictOf heldTo allowOf driveTo movedOf takenOf returned unrested stepOf serveOf pass waitingOf latenessOf violatedOf gateAt demandOf stopOf depotField limitsAt limitAt restAfter vehicleOf distanceOf timeOf rowsOf vehiclesOf timesOf rowMarks vehicleMarks marked leading depotsOf number bytes f64At add sub ofBits lt le
+unfolding limitRoutes limitOn dropRound refitOn refit putIn victimOf leastFrom pickFrom insertionFrom inRound takes placesFrom judgeAt filtered chains count loadOf hasSoftWindows someWindowed routeFeasible verdictFrom verdictOf heldTo mends orHome allowOf driveTo movedOf takenOf returned unrested stepOf serveOf pass waitingOf latenessOf violatedOf gateAt demandOf stopOf depotField limitsAt limitAt restAfter vehicleOf distanceOf timeOf rowsOf vehiclesOf timesOf rowMarks vehicleMarks marked leading depotsOf number bytes f64At add sub ofBits lt le
 cases = record { joined = refl; none-left = refl; full = refl; empty = refl; stays = refl }
 
 -- ---- relatives with another vehicle: its capacity, its marks, and its maximum of distance
@@ -88,5 +88,5 @@ pub record Relatives : Type 0 where
   pub barred : limitRoutes (far 6 (0 ∷ 0 ∷ thousand ∷ f1 ∷ [])) 1 (outcome ((2 ∷ []) ∷ (1 ∷ []) ∷ []) []) ≡ outcome ((1 ∷ []) ∷ []) (2 ∷ [])
 
 pub relatives : Relatives
-unfolding limitRoutes limitOn dropRound refitOn refit putIn victimOf leastFrom pickFrom insertionFrom inRound takes placesFrom judgeAt filtered chains count loadOf hasSoftWindows someWindowed effectiveCost costOf routeEval routeFeasible verdictFrom verdictOf heldTo allowOf driveTo movedOf takenOf returned unrested stepOf serveOf pass waitingOf latenessOf violatedOf fixedInDistance gateAt demandOf stopOf depotField limitsAt limitAt restAfter vehicleOf distanceOf timeOf rowsOf vehiclesOf timesOf rowMarks vehicleMarks marked leading depotsOf number bytes f64At add sub mul div ofBits lt le
+unfolding limitRoutes limitOn dropRound refitOn refit putIn victimOf leastFrom pickFrom insertionFrom inRound takes placesFrom judgeAt filtered chains count loadOf hasSoftWindows someWindowed effectiveCost costOf routeEval routeFeasible verdictFrom verdictOf heldTo mends orHome allowOf driveTo movedOf takenOf returned unrested stepOf serveOf pass waitingOf latenessOf violatedOf fixedInDistance gateAt demandOf stopOf depotField limitsAt limitAt restAfter vehicleOf distanceOf timeOf rowsOf vehiclesOf timesOf rowMarks vehicleMarks marked leading depotsOf number bytes f64At add sub mul div ofBits lt le
 relatives = record { cheapest = refl; lateness = refl; mended = refl; barred = refl }

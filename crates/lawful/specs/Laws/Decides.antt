@@ -5,7 +5,7 @@ use mathlib.Core.Bool.{Bool, true, false, _&&_, _||_, cond}
 use mathlib.Core.List.{List}
 use lib.Dec.{T}
 use lib.ListN.{length}
-use Rattle.lawful.specs.Lawful.{Walk, left, homeOf, rests, keepsMaxima, unneeded, durationN, plainWalk, somePlace, lawful}
+use Rattle.lawful.specs.Lawful.{Walk, left, homeOf, rests, keepsMaxima, unneeded, durationN, plainWalk, somePlace, homePlace, lawful}
 use Rattle.lawful.specs.ClockN.{startN, onwardN, feasibleN}
 use Rattle.lawful.specs.Laws.Order.{walk-failed}
 use Rattle.lawful.specs.Laws.Places.{anyPlace, unrested-keeps, some-any, onward-places}
@@ -31,4 +31,4 @@ module _ (s : List ℕ) (v : ℕ) where
 
   pub lawful-feasible : (is : List ℕ) → lawful s v is ≡ feasibleN s v is
   unfolding lawful feasibleN
-  lawful-feasible is = ap (λ (b : Bool). cond (rests s v) b (plainWalk s v is)) (rested-decides is)
+  lawful-feasible is = ap (λ (b : Bool). cond (rests s v) (b || homePlace s v is) (plainWalk s v is)) (rested-decides is)

@@ -5,17 +5,20 @@ use Prim.Native.Nat.{ℕ, suc, _+_, _≤_, _<_, zero-le}
 use native.Mathlib.Nat.{zero-add, add-zero, add-assoc}
 use native.Mathlib.Omega.{arith}
 use mathlib.Core.Bool.{Bool, true, false, cond}
+use mathlib.Core.Logic.{_⊎_, inl, inr}
 use mathlib.Core.List.{List, [], _∷_}
-use lib.Dec.{T}
+use lib.Dec.{T, leb→le}
 use lib.ListN.{length}
-use lib.Ieee.{Float, binary64, lt, le}
-use lib.Ieee.Fits.{add-fits, cond-fits}
+use lib.Ieee.{Float, binary64, fits, lt, le}
+use lib.Ieee.Fits.{and-l, add-fits, cond-fits}
 use lib.Ieee.Bits.{ofBits-fits}
+use borrow.Author.Tests.{eq-eqb, ne-eqb, le-ltb}
 use Rattle.wire.specs.Bytes.{f64At}
 use Rattle.sheet.specs.Fields.{rowsOf, vehiclesOf, mostRows}
 use Rattle.sheet.specs.Accepted.{Accepted}
 use Rattle.sheet.specs.Values.{nought, distanceOf, timeOf, stopOf, restOf, restAfter, vehicleOf}
 use Rattle.sheet.specs.declared.vehicle.Rest.{Rest}
+use Rattle.sheet.specs.declared.vehicle.Rest.the-variants.{NoRest as restless, Required}
 use Rattle.sheet.specs.declared.vehicle.VehicleBreak.{VehicleBreak}
 use Rattle.evaluation_clock.specs.declared.label.Label.{Label}
 use Rattle.evaluation_clock.specs.declared.label.Served.{Served}
@@ -31,23 +34,29 @@ use Rattle.evaluation.specs.declared.RouteEval.the-variants.{Allowed, NotAllowe
 use Rattle.evaluation.specs.Routed.{Routed}
 use Rattle.evaluation.specs.Limits.{limitsAt}
 use Rattle.evaluation.specs.Laws.Limits.{limits-rest}
+use Rattle.evaluation.specs.Verdict.{homeStart, mends, restedHome}
 use Rattle.evaluation.specs.Feasible.{routeEval, isAllowed}
-use Rattle.evaluation.specs.Laws.Verdict.{allowed-feasible, allowed-figures}
+use Rattle.evaluation.specs.Laws.Walk.{plain-walk}
+use Rattle.evaluation.specs.Laws.Verdict.{Mended, allowed-feasible, allowed-figures}
 use Rattle.evaluation_clock.specs.Serve.{restPlace, atDepot, restedAt, laterOf, pass, serveOf, serveRested}
 use Rattle.evaluation_clock.specs.Clock.{stepOf, stepRested, takenOf, movedOf, homeSchedule, unrested, endOf, homeward, returned}
-use Rattle.evaluation.specs.Walk.{driveTo, walkedOver, homeFrom, scheduledOf}
+use Rattle.evaluation.specs.Walk.{Position, startAt, driveTo, walkedOver, homeFrom, scheduledOf}
 use Rattle.evaluator.specs.Record.{buildRoute}
 use Rattle.evaluator.specs.Laws.Agree.{IfDone, either, not-done, passed, figures, eval-agree}
 use Rattle.lawful.specs.Whole.{Whole, Is}
-use Rattle.lawful.specs.Lawful.{Walk, failed, left, timeN, distanceN, homeOf, rests, earliestN, stopN, walkN, durationN, travelN, lawful}
-use Rattle.lawful.specs.Figures.{restStartN, RestExact, FiguresExact}
+use Rattle.lawful.specs.Lawful.{Walk, failed, left, later, timeN, distanceN, homeOf, rests, earliestN, latestN, restN, stopN, walkN, durationN, travelN, restedAtHome, lawful}
+use Rattle.lawful.specs.Figures.{restStartN, durationWith, RestExact, FiguresExact}
 use Rattle.lawful.specs.Laws.Whole.{later-whole}
 use Rattle.lawful.specs.Laws.Amounts.{Amount, RestAmounts, row-amounts, rest-amounts, distance-amount, time-amount}
 use Rattle.lawful.specs.Laws.Windows.{Tracks, Same, nought-is}
 use Rattle.lawful.specs.Laws.Stops.{breakOf, arrival, step-same, step-rested}
 use Rattle.lawful.specs.Laws.Places.{walk-past}
-use Rattle.lawful.specs.Laws.Rounds.{Rows, Driven, drive, home-time, positionAt}
-use Rattle.lawful.specs.Laws.Meaning.{rows-of, start, undriven, feasible-lawful}
+use Rattle.lawful.specs.Laws.Rounds.{Comes, Rows, Driven, drive, home-time, home-starts, home-by, home-ends, positionAt}
+use Rattle.lawful.specs.Laws.Meaning.{rows-of, start, undriven, unrested-comes, feasible-lawful}
+
+-- a walk that has not failed
+pub gone : (t : ℕ) → failed ≡ left t → ⊥
+gone t e = let z : _≡_ {A = ℕ} 0 1 = cc in omega arith
 
 -- ---- a stop keeps the rest that a label has
 module _ (l : Label) (travel : Float) (i : ℕ) (s : List ℕ) where
@@ -66,11 +75,22 @@ module _ (l : Label) (travel : Float) (i : ℕ) (s : List ℕ) where
       go true e = absurd (not-done m e)
       go false e = sym (passed (stopOf s i .gate) (start ⊕ b .duration) (stopOf s i .service) (restedAt l place start) m e .rest)
 
--- without a rest none starts
-no-start : (s : List ℕ) (v : ℕ) (w : Walk) (prev : ℕ) (is : List ℕ) → restStartN s v 0 w prev is ≡ 0
-unfolding restStartN
-no-start s v w prev [] = refl
-no-start s v w prev (i ∷ is) = refl
+-- ---- the rest before a stop or none, and at home
+with-before : (s : List ℕ) (v : ℕ) (is : List ℕ) (place : ℕ) → place ≤ length is → durationWith s v place is ≡ durationN s v place is
+with-before s v is place h = rw (ne-eqb place (suc (length is)) (λ e. omega (arith, h, e)))
+
+with-home : (s : List ℕ) (v : ℕ) (is : List ℕ) → durationWith s v (suc (length is)) is ≡ restedAtHome s v (durationN s v 0 is)
+with-home s v is = rw (eq-eqb (suc (length is)) (suc (length is)) refl)
+
+-- it starts at the later of the return and earliest
+home-start : (s : List ℕ) (v : ℕ) (w : Walk) (prev : ℕ) (is : List ℕ) (t : ℕ) → walkN s v 0 w prev is ≡ left t → restStartN s v (suc (length is)) w prev is ≡ later t (earliestN s v)
+unfolding restStartN walkN
+home-start s v failed prev [] t e = absurd (gone t e)
+home-start s v (left u) prev [] t e = ap (λ (n : ℕ). later n (earliestN s v)) (same-end e)
+  where
+    same-end : left (u + timeN s prev (homeOf s v)) ≡ left t → u + timeN s prev (homeOf s v) ≡ t
+    same-end q = cc
+home-start s v w prev (i ∷ is) t e = home-start s v (stopN false s v prev i w) i is t e
 
 module _ (s : List ℕ) (v : ℕ) (round : List ℕ) where
   -- after n stops, with these left: what every walk with the rest further on comes to, or with none
@@ -92,7 +112,7 @@ module _ (s : List ℕ) (v : ℕ) (round : List ℕ) where
   ahead-next n w prev i is k = record {
     none = k .none;
     walks = λ j. ap (λ (m : ℕ). durationN s v m round) (omega arith) ∙ k .walks (suc j) ∙ walk-past s v round j w prev i is;
-    starts = λ j. ap (λ (m : ℕ). restStartN s v m (left 0) (homeOf s v) round) (omega arith) ∙ k .starts (suc j);
+    starts = λ j. let e : suc (suc n) + j ≡ suc n + suc j = omega arith in ap (λ (m : ℕ). restStartN s v m (left 0) (homeOf s v) round) e ∙ k .starts (suc j);
   }
 
   -- a label after one stop more, whose rest stands as `r` says
@@ -160,22 +180,22 @@ module _ (s : List ℕ) (v : ℕ) (round : List ℕ) where
       home-behind l b e = record {
         place = omega (arith, b .past);
         time = b .time + timeN s prev (homeOf s v);
-        walk = b .walk;
+        walk = with-before s v round (restPlace (l .rest)) (omega (arith, b .past)) ∙ b .walk;
         duration = home-time s v a whole is-vehicle at-home n far prev few distance from total (b .time) l (b .tracks);
         distance = subst (λ (m : ℕ). Is m distance) e total;
         rest = b .rest;
       }
 
       home-ahead : (w : Walk) (l : Label) → Same n w (Done l) → Ahead n w prev [] → Ends far (Found (homeSchedule l distance back NoRest))
-      unfolding walkN
+      unfolding walkN restStartN
       home-ahead failed l u k e = absurd u
       home-ahead (left t) l u k e = record {
         place = zero-le;
         time = t + timeN s prev (homeOf s v);
-        walk = k .none;
+        walk = with-before s v round 0 zero-le ∙ k .none;
         duration = home-time s v a whole is-vehicle at-home n far prev few distance from total t l u;
         distance = subst (λ (m : ℕ). Is m distance) e total;
-        rest = record { start = subst (λ (m : ℕ). Is m nought) (sym (no-start s v (left 0) (homeOf s v) round)) nought-is; written = ofBits-fits binary64 0 };
+        rest = record { start = nought-is; written = ofBits-fits binary64 0 };
       }
 
       home-rested : (y : Served) → IfDone (Behind n prev []) y → Ends far (endOf y distance back)
@@ -211,6 +231,15 @@ module _ (s : List ℕ) (v : ℕ) (round : List ℕ) where
         (drive n d (distanceN s prev i) distance (distanceOf s prev i) (omega arith) r (distance-amount s a whole prev i from (rows .0))))
 
 -- ---- the whole round
+-- a duration is one that bits stand for
+abbrev writable : Scheduled → Bool
+writable NotFound = true
+writable (Found k) = fits binary64 (k .duration)
+
+same-rest : (mark : Bool) (b c : VehicleBreak) → restOf mark b ≡ Required c → b ≡ c
+same-rest true b c e = cc
+same-rest false b c e = let z : _≡_ {A = ℕ} 0 1 = cc in absurd (omega arith)
+
 module _ (s : List ℕ) (v : ℕ) (is : List ℕ) (whole : Whole s) (is-vehicle : v < vehiclesOf s) (round : Routed s (homeOf s v) is) where
   pub schedule-exact : (k : Schedule) → scheduledOf s (homeOf s v) (limitsAt s v .rest) is ≡ Found k → FiguresExact s v is k
   unfolding scheduledOf vehicleOf restAfter
@@ -223,12 +252,58 @@ module _ (s : List ℕ) (v : ℕ) (is : List ℕ) (whole : Whole s) (is-vehicle 
       (undriven s v is whole is-vehicle round))
       (zero-add (travelN s v (homeOf s v) is))
 
+  -- a round that the rest at home mends: the walk without a rest, and then the rest
+  module _ (j : Schedule) (walked : scheduledOf s (homeOf s v) restless is ≡ Found j) (fit : mends (limitsAt s v) (breakOf s v) (j .distance) (j .duration) ≡ true) where
+    return-fits : T (writable (Found j))
+    unfolding unrested
+    return-fits = go (p .clock .before) (plain-walk s (homeOf s v) restless is ∙ walked)
+      where
+        p : Position
+        p = walkedOver s (startAt restless (homeOf s v)) is
+
+        go : (x : Served) → unrested x (p .distance ⊕ distanceOf s (p .clock .prev) (homeOf s v)) (timeOf s (p .clock .prev) (homeOf s v)) ≡ Found j → T (writable (Found j))
+        go Refused e = let z : _≡_ {A = ℕ} 0 1 = cc in absurd (omega arith)
+        go (Done l) e = subst (λ (x : Scheduled). T (writable x)) e (add-fits binary64 _ _)
+
+    home-figures : FiguresExact s v is (restedHome (breakOf s v) (suc (length is)) j)
+    unfolding mends f64At
+    home-figures = go (durationN s v 0 is) refl (subst (Comes (travelN s v (homeOf s v) is) (durationN s v 0 is)) walked (unrested-comes s v is whole is-vehicle round))
+      where
+        go : (w : Walk) → durationN s v 0 is ≡ w → Comes (travelN s v (homeOf s v) is) w (Found j) → FiguresExact s v is (restedHome (breakOf s v) (suc (length is)) j)
+        go failed e u = absurd u
+        go (left t) e u =
+            let back = j .duration in
+            let begins = later t (earliestN s v) in
+            let soon = leb→le begins (latestN s v) (subst T (home-by s v (round .sheet) whole is-vehicle (round .home) t back (u .0)) (and-l (le (homeStart (breakOf s v) back) (breakOf s v .latest)) _ (subst T (sym fit) tt))) in
+            record {
+              place = omega arith;
+              time = begins + restN s v;
+              walk = with-home s v is ∙ ap (restedAtHome s v) e ∙ rw (le-ltb (latestN s v) begins soon);
+              duration = home-ends s v (round .sheet) whole is-vehicle (round .home) t back (u .0) soon;
+              distance = u .1;
+              rest = record {
+                start = subst (λ (n : ℕ). Is n (homeStart (breakOf s v) back)) (sym (home-start s v (left 0) (homeOf s v) is t e)) (home-starts s v (round .sheet) whole is-vehicle (round .home) t back (u .0));
+                written = cond-fits binary64 (lt back (breakOf s v .earliest)) (breakOf s v .earliest) back (ofBits-fits binary64 _) return-fits;
+              };
+            }
+
+  mended-exact : (k : Schedule) → Mended (limitsAt s v) (limitsAt s v .rest) (1 + length is) (scheduledOf s (homeOf s v) restless is) k → FiguresExact s v is k
+  unfolding vehicleOf restAfter
+  mended-exact k m =
+      let same : breakOf s v ≡ m .b = same-rest (rests s v) (breakOf s v) (m .b) (sym (limits-rest s v) ∙ m .resting) in
+      let last : suc (length is) ≡ 1 + length is = omega arith in
+      subst (FiguresExact s v is) (ap (λ (n : ℕ). restedHome (breakOf s v) n (m .j)) last ∙ ap (λ (b : VehicleBreak). restedHome b (1 + length is) (m .j)) same ∙ m .is)
+      (home-figures (m .j) (m .walked) (ap (λ (b : VehicleBreak). mends (limitsAt s v) b (m .j .distance) (m .j .duration)) same ∙ m .fits))
+
   -- what `build_route` writes down of a round that has a lawful schedule
   pub record-exact : T (lawful s v is) → FiguresExact s v is (figures (buildRoute s (homeOf s v) (limitsAt s v) is))
   record-exact t = go (routeEval s (homeOf s v) (limitsAt s v) is) refl (allowed-feasible s (homeOf s v) (limitsAt s v) is ∙ feasible-lawful s v is whole is-vehicle round)
     where
+      by : (k : Schedule) → (scheduledOf s (homeOf s v) (limitsAt s v .rest) is ≡ Found k) ⊎ Mended (limitsAt s v) (limitsAt s v .rest) (1 + length is) (scheduledOf s (homeOf s v) restless is) k → FiguresExact s v is k
+      by k (inl e) = schedule-exact k e
+      by k (inr m) = mended-exact k m
+
       go : (r : RouteEval) → routeEval s (homeOf s v) (limitsAt s v) is ≡ r → isAllowed r ≡ lawful s v is → FiguresExact s v is (figures (buildRoute s (homeOf s v) (limitsAt s v) is))
       go NotAllowed e f = absurd (subst T (sym f) t)
       go (Allowed k) e f =
-          subst (FiguresExact s v is) (sym (eval-agree s (homeOf s v) (limitsAt s v) is k e))
-          (schedule-exact k (allowed-figures s (homeOf s v) (limitsAt s v) is k e))
+          subst (FiguresExact s v is) (sym (eval-agree s (homeOf s v) (limitsAt s v) is k e)) (by k (allowed-figures s (homeOf s v) (limitsAt s v) is k e))

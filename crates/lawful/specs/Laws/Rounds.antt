@@ -1,4 +1,5 @@
 -- The f64 walk of a round, and its clock with a rest, are those over natural numbers, where the numbers are whole and no window is soft. Assumes nothing.
+use mathlib.Core.Path.{_≡_}
 use Prim.Native.Nat.{ℕ, suc, _+_, _*_, _≤_, _<_}
 use native.Mathlib.Nat.{add-assoc}
 use native.Mathlib.Omega.{arith}
@@ -6,7 +7,7 @@ use mathlib.Core.Bool.{Bool, true, false, cond}
 use mathlib.Core.List.{List, [], _∷_}
 use lib.Dec.{leb}
 use lib.ListN.{length}
-use lib.Ieee.{Float}
+use lib.Ieee.{Float, le}
 use Rattle.sheet.specs.Fields.{rowsOf, vehiclesOf, mostRows}
 use Rattle.sheet.specs.Accepted.{Accepted}
 use Rattle.sheet.specs.Values.{distanceOf, timeOf, stopOf}
@@ -21,10 +22,11 @@ use Rattle.evaluation_clock.specs.declared.clock.Scheduled.the-variants.{Found,
 use Rattle.evaluation_clock.specs.Sums.{_⊕_}
 use Rattle.evaluation_clock.specs.Clock.{stepOf, takenOf, movedOf, homeSchedule as broughtHome, unrested, endOf, homeward as homewardOf, returned}
 use Rattle.evaluation.specs.Walk.{Position, driveTo, walkedOver, homeFrom}
+use Rattle.evaluation.specs.Verdict.{homeStart}
 use Rattle.lawful.specs.Whole.{Whole, Is}
-use Rattle.lawful.specs.Lawful.{Walk, failed, left, timeN, distanceN, homeOf, earliestN, stopN, homeN, walkN, travelN}
+use Rattle.lawful.specs.Lawful.{Walk, failed, left, later, timeN, distanceN, homeOf, earliestN, latestN, restN, stopN, homeN, walkN, travelN}
 use Rattle.lawful.specs.ClockN.{pushN, homewardN, onwardN}
-use Rattle.lawful.specs.Laws.Whole.{add-whole, le-whole}
+use Rattle.lawful.specs.Laws.Whole.{add-whole, le-whole, later-whole}
 use Rattle.lawful.specs.Laws.Amounts.{Amount, RestAmounts, row-amounts, rest-amounts, distance-amount, time-amount}
 use Rattle.lawful.specs.Laws.Windows.{Tracks, Same}
 use Rattle.lawful.specs.Laws.Stops.{breakOf, step-same, step-rested, earlier-same}
@@ -94,6 +96,21 @@ module _ (s : List ℕ) (v : ℕ) (a : Accepted s) (whole : Whole s) (is-vehicle
         go : (b : Bool) → Comes far (cond b (left (t + timeN s prev (homeOf s v))) (homeN s v prev z)) (cond b (Found (broughtHome l distance (timeOf s prev (homeOf s v)) NoRest)) (endOf y distance (timeOf s prev (homeOf s v))))
         go true = (home-time t l p, total)
         go false = rested-home z y q
+
+  -- ---- a rest at home, after a return at `back`
+  module _ (t : ℕ) (back : Float) (u : Is t back) where
+    pub home-starts : Is (later t (earliestN s v)) (homeStart (breakOf s v) back)
+    home-starts = later-whole t (earliestN s v) back (breakOf s v .earliest) u (rest .earliest .is)
+
+    pub home-by : le (homeStart (breakOf s v) back) (breakOf s v .latest) ≡ leb (later t (earliestN s v)) (latestN s v)
+    home-by = le-whole (later t (earliestN s v)) (latestN s v) (homeStart (breakOf s v) back) (breakOf s v .latest) home-starts (rest .latest .is)
+
+    -- it starts no later than latest, so that its end is exact
+    pub home-ends : later t (earliestN s v) ≤ latestN s v → Is (later t (earliestN s v) + restN s v) (homeStart (breakOf s v) back ⊕ breakOf s v .duration)
+    home-ends h =
+        let a = rest .latest .small in
+        let b = rest .duration .small in
+        add-whole (later t (earliestN s v)) (restN s v) (homeStart (breakOf s v) back) (breakOf s v .duration) home-starts (rest .duration .is) (omega arith)
 
   -- ---- the walk
   -- without a rest

@@ -1,11 +1,11 @@
 -- The arrivals, departures and loads that `build_route` writes down of a round with a lawful schedule are those of the walk over natural numbers. Assumes nothing.
-use mathlib.Core.Path.{_≡_, refl, sym, _∙_, subst}
+use mathlib.Core.Path.{_≡_, refl, sym, ap, _∙_, subst}
 use Prim.Native.Nat.{ℕ, zero, suc, _+_, _*_, _≤_, _<_, zero-le}
 use native.Mathlib.Nat.{add-assoc, zero-add, sub-zero, suc-sub-suc}
 use native.Mathlib.Omega.{arith}
 use mathlib.Core.Bool.{Bool, true, false, cond}
 use mathlib.Core.List.{List, [], _∷_}
-use lib.Dec.{T, ltb, eqb·suc-suc, eqb·suc-zero}
+use lib.Dec.{T, ltb, eqb, eqb→eq, eqb·suc-suc, eqb·suc-zero}
 use lib.ListN.{length}
 use lib.Ieee.{Float}
 use borrow.Author.Tests.{eq-eqb, ne-eqb}
@@ -29,8 +29,8 @@ use Rattle.evaluator.specs.declared.Placed.{Placed}
 use Rattle.evaluator.specs.declared.Progress.{Progress}
 use Rattle.evaluator.specs.Laws.Agree.{passed}
 use Rattle.lawful.specs.Whole.{Whole, Is}
-use Rattle.lawful.specs.Lawful.{Walk, failed, left, timeN, homeOf, rests, latestN, earliestN, restN, departs, stopN, walkN, durationN, loadN, lawful, later}
-use Rattle.lawful.specs.Figures.{restStartN, RestExact, VisitExact, VisitsExact}
+use Rattle.lawful.specs.Lawful.{Walk, failed, left, timeN, homeOf, rests, latestN, earliestN, restN, departs, stopN, walkN, durationN, loadN, restedAtHome, lawful, later}
+use Rattle.lawful.specs.Figures.{restStartN, durationWith, RestExact, VisitExact, VisitsExact}
 use Rattle.lawful.specs.Laws.Whole.{add-whole}
 use Rattle.lawful.specs.Laws.Amounts.{Amount, RestAmounts, row-amounts, rest-amounts, time-amount}
 use Rattle.lawful.specs.Laws.Windows.{Same, Arriving, nought-is, later-upto}
@@ -39,11 +39,7 @@ use Rattle.lawful.specs.Laws.Places.{walk-past}
 use Rattle.lawful.specs.Laws.Stops.{breakOf, visit-same}
 use Rattle.lawful.specs.Laws.Rounds.{Rows}
 use Rattle.lawful.specs.Laws.Meaning.{rows-of}
-use Rattle.lawful.specs.Laws.Figures.{record-exact}
-
--- a walk that has not failed
-gone : (t : ℕ) → failed ≡ left t → ⊥
-gone t e = let z : _≡_ {A = ℕ} 0 1 = cc in omega arith
+use Rattle.lawful.specs.Laws.Figures.{gone, record-exact}
 
 module _ (s : List ℕ) (v : ℕ) (a : Accepted s) (whole : Whole s) (is-vehicle : v < vehiclesOf s) where
   rest : RestAmounts s v
@@ -155,6 +151,26 @@ module _ (s : List ℕ) (v : ℕ) (a : Accepted s) (whole : Whole s) (is-vehicle
         )
 
 -- ---- the whole round
+-- a rest at home does not matter at any stop
+past-stops : (s : List ℕ) (v : ℕ) (w : Walk) (prev : ℕ) (is : List ℕ) → walkN s v (suc (length is)) w prev is ≡ walkN s v 0 w prev is
+unfolding walkN
+past-stops s v w prev [] = refl
+past-stops s v w prev (i ∷ is) = walk-past s v is (length is) w prev i is ∙ past-stops s v (stopN false s v prev i w) i is
+
+-- a walk that comes home with its rest comes home
+comes-home : (s : List ℕ) (v : ℕ) (is : List ℕ) (place time : ℕ) → durationWith s v place is ≡ left time → (end : ℕ) × (durationN s v place is ≡ left end)
+comes-home s v is place time e = go (eqb place (suc (length is))) refl e
+  where
+    unrested : (w : Walk) → restedAtHome s v w ≡ left time → (end : ℕ) × (w ≡ left end)
+    unrested failed f = absurd (gone time f)
+    unrested (left t) f = (t, refl)
+
+    go : (t : Bool) → eqb place (suc (length is)) ≡ t → cond t (restedAtHome s v (durationN s v 0 is)) (durationN s v place is) ≡ left time → (end : ℕ) × (durationN s v place is ≡ left end)
+    go false h f = (time, f)
+    go true h f =
+        let u = unrested (durationN s v 0 is) f in
+        (u .0, ap (λ (n : ℕ). durationN s v n is) (eqb→eq place (suc (length is)) (subst T (sym h) tt)) ∙ past-stops s v (left 0) (homeOf s v) is ∙ u .1)
+
 -- the rest that a record takes lasts as long as the vehicle's
 lasts : (s : List ℕ) (v : ℕ) (mark : Bool) (x : Verdict) (at : ℕ) (start : Float) → placedBy (restOf mark (breakOf s v)) x .answer ≡ Before at start
     → placedBy (restOf mark (breakOf s v)) x .duration ≡ breakOf s v .duration
@@ -182,10 +198,11 @@ module _ (s : List ℕ) (v : ℕ) (is : List ℕ) (whole : Whole s) (is-vehicle 
   visits-exact t =
       let k = record-exact s v is whole is-vehicle round t in
       let p = placedOf s (homeOf s v) (limitsAt s v) is in
+      let home = comes-home s v is (restPlace (p .answer)) (k .time) (k .walk) in
       by (p .answer) (p .duration)
       (subst (λ (r : Rest). (at : ℕ) (start : Float) → placedBy r (verdictOn s (homeOf s v) (limitsAt s v) is) .answer ≡ Before at start → placedBy r (verdictOn s (homeOf s v) (limitsAt s v) is) .duration ≡ breakOf s v .duration)
       (sym (limits-rest s v)) (lasts s v (rests s v) (verdictOn s (homeOf s v) (limitsAt s v) is)))
-      (k .rest) (k .time) (k .walk)
+      (k .rest) (home .0) (home .1)
 
 -- the load, of any round at all
 load-after : (s : List ℕ) (t : Placed) (p : Progress) (is : List ℕ) → progressOf s t p is .load ≡ p .load + loadN s is

@@ -61,7 +61,7 @@ held m e t =
       small = ltb→lt (suc m * up e) (2 ^ 1024 * down e) (and-r (a && b && c) d t);
     }
 
-own-value : (m : ℕ) (e : ℤ) → Held m e → HasValue (round binary64 false (m * up e) (down e)) false (m * up e) (down e)
+pub own-value : (m : ℕ) (e : ℤ) → Held m e → HasValue (round binary64 false (m * up e) (down e)) false (m * up e) (down e)
 own-value m (pos k) h = own-whole m k (h .few) (subst (λ (n : ℕ). m * 2 ^ k < n) (mul-one (2 ^ 1024)) (h .small))
 own-value m (negsuc k) h = own-part m (suc k) (h .few) (pow-le (suc k) 1074 (h .fine))
 

@@ -3,9 +3,10 @@ use mathlib.Core.Path.{_≡_, sym, ap, _∙_, subst}
 use Prim.Native.Nat.{ℕ, _+_, _*_, _≤_, _<_}
 use native.Mathlib.Omega.{arith}
 use mathlib.Core.List.{List, [], _∷_}
-use lib.Dec.{T}
+use mathlib.Core.Bool.{Bool, true, false, cond}
+use lib.Dec.{T, eqb}
 use lib.ListN.{length, getD}
-use lib.Ieee.{binary64, fits}
+use lib.Ieee.{Float, binary64, fits}
 use lib.Ieee.Fits.{add-fits}
 use Rattle.lists.specs.Every.{Every}
 use Rattle.lists.specs.Laws.Every.{every-at, every-map}
@@ -18,9 +19,13 @@ use Rattle.sheet.specs.Laws.Finite.{demand-bounded}
 use Rattle.evaluation.specs.Routed.{Routed}
 use Rattle.evaluation.specs.Laws.Limits.{home-row}
 use Rattle.evaluation.specs.Limits.{limitsAt}
-use Rattle.evaluator.specs.Record.{recordOf, buildRoute}
+use Rattle.evaluation_clock.specs.Sums.{_⊕_}
+use Rattle.evaluation_clock.specs.declared.label.RestAnswer.{RestAnswer}
+use Rattle.evaluation_clock.specs.declared.label.RestAnswer.the-variants.{NoRest, Before}
+use Rattle.evaluator.specs.Record.{readyFor, recordOf, buildRoute}
 use Rattle.lawful.specs.Whole.{Whole, Is}
-use Rattle.lawful.specs.Lawful.{homeOf, durationN, travelN, loadN, lawful}
+use Rattle.lawful.specs.Lawful.{homeOf, travelN, loadN, lawful}
+use Rattle.lawful.specs.Figures.{durationWith}
 use Rattle.lawful.specs.Laws.Rounds.{Rows}
 use Rattle.lawful.specs.Laws.Meaning.{rows-of}
 use Rattle.lawful.specs.Laws.Figures.{record-exact}
@@ -37,6 +42,16 @@ use Rattle.plan_reader.specs.Laws.Links.{links-at}
 use Rattle.planner.specs.Answer.{planFor, LawfulRound}
 use Rattle.planner.specs.Laws.Promised.{Right, all-right, plan-back, lawful-rounds}
 use Rattle.planner_cases.specs.Exact.{RoundExact}
+
+-- home at the return, or when the rest there ends
+ready-fits : (a : RestAnswer) (duration : Float) (place : ℕ) (x y : Float) → T (fits binary64 (readyFor a duration place (x ⊕ y)))
+unfolding readyFor
+ready-fits NoRest duration place x y = add-fits binary64 x y
+ready-fits (Before at start) duration place x y = go (eqb at place)
+  where
+    go : (t : Bool) → T (fits binary64 (cond t (start ⊕ duration) (x ⊕ y)))
+    go true = add-fits binary64 start duration
+    go false = add-fits binary64 x y
 
 module _ (s : List ℕ) (fine : Accepted s) where
   load-upto : (is : List ℕ) → Rows s is → loadN s is ≤ 1_000_000 * length is
@@ -67,7 +82,7 @@ module _ (s : List ℕ) (fine : Accepted s) where
 
     duration-fits : T (fits binary64 (builtRecord s r .duration))
     unfolding buildRoute recordOf
-    duration-fits = add-fits binary64 _ _
+    duration-fits = ready-fits _ _ _ _ _
 
     round-exact : T (lawful s (r .vehicle) (r .stops)) → ((m i : ℕ) → i + m ≤ 56 → le m plan (roundRecordAt n + i) ≡ le m (recordBytes s r) i) → RoundExact s plan n r
     unfolding vehicleOf
@@ -81,7 +96,7 @@ module _ (s : List ℕ) (fine : Accepted s) where
           load = q .load ∙ l;
           distance = subst (Is (travelN s v (homeOf s v) (r .stops))) (sym (q .distance)) (k .distance);
           time = k .time;
-          walk = ap (λ (place : ℕ). durationN s v place (r .stops)) (q .place) ∙ k .walk;
+          walk = ap (λ (place : ℕ). durationWith s v place (r .stops)) (q .place) ∙ k .walk;
           duration = subst (Is (k .time)) (sym (q .duration)) (k .duration);
           start = rw (q .place, q .start) (k .rest .start);
         }

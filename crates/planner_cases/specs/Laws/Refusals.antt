@@ -6,10 +6,10 @@ use Rattle.numbers.specs.Range.{inRange}
 use Rattle.numbers.specs.All.{all}
 use Rattle.sheet.specs.Fields.{rowsOf, vehiclesOf, methodOf, timesOf, spareOf, rowMarks, idField, depotField, vehicleMarks, marked}
 use Rattle.sheet.specs.Depots.{leading, depotsOf}
-use Rattle.sheet.specs.Ranges.{coordinate, demand, capacity, marks, amount, zeroBits, optional, interval, costPerDistance, servingInRange, rowInRange, maximaInRange, restInRange, vehicleInRange, sameId, newId, rowsInRange, entriesInRange, vehiclesInRange}
+use Rattle.sheet.specs.Ranges.{coordinate, demand, capacity, marks, vehicleMarking, amount, zeroBits, optional, interval, costPerDistance, servingInRange, rowInRange, maximaInRange, restInRange, vehicleInRange, sameId, newId, rowsInRange, entriesInRange, vehiclesInRange}
 use Rattle.sheet.specs.Refusal.{headerRight, countsRight, methodRight, lengthsRight, needsVehicle, fleetRight, contents, refusalOf}
 use Rattle.planner_cases.specs.Refusals.{RefusalRight, refusalCases}
 
 pub refusals-right : RefusalRight refusalCases
-unfolding refusalOf headerRight countsRight methodRight lengthsRight needsVehicle fleetRight contents rowsOf vehiclesOf methodOf timesOf spareOf rowMarks idField depotField vehicleMarks marked leading depotsOf coordinate demand capacity marks amount zeroBits optional interval costPerDistance servingInRange rowInRange maximaInRange restInRange vehicleInRange sameId newId rowsInRange entriesInRange vehiclesInRange inRange all number bytes signed f64At ofBits le round
+unfolding refusalOf headerRight countsRight methodRight lengthsRight needsVehicle fleetRight contents rowsOf vehiclesOf methodOf timesOf spareOf rowMarks idField depotField vehicleMarks marked leading depotsOf coordinate demand capacity marks vehicleMarking amount zeroBits optional interval costPerDistance servingInRange rowInRange maximaInRange restInRange vehicleInRange sameId newId rowsInRange entriesInRange vehiclesInRange inRange all number bytes signed f64At ofBits le round
 refusals-right = (refl, (refl, (refl, (refl, (refl, (refl, (refl, (refl, (refl, (refl, (refl, (refl, (refl, (refl, (refl, (refl, tt))))))))))))))))

@@ -11,16 +11,16 @@ use Rattle.numbers.specs.All.{all}
 use Rattle.sorting.specs.Stable.{insert, sorted}
 use Rattle.sheet.specs.Fields.{rowsOf, vehiclesOf, methodOf, timesOf, spareOf, rowMarks, idField, depotField, vehicleMarks, marked}
 use Rattle.sheet.specs.Depots.{leading, depotsOf}
-use Rattle.sheet.specs.Ranges.{coordinate, demand, capacity, marks, amount, zeroBits, optional, interval, costPerDistance, servingInRange, rowInRange, maximaInRange, restInRange, vehicleInRange, sameId, newId, rowsInRange, entriesInRange, vehiclesInRange}
+use Rattle.sheet.specs.Ranges.{coordinate, demand, capacity, marks, vehicleMarking, amount, zeroBits, optional, interval, costPerDistance, servingInRange, rowInRange, maximaInRange, restInRange, vehicleInRange, sameId, newId, rowsInRange, entriesInRange, vehiclesInRange}
 use Rattle.sheet.specs.Refusal.{headerRight, countsRight, methodRight, lengthsRight, needsVehicle, fleetRight, contents, refusalOf}
-use Rattle.sheet.specs.Values.{gateAt, demandOf, stopOf, limitAt, restAfter, vehicleOf, distanceOf, timeOf, fixedInDistance}
+use Rattle.sheet.specs.Values.{gateAt, demandOf, stopOf, limitAt, restAfter, vehicleOf, distanceOf, timeOf, fixedInDistance, restsHomeAt}
 use Rattle.sheet.specs.Fleet.{fleetOf}
 use Rattle.evaluation_clock.specs.Window.{waitingOf, latenessOf, violatedOf}
 use Rattle.evaluation_clock.specs.Serve.{pass, serveOf, serveRested}
 use Rattle.evaluation_clock.specs.Clock.{stepOf, stepRested, earlierOf, takenOf, movedOf, unrested, endOf, homeward, returned}
 use Rattle.evaluation.specs.Walk.{driveTo, homeFrom, scheduledOf}
 use Rattle.evaluation.specs.Limits.{limitsAt, isUnlimited, allowOf}
-use Rattle.evaluation.specs.Verdict.{heldTo, verdictOf, verdictFrom}
+use Rattle.evaluation.specs.Verdict.{heldTo, mends, orHome, verdictOf, verdictFrom}
 use Rattle.evaluation.specs.Feasible.{routeFeasible}
 use Rattle.evaluation.specs.Checks.{someWindowed, hasTimeWindows, hasSoftWindows, routeChecksNeeded}
 use Rattle.evaluator.specs.Record.{placedOf, readyFor, departsAt, lateAfter, costAfter, visitedOf, recordOf, buildRoute, routeCost, priceWith}
@@ -42,5 +42,5 @@ use Rattle.planner.specs.Answer.{priced, planFor, answerOf}
 use Rattle.planner_cases.specs.Table.{RowHolds, tableRows}
 
 pub table-right : Every RowHolds tableRows
-unfolding answerOf refusalOf headerRight countsRight methodRight lengthsRight needsVehicle fleetRight contents coordinate demand capacity marks amount zeroBits optional interval costPerDistance servingInRange rowInRange maximaInRange restInRange vehicleInRange sameId newId rowsInRange entriesInRange vehiclesInRange inRange all rowsOf vehiclesOf methodOf timesOf spareOf rowMarks idField depotField vehicleMarks marked leading depotsOf gateAt demandOf stopOf limitsAt limitAt restAfter vehicleOf distanceOf timeOf fixedInDistance waitingOf latenessOf violatedOf pass serveOf serveRested stepOf stepRested earlierOf takenOf movedOf unrested endOf homeward returned driveTo homeFrom scheduledOf isUnlimited allowOf heldTo verdictOf verdictFrom routeFeasible someWindowed hasTimeWindows hasSoftWindows routeChecksNeeded lastOf placedOf readyFor departsAt lateAfter costAfter visitedOf recordOf buildRoute routeCost priceWith visitBytes asideBytes roundCounts roundFigures roundBytes headerBytes withVisits withRound withRounds withAside priceAfter priceOf planBytes planOf count loadOf termsOf choose extend extendOn greedy nearestOffer nearestOnward nearestNeighbor windowOffer windowOnward nearestNeighborTw sameBack symmetric directedOf savingsFrom savingsOf numbered ranked startsAlone startsOf slotOf mergePasses mergeOf mergedBy roundsOf asideOf plannedBy clarkeWright farthestFrom judge tryPlaces tryStops grow growOn seedStep planOn solomonI1 directionOf partOf turnsLeft below sweepsBefore routeFits unservable closes stepped sweptFrom sweptBy sweep insert sorted filtered fleetOf withVehicle constructOf plannedOf outcomeOf priced planFor number bytes signed write f64At add sub mul div ofBits toBits lt eq le round sum
-table-right = (refl, (refl, (refl, (refl, (refl, (refl, (refl, (refl, (refl, (refl, (refl, (refl, (refl, (refl, (refl, (refl, (refl, (refl, (refl, (refl, (refl, (refl, (refl, (refl, tt))))))))))))))))))))))))
+unfolding answerOf refusalOf headerRight countsRight methodRight lengthsRight needsVehicle fleetRight contents coordinate demand capacity marks vehicleMarking amount zeroBits optional interval costPerDistance servingInRange rowInRange maximaInRange restInRange vehicleInRange sameId newId rowsInRange entriesInRange vehiclesInRange inRange all rowsOf vehiclesOf methodOf timesOf spareOf rowMarks idField depotField vehicleMarks marked leading depotsOf gateAt demandOf stopOf limitsAt restsHomeAt limitAt restAfter vehicleOf distanceOf timeOf fixedInDistance waitingOf latenessOf violatedOf pass serveOf serveRested stepOf stepRested earlierOf takenOf movedOf unrested endOf homeward returned driveTo homeFrom scheduledOf isUnlimited allowOf heldTo mends orHome verdictOf verdictFrom routeFeasible someWindowed hasTimeWindows hasSoftWindows routeChecksNeeded lastOf placedOf readyFor departsAt lateAfter costAfter visitedOf recordOf buildRoute routeCost priceWith visitBytes asideBytes roundCounts roundFigures roundBytes headerBytes withVisits withRound withRounds withAside priceAfter priceOf planBytes planOf count loadOf termsOf choose extend extendOn greedy nearestOffer nearestOnward nearestNeighbor windowOffer windowOnward nearestNeighborTw sameBack symmetric directedOf savingsFrom savingsOf numbered ranked startsAlone startsOf slotOf mergePasses mergeOf mergedBy roundsOf asideOf plannedBy clarkeWright farthestFrom judge tryPlaces tryStops grow growOn seedStep planOn solomonI1 directionOf partOf turnsLeft below sweepsBefore routeFits unservable closes stepped sweptFrom sweptBy sweep insert sorted filtered fleetOf withVehicle constructOf plannedOf outcomeOf priced planFor number bytes signed write f64At add sub mul div ofBits toBits lt eq le round sum
+table-right = (refl, (refl, (refl, (refl, (refl, (refl, (refl, (refl, (refl, (refl, (refl, (refl, (refl, (refl, (refl, (refl, (refl, (refl, (refl, (refl, (refl, (refl, (refl, (refl, (refl, (refl, (refl, tt)))))))))))))))))))))))))))

@@ -12,7 +12,7 @@ use Rattle.numbers.specs.All.{all}
 use Rattle.numbers.specs.Laws.All.{all-at}
 use Rattle.sheet.specs.Fields.{rowsOf, vehiclesOf, methodOf, timesOf, spareOf, rowAt, rowMarks, serviceAt, readyAt, dueAt, vehicleAt, idField, depotField, vehicleMarks, earliestAt, latestAt, restAt, entriesOf, entryAt, marked}
 use Rattle.sheet.specs.Depots.{leading, depotsOf}
-use Rattle.sheet.specs.Ranges.{coordinate, demand, capacity, marks, amount, zeroBits, optional, interval, costPerDistance, servingInRange, rowInRange, maximaInRange, restInRange, vehicleInRange, sameId, newId, rowsInRange, entriesInRange, vehiclesInRange}
+use Rattle.sheet.specs.Ranges.{coordinate, demand, capacity, marks, vehicleMarking, amount, zeroBits, optional, interval, costPerDistance, servingInRange, rowInRange, maximaInRange, restInRange, vehicleInRange, sameId, newId, rowsInRange, entriesInRange, vehiclesInRange}
 use Rattle.sheet.specs.Refusal.{headerRight, countsRight, methodRight, lengthsRight, needsVehicle, fleetRight, contents, refusalOf}
 use Rattle.sheet.specs.SheetA.{f10, sheetA, sheetCarrying}
 use Rattle.lawful.specs.Whole.{isWhole, WholeRow, WholeVehicle, Whole}
@@ -74,7 +74,7 @@ whole-accepted : (s : List ℕ) → refusalOf s 256 ≡ 0 → T (wholeSheet s) �
 whole-accepted s e t = record { accepted = e; whole = sheet-whole s t }
 
 pub whole-sheets : WholeSheets
-unfolding refusalOf headerRight countsRight methodRight lengthsRight needsVehicle fleetRight contents rowsOf vehiclesOf methodOf timesOf spareOf rowMarks idField depotField vehicleMarks marked leading depotsOf coordinate demand capacity marks amount zeroBits optional interval costPerDistance servingInRange rowInRange maximaInRange restInRange vehicleInRange sameId newId rowsInRange entriesInRange vehiclesInRange inRange all number bytes signed f64At ofBits le round
+unfolding refusalOf headerRight countsRight methodRight lengthsRight needsVehicle fleetRight contents rowsOf vehiclesOf methodOf timesOf spareOf rowMarks idField depotField vehicleMarks marked leading depotsOf coordinate demand capacity marks vehicleMarking amount zeroBits optional interval costPerDistance servingInRange rowInRange maximaInRange restInRange vehicleInRange sameId newId rowsInRange entriesInRange vehiclesInRange inRange all number bytes signed f64At ofBits le round
 whole-sheets = record {
   sheet-a = whole-accepted (sheetA 1) refl tt;
   carrying-one = whole-accepted (sheetCarrying 1) refl tt;

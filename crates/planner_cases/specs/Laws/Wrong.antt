@@ -72,7 +72,7 @@ no-schedule f = true≢false (f refl (whole-sheets .rest-at-twelve .whole) refl 
 
 pub lawful-rests : LawfulRests
 unfolding rowsOf vehiclesOf timesOf rowMarks depotField vehicleMarks marked distanceOf timeOf stopN walkN travelN somePlace lawful number bytes f64At ofBits
-lawful-rests = record { at-twelve = refl; before-first = refl; at-twenty-four = refl; unrested = refl; at-nine = refl; later-place = refl; not-before-first = refl; before-second = refl; returned-at = refl; not-at-home = refl }
+lawful-rests = record { at-twelve = refl; before-first = refl; at-twenty-four = refl; unrested = refl; at-nine = refl; later-place = refl; not-before-first = refl; before-second = refl; returned-at = refl; not-at-home = refl; at-home = refl; home-ends = refl }
 
 -- ---- **closed**: stop 2 stands on the higher round, and fits before stop 1
 pub each-alone : Closed (sheetA 1) 0 oneAndTwo → ⊥

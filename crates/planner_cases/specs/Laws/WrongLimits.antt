@@ -18,7 +18,7 @@ use Rattle.evaluation_clock.specs.Serve.{pass, serveOf}
 use Rattle.evaluation_clock.specs.Clock.{stepOf, takenOf, movedOf, unrested, returned}
 use Rattle.evaluation.specs.Walk.{driveTo}
 use Rattle.evaluation.specs.Limits.{limitsAt, allowOf}
-use Rattle.evaluation.specs.Verdict.{heldTo, verdictOf, verdictFrom}
+use Rattle.evaluation.specs.Verdict.{heldTo, mends, orHome, verdictOf, verdictFrom}
 use Rattle.evaluation.specs.Feasible.{routeFeasible}
 use Rattle.constructive.specs.Outcome.{Round, roundAt}
 use Rattle.constructive.specs.Load.{loadOf}
@@ -58,7 +58,7 @@ overloaded f =
 
 -- stop 1 reached at 14 and due 10
 pub joined-late : LimitStood (due f10) oneAndTwo 0 twoOne → ⊥
-unfolding rowsOf vehiclesOf timesOf rowMarks idField vehicleMarks marked gateAt demandOf stopOf depotField limitsAt limitAt restAfter vehicleOf distanceOf timeOf waitingOf latenessOf violatedOf pass serveOf stepOf takenOf movedOf unrested returned driveTo allowOf heldTo verdictOf verdictFrom routeFeasible roundsAt asideAt idAt firstStopAt nextAt chainFrom indexFrom roundsFrom readPlan number bytes signed f64At add sub ofBits lt le
+unfolding rowsOf vehiclesOf timesOf rowMarks idField vehicleMarks marked gateAt demandOf stopOf depotField limitsAt limitAt restAfter vehicleOf distanceOf timeOf waitingOf latenessOf violatedOf pass serveOf stepOf takenOf movedOf unrested returned driveTo allowOf heldTo mends orHome verdictOf verdictFrom routeFeasible roundsAt asideAt idAt firstStopAt nextAt chainFrom indexFrom roundsFrom readPlan number bytes signed f64At add sub ofBits lt le
 joined-late f =
     not-stood (due f10) (readPlan (due f10) oneAndTwo .rounds) (roundAt (readPlan (due f10) twoOne .rounds) 0) (refl, (refl, tt)) refl
     (λ p. p .feasible) (f refl .0)

@@ -12,7 +12,7 @@ use Rattle.numbers.specs.Range.{whole}
 use Rattle.numbers.specs.Laws.All.{all-at, all-of}
 use Rattle.sheet.specs.Fields.{rowsOf, vehiclesOf, methodOf, timesOf, spareOf, rowAt, xField, yField, demandField, rowMarks, serviceAt, readyAt, vehicleAt, idField, depotField, capacityField, vehicleMarks, costAt, fixedAt, maxDistanceAt, earliestAt, entriesOf, entryAt, sheetLength, planLength, marked, headerSize, mostRows, mostVehicles}
 use Rattle.sheet.specs.Depots.{depotsOf}
-use Rattle.sheet.specs.Ranges.{coordinate, demand, capacity, marks, amount, optional, interval, costPerDistance, servingInRange, rowInRange, maximaInRange, restInRange, vehicleInRange, sameId, newId, rowsInRange, entriesInRange, vehiclesInRange}
+use Rattle.sheet.specs.Ranges.{coordinate, demand, capacity, marks, vehicleMarking, amount, optional, interval, costPerDistance, servingInRange, rowInRange, maximaInRange, restInRange, vehicleInRange, sameId, newId, rowsInRange, entriesInRange, vehiclesInRange}
 use Rattle.sheet.specs.Refusal.{headerRight, countsRight, methodRight, lengthsRight, needsVehicle, fleetRight, unless, contents, refusalOf}
 use Rattle.sheet.specs.Accepted.{RowRanges, VehicleRanges, Sized, Accepted}
 
@@ -54,7 +54,7 @@ unfolding vehicleInRange maximaInRange restInRange
 vehicle-ranges s at t =
     let b = and-r (ltb (depotField s at) (depotsOf s)) _ t in
     let c = and-r (capacity (capacityField s at)) _ b in
-    let d = and-r (marks (vehicleMarks s at)) _ c in
+    let d = and-r (vehicleMarking (vehicleMarks s at)) _ c in
     let e = and-r (costPerDistance s (costAt at)) _ d in
     let f = and-r (amount s (fixedAt at)) _ e in
     let g = and-l (maximaInRange s at) _ f in
@@ -62,7 +62,7 @@ vehicle-ranges s at t =
     record {
       depot = leb→le _ _ (and-l (ltb (depotField s at) (depotsOf s)) _ t);
       carries = and-l (capacity (capacityField s at)) _ b;
-      marking = and-l (marks (vehicleMarks s at)) _ c;
+      marking = and-l (vehicleMarking (vehicleMarks s at)) _ c;
       cost = and-l (costPerDistance s (costAt at)) _ d;
       fixed = and-l (amount s (fixedAt at)) _ e;
       distance = and-l (optional (marked 1 (vehicleMarks s at)) (whole (10 ^ 12)) s (maxDistanceAt at)) _ g;
@@ -76,7 +76,7 @@ unfolding vehicleInRange maximaInRange restInRange
 ranges-vehicle s at r =
     both (ltb (depotField s at) (depotsOf s)) _ (le→leb (suc (depotField s at)) (depotsOf s) (r .depot))
     (both (capacity (capacityField s at)) _ (r .carries)
-    (both (marks (vehicleMarks s at)) _ (r .marking)
+    (both (vehicleMarking (vehicleMarks s at)) _ (r .marking)
     (both (costPerDistance s (costAt at)) _ (r .cost)
     (both (amount s (fixedAt at)) _ (r .fixed)
     (both (maximaInRange s at) _

@@ -13,7 +13,7 @@ use Rattle.evaluation_clock.specs.Serve.{pass, serveOf}
 use Rattle.evaluation_clock.specs.Clock.{stepOf as served, takenOf, movedOf, unrested, returned}
 use Rattle.evaluation.specs.Walk.{driveTo}
 use Rattle.evaluation.specs.Limits.{limitsAt, allowOf}
-use Rattle.evaluation.specs.Verdict.{heldTo, verdictOf, verdictFrom}
+use Rattle.evaluation.specs.Verdict.{heldTo, mends, orHome, verdictOf, verdictFrom}
 use Rattle.evaluation.specs.Feasible.{routeFeasible, routeEval, costOf, effectiveCost}
 use Rattle.evaluation.specs.Checks.{someWindowed, hasSoftWindows}
 use Rattle.constructive.specs.Outcome.{Outcome}
@@ -41,7 +41,7 @@ pub record Rows : Type 0 where
   pub row15 : planned (sheetCarrying 0) ≡ record { rounds = []; aside = 1 ∷ 2 ∷ [] }
 
 pub cases : Rows
-unfolding solomonI1 planOn seedStep growOn grow tryStops tryPlaces judge farthestFrom termsOf loadOf hasSoftWindows someWindowed routeFeasible verdictFrom verdictOf heldTo allowOf driveTo movedOf takenOf returned unrested served serveOf pass waitingOf latenessOf violatedOf gateAt demandOf stopOf depotField limitsAt limitAt restAfter vehicleOf distanceOf timeOf rowsOf vehiclesOf timesOf rowMarks vehicleMarks marked number bytes f64At add sub ofBits lt le
+unfolding solomonI1 planOn seedStep growOn grow tryStops tryPlaces judge farthestFrom termsOf loadOf hasSoftWindows someWindowed routeFeasible verdictFrom verdictOf heldTo mends orHome allowOf driveTo movedOf takenOf returned unrested served serveOf pass waitingOf latenessOf violatedOf gateAt demandOf stopOf depotField limitsAt limitAt restAfter vehicleOf distanceOf timeOf rowsOf vehiclesOf timesOf rowMarks vehicleMarks marked number bytes f64At add sub ofBits lt le
 cases = record { row2 = refl; row9 = refl; row10 = refl; row15 = refl }
 
 -- ---- the soft rules, as the Rust answers: sheet A with a penalty of 1 after stop 1's due time 10, and a distance between stops 1 and 2
@@ -60,5 +60,5 @@ pub record Softly : Type 0 where
   pub cheap : planned (soft 0x4033_0000_0000_0000) ≡ rounded (1 ∷ 2 ∷ []) []
 
 pub softly : Softly
-unfolding solomonI1 planOn seedStep growOn grow tryStops tryPlaces judge farthestFrom termsOf loadOf hasSoftWindows someWindowed effectiveCost costOf routeEval routeFeasible verdictFrom verdictOf heldTo allowOf driveTo movedOf takenOf returned unrested served serveOf pass waitingOf latenessOf violatedOf fixedInDistance gateAt demandOf stopOf depotField limitsAt limitAt restAfter vehicleOf distanceOf timeOf rowsOf vehiclesOf timesOf rowMarks vehicleMarks marked number bytes f64At add sub mul div ofBits lt le
+unfolding solomonI1 planOn seedStep growOn grow tryStops tryPlaces judge farthestFrom termsOf loadOf hasSoftWindows someWindowed effectiveCost costOf routeEval routeFeasible verdictFrom verdictOf heldTo mends orHome allowOf driveTo movedOf takenOf returned unrested served serveOf pass waitingOf latenessOf violatedOf fixedInDistance gateAt demandOf stopOf depotField limitsAt limitAt restAfter vehicleOf distanceOf timeOf rowsOf vehiclesOf timesOf rowMarks vehicleMarks marked number bytes f64At add sub mul div ofBits lt le
 softly = record { late = refl; dear = refl; cheap = refl }

@@ -17,7 +17,7 @@ use Rattle.wire.specs.Laws.Bytes.{take-write, drop-write}
 use Rattle.numbers.specs.Range.{whole, fraction, inRange}
 use Rattle.sheet.specs.Fields.{rowsOf, vehiclesOf, rowAt, vehicleAt, entriesOf, entryAt, sheetLength, planLength, marked}
 use Rattle.sheet.specs.Depots.{leading, atLeastOne, depotsOf}
-use Rattle.sheet.specs.Ranges.{marks, amount, zeroBits, optional, interval, costPerDistance}
+use Rattle.sheet.specs.Ranges.{marks, vehicleMarking, amount, zeroBits, optional, interval, costPerDistance}
 use Rattle.sheet.specs.Refusal.{refusalOf}
 use Rattle.sheet.specs.Accepted.{RowRanges, VehicleRanges, Accepted}
 use Rattle.sheet.specs.Laws.Accepted.{not-refused}
@@ -70,7 +70,7 @@ cost-right s at r =
     (or-right (zeroBits s at) (le (fraction 1 1000) (f64At s at)) (rw (r .number) (round-mono binary64 1 1000 1 1 (omega arith) (omega arith) (omega arith))))
 
 vehicle-ranges : (s : List ℕ) (at : ℕ) (z : ℤ) → T (capacityRange z) → VehicleRead s at (vehicleFieldsOf z) → VehicleRanges s at
-unfolding vehicleFieldsOf optional interval marked marks
+unfolding vehicleFieldsOf optional interval marked marks vehicleMarking
 vehicle-ranges s at z h r =
     let later : at + 48 + 8 ≡ at + 56 = omega arith in
     record {

@@ -2,7 +2,6 @@
 use borrow.Author.Needs.{needs}
 use mathlib.Core.Path.{sym, _∙_}
 use Rattle.evaluation_clock.specs.Clock.{movedOf, homeward, returned}
-use Rattle.evaluation.specs.Verdict.{verdictOf}
 use Rattle.evaluation.specs.Laws.Verdict.{held-passes}
 use Rattle.evaluation.proofs.keeping.keeps_with.Statement.{statement}
 use Rattle.evaluation.proofs.keeping.keeps_with.Tie as tie
@@ -26,7 +25,7 @@ allow-requires : tie.Need-allow-requires
 allow-requires c κs = search needs
 
 returns : tie.Need-returns
-unfolding verdictOf returned movedOf homeward
+unfolding returned movedOf homeward
 returns c = rw (← c .before .before .before .before .before .before .before .before .before .before .before .travel-time .ensures, ← c .before .before .before .before .before .before .before .before .before .before .travel-time2 .ensures, ← c .before .before .before .before .before .before .before .before .before .stop-at .ensures, ← c .before .before .before .before .before .before .before .before .step .ensures, c .before .before .before .before .before .before .skipped .given .1, c .before .before .if1 .taken) (c .allow .ensures ∙ sym (held-passes _ _))
 
 keeps-rested-requires : tie.Need-keeps-rested-requires
@@ -39,11 +38,11 @@ keeps-rested-requires-2 : tie.Need-keeps-rested-requires-2
 keeps-rested-requires-2 c κs = search needs
 
 returns-2 : tie.Need-returns-2
-unfolding verdictOf returned movedOf homeward
+unfolding returned movedOf homeward
 returns-2 c = rw (← c .before .before .before .before .before .before .before .before .before .before .travel-time .ensures, ← c .before .before .before .before .before .before .before .before .before .travel-time2 .ensures, ← c .before .before .before .before .before .before .before .before .stop-at .ensures, ← c .before .before .before .before .before .before .before .step .ensures, c .before .before .before .before .before .skipped .given .1, c .before .if1 .left) (c .keeps-rested .ensures)
 
 returns-3 : tie.Need-returns-3
-unfolding verdictOf returned movedOf homeward
+unfolding returned movedOf homeward
 returns-3 c = rw (← c .before .before .before .before .before .before .travel-time .ensures, ← c .before .before .before .before .before .travel-time2 .ensures, ← c .before .before .before .before .stop-at .ensures, ← c .before .before .before .step .ensures, c .before .enum-told .given .1) (c .keeps-rested2 .ensures)
 
 pub keeps-with-spec : {M : Type 1} → statement M

@@ -22,6 +22,9 @@ stop-at-requires c κs =
     let depot = ap (λ (v : Vehicle). v .depot) (c .before .vehicle-at .ensures) in
     (p .0, omega (arith, depot, p .1 .1, home-row _ _ (p .0) (p .1 .0) (p .1 .1)))
 
+rests-home-requires : tie.Need-rests-home-requires
+rests-home-requires c κs = (let p = c .before .before .before .before .pre in (p .0, p .1 .0))
+
 latest-return-requires : tie.Need-latest-return-requires
 latest-return-requires c κs = search needs
 
@@ -33,7 +36,7 @@ returning-by-requires c κs = search needs
 
 returns : tie.Need-returns
 unfolding limitsAt
-returns c = c .returning-by .ensures ∙ rw (c .before .before .latest-return .ensures, c .before .before .before .stop-at .ensures, c .before .limits-of .ensures, c .before .before .before .before .before .vehicle-at .ensures)
+returns c = c .returning-by .ensures ∙ rw (c .before .before .latest-return .ensures, c .before .before .before .rests-home .ensures, c .before .before .before .before .stop-at .ensures, c .before .limits-of .ensures, c .before .before .before .before .before .before .vehicle-at .ensures)
 
 pub limits-at-spec : {M : Type 1} → statement M
-limits-at-spec = tie.close (tie.spec vehicle-at-requires cast-depot stop-at-requires latest-return-requires limits-of-requires returning-by-requires returns)
+limits-at-spec = tie.close (tie.spec vehicle-at-requires cast-depot stop-at-requires rests-home-requires latest-return-requires limits-of-requires returning-by-requires returns)

@@ -3,16 +3,16 @@ use mathlib.Core.Path.{refl}
 use Prim.Native.Nat.{_-_}
 use native.Mathlib.Omega.{arith}
 use borrow.Author.Needs.{needs}
-use borrow.Author.Tests.{not-true}
-use Rattle.evaluation.proofs.Onward.{positionAt, Going, in-range, clocked, goes-on, stops, ends, gone, home}
+use borrow.Author.Tests.{not-false, not-true}
+use Rattle.evaluation.proofs.Onward.{positionAt, Going, in-range, clocked, goes-on, stops, ends, gone, home, at-home}
 use Rattle.evaluation.proofs.schedule.schedule.Statement.{statement}
 use Rattle.evaluation.proofs.schedule.schedule.Tie as tie
 
 abbrev Inv-loop : tie.InvT-loop
-Inv-loop sheet route depot clock₀ distance₀ i₀ i-end clock distance i = Going sheet route depot (positionAt clock₀ distance₀) clock distance i i-end
+Inv-loop sheet route depot home₀ clock₀ distance₀ i₀ i-end clock distance i = Going sheet route depot (positionAt clock₀ distance₀) clock distance i i-end
 
 abbrev μ-loop : tie.MeasureT-loop
-μ-loop sheet route depot clock₀ distance₀ i₀ i-end clock distance i = i-end - i
+μ-loop sheet route depot home₀ clock₀ distance₀ i₀ i-end clock distance i = i-end - i
 
 new-requires : tie.Need-new-requires Inv-loop μ-loop
 new-requires c κs = search needs
@@ -38,7 +38,8 @@ pushed-requires c κs = let g = c .before .before .before .loop .inv in (clocked
 returns : tie.Need-returns Inv-loop μ-loop
 returns c =
     let o = c .before .before .before .before .before .before in
-    gone _ _ _ _ _ (o .before .new .ensures)
+    let a = o .before .before .before .before .args in
+    gone (a .sheet .now) (a .route .now) (a .depot) (a .rest) _ (o .before .new .ensures) (a .home)
     (stops _ _ _ _ _ _ _ _ (o .loop .inv) _ (c .before .before .before .before .before .loop-test .taken) (c .before .before .pushed .ensures) (not-true _ (c .if1 .taken)))
 
 add-i : tie.Need-add-i Inv-loop μ-loop
@@ -58,8 +59,20 @@ finish-requires c κs = let g = c .before .before .loop .inv in (clocked _ _ _ _
 
 returns-2 : tie.Need-returns-2 Inv-loop μ-loop
 returns-2 c =
-    let o = c .before .before .before in
-    rw (c .finish .ensures, c .before .distance2 .ensures) (home _ _ _ _ _ (o .before .new .ensures) _ _ (ends _ _ _ _ _ _ _ _ (o .loop .inv) (c .before .before .loop-test .left)))
+    let o = c .before .before .before .before in
+    let a = o .before .before .before .before .args in
+    rw (not-true (a .home) (c .if2 .taken), c .before .finish .ensures, c .before .before .distance2 .ensures)
+    (home (a .sheet .now) (a .route .now) (a .depot) (a .rest) _ (o .before .new .ensures) _ _ (ends _ _ _ _ _ _ _ _ (o .loop .inv) (c .before .before .before .loop-test .left)))
+
+finish-requires-2 : tie.Need-finish-requires-2 Inv-loop μ-loop
+finish-requires-2 c κs = let g = c .before .before .before .before .loop .inv in (clocked _ _ _ _ _ _ _ _ g, g .routed .home)
+
+returns-3 : tie.Need-returns-3 Inv-loop μ-loop
+returns-3 c =
+    let o = c .before .before .before .before .before in
+    let a = o .before .before .before .before .args in
+    rw (not-false (a .home) (c .before .if2 .left), c .finish2 .ensures, c .before .before .finish .ensures, c .before .before .before .distance2 .ensures)
+    (at-home (a .sheet .now) (a .route .now) (a .depot) (a .rest) _ (o .before .new .ensures) _ _ (ends _ _ _ _ _ _ _ _ (o .loop .inv) (c .before .before .before .before .loop-test .left)))
 
 pub schedule-spec : {M : Type 1} → statement M
 schedule-spec =
@@ -80,4 +93,6 @@ schedule-spec =
     loop-again
     distance-requires-2
     finish-requires
-    returns-2)
+    returns-2
+    finish-requires-2
+    returns-3)

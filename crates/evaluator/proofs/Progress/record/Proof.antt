@@ -4,15 +4,19 @@ use Rattle.evaluator.specs.Record.{recordOf}
 use Rattle.evaluator.proofs.Progress.record.Statement.{statement}
 use Rattle.evaluator.proofs.Progress.record.Tie as tie
 
-distance-requires : tie.Need-distance-requires
-distance-requires c κs = search needs
-
 travel-time-requires : tie.Need-travel-time-requires
 travel-time-requires c κs = search needs
 
+distance-requires : tie.Need-distance-requires
+distance-requires c κs = search needs
+
+ready-for-requires : tie.Need-ready-for-requires
+ready-for-requires c κs = search needs
+
 returns : tie.Need-returns
 unfolding recordOf
-returns c = rw (c .before .travel-time .ensures, c .before .before .before .distance .ensures)
+returns c = rw (c .ready-for .ensures, c .before .before .distance .ensures, c .before .before .before .before .travel-time .ensures)
 
 pub record-spec : {M : Type 1} → statement M
-record-spec = tie.close (tie.spec distance-requires travel-time-requires returns)
+record-spec =
+    tie.close (tie.spec travel-time-requires distance-requires ready-for-requires returns)

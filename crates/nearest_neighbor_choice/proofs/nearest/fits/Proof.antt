@@ -1,5 +1,7 @@
 -- `nearest_neighbor_choice::nearest::fits` meets its contract. Assumes nothing.
 use borrow.Author.Needs.{needs}
+use mathlib.Core.Path.{sym, _∙_}
+use Rattle.nearest_neighbor_choice.proofs.Judging.{fits-on-way, fits-home}
 use Rattle.nearest_neighbor_choice.proofs.nearest.fits.Statement.{statement}
 use Rattle.nearest_neighbor_choice.proofs.nearest.fits.Tie as tie
 
@@ -18,11 +20,17 @@ travel-time-requires c κs = search needs
 travel-time-requires-2 : tie.Need-travel-time-requires-2
 travel-time-requires-2 c κs = search needs
 
-allows-requires : tie.Need-allows-requires
-allows-requires c κs = search needs
+allows-on-way-requires : tie.Need-allows-on-way-requires
+allows-on-way-requires c κs = search needs
 
 returns : tie.Need-returns
-returns c = rw (c .allows .ensures, c .before .travel-time2 .ensures, c .before .before .before .before .travel-time .ensures, c .before .before .before .before .before .stop-at .ensures, c .before .before .before .before .before .before .distance2 .ensures, c .before .before .before .before .before .before .before .before .distance .ensures)
+returns c = rw (← c .before .before .travel-time2 .ensures, ← c .before .before .before .before .before .travel-time .ensures, ← c .before .before .before .before .before .before .stop-at .ensures, ← c .before .before .before .before .before .before .before .distance2 .ensures, ← c .before .before .before .before .before .before .before .before .before .distance .ensures) (sym (fits-on-way _ _ _ _ _ _ _ (sym (c .before .allows-on-way .ensures) ∙ c .if1 .taken)))
+
+allows-home-requires : tie.Need-allows-home-requires
+allows-home-requires c κs = search needs
+
+returns-2 : tie.Need-returns-2
+returns-2 c = rw (← c .before .before .before .travel-time2 .ensures, ← c .before .before .before .before .before .before .travel-time .ensures, ← c .before .before .before .before .before .before .before .stop-at .ensures, ← c .before .before .before .before .before .before .before .before .distance2 .ensures, ← c .before .before .before .before .before .before .before .before .before .before .distance .ensures) (c .allows-home .ensures ∙ sym (fits-home _ _ _ _ _ _ _ (sym (c .before .before .allows-on-way .ensures) ∙ c .before .if1 .left)))
 
 pub fits-spec : {M : Type 1} → statement M
 fits-spec =
@@ -33,5 +41,7 @@ fits-spec =
     stop-at-requires
     travel-time-requires
     travel-time-requires-2
-    allows-requires
-    returns)
+    allows-on-way-requires
+    returns
+    allows-home-requires
+    returns-2)

@@ -1,10 +1,10 @@
--- `nearest_neighbor_choice::partial::allows` meets its contract. Assumes nothing.
+-- `nearest_neighbor_choice::partial::allows_on_way` meets its contract. Assumes nothing.
 use borrow.Author.Needs.{needs}
 use mathlib.Core.Path.{subst}
 use Rattle.nearest_neighbor_choice.specs.declared.partial.PartialClock.{PartialClock}
-use Rattle.nearest_neighbor_choice.specs.Partial.{allowsBy, ClockKept}
-use Rattle.nearest_neighbor_choice.proofs.partial.allows.Statement.{statement}
-use Rattle.nearest_neighbor_choice.proofs.partial.allows.Tie as tie
+use Rattle.nearest_neighbor_choice.specs.Partial.{allowsOnWay, ClockKept}
+use Rattle.nearest_neighbor_choice.proofs.partial.allows_on_way.Statement.{statement}
+use Rattle.nearest_neighbor_choice.proofs.partial.allows_on_way.Tie as tie
 
 enum-told : tie.Need-enum-told
 enum-told c = search needs
@@ -19,14 +19,14 @@ keeps-with-requires : tie.Need-keeps-with-requires
 keeps-with-requires c κs = (subst (λ (k : PartialClock). ClockKept (c .before .before .before .before .args .sheet .now) k) (c .before .kept .given .1) (c .before .before .before .before .pre .0), c .before .before .before .before .pre .1)
 
 returns : tie.Need-returns
-unfolding allowsBy
+unfolding allowsOnWay
 returns c = rw (c .before .enum-told .given .1, c .allow .ensures)
 
 returns-2 : tie.Need-returns-2
-unfolding allowsBy
+unfolding allowsOnWay
 returns-2 c = rw (c .before .before .kept .given .1, c .keeps-with .ensures)
 
-pub allows-spec : {M : Type 1} → statement M
-allows-spec =
+pub allows-on-way-spec : {M : Type 1} → statement M
+allows-on-way-spec =
     tie.close
     (tie.spec enum-told allow-requires enum-known-kept keeps-with-requires returns returns-2)
