@@ -8,6 +8,7 @@ ghost use mathlib.Core.Path.{_≡_};
 ghost use Prim.Native.Nat.{_<_};
 ghost use Rattle.sheet.specs.Fields.{vehiclesOf};
 ghost use Rattle.evaluation.specs.Checks.{hasSoftWindows};
+ghost use Rattle.evaluation.specs.Limits.{limitsAt};
 ghost use Rattle.evaluation.specs.Routed.{Routed};
 ghost use Rattle.constructive.specs.Terms.{termsOf};
 
@@ -35,14 +36,21 @@ fn soft_rules(sheet: &[u8], depot: usize, members: &[u16], constrained: bool) ->
     checks::has_soft_windows(sheet, depot, members)
 }
 
-// The terms of a depot with its members.
-pub fn terms_of(sheet: &[u8], depot: usize, index: u16, members: &[u16]) -> Terms
+// The terms of a depot with its members, and limits that are read already. Without their reading this is small enough to be
+// inlined, and the terms need not lie in memory.
+pub fn terms_with(
+    sheet: &[u8],
+    depot: usize,
+    index: u16,
+    members: &[u16],
+    limits: RouteLimits,
+) -> Terms
     requires { ⌜ Routed (now sheet) depot (now members) ⌝ }
     requires { ⌜ index < vehiclesOf (now sheet) ⌝ }
+    requires { ⌜ limits ≡ limitsAt (now sheet) index ⌝ }
     ensures { λ r. ⌜ r ≡ termsOf (now (sheet .entry)) depot index (now (members .entry)) ⌝ }
 {
     let own = vehicle::vehicle_at(sheet, index as usize);
-    let limits = limits::limits_at(sheet, index as usize);
     let constrained = checks::route_checks_needed(sheet, depot, members, limits);
     let soft = soft_rules(sheet, depot, members, constrained);
     let fixed = vehicle::fixed_cost_in_distance(own);
@@ -55,4 +63,14 @@ pub fn terms_of(sheet: &[u8], depot: usize, index: u16, members: &[u16]) -> Term
         fixed,
         limits,
     }
+}
+
+// The terms of a depot with its members.
+pub fn terms_of(sheet: &[u8], depot: usize, index: u16, members: &[u16]) -> Terms
+    requires { ⌜ Routed (now sheet) depot (now members) ⌝ }
+    requires { ⌜ index < vehiclesOf (now sheet) ⌝ }
+    ensures { λ r. ⌜ r ≡ termsOf (now (sheet .entry)) depot index (now (members .entry)) ⌝ }
+{
+    let limits = limits::limits_at(sheet, index as usize);
+    terms_with(sheet, depot, index, members, limits)
 }

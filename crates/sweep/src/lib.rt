@@ -6,6 +6,7 @@ mod rounds;
 
 use constructive::tables::Filled;
 use constructive::terms;
+use evaluation::limits;
 ghost use mathlib.Core.Path.{_≡_};
 ghost use Prim.Native.Nat.{_<_};
 ghost use Rattle.sheet.specs.Fields.{vehiclesOf};
@@ -32,7 +33,8 @@ pub fn sweep(
     ensures { λ _. ⌜ Stored (now (stops .entry)) (now (ends .entry)) (now (vehicles .entry)) filled (sweep (now (sheet .entry)) depot vehicle (part (now (stops .entry)) (filled .routed) total)) (now (stops .exit)) (now (ends .exit)) (now (vehicles .exit)) ⌝ }
 {
     let start = filled.routed;
-    let terms = terms::terms_of(sheet, depot, vehicle, &stops[start..total]);
+    let limits = limits::limits_at(sheet, vehicle as usize);
+    let terms = terms::terms_with(sheet, depot, vehicle, &stops[start..total], limits);
     let mut scratch = [0u16; sheet::MOST_ROWS];
     by_angle::sort_by_angle(sheet, depot, &mut stops[start..total], &mut scratch);
     rounds::pack(sheet, terms, stops, ends, vehicles, filled, total)

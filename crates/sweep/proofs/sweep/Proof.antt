@@ -5,20 +5,23 @@ use Rattle.sweep.proofs.Sorted.{sort-asks, order-members, packed, home-
 use Rattle.sweep.proofs.sweep.Statement.{statement}
 use Rattle.sweep.proofs.sweep.Tie as tie
 
-mul-terms-of : tie.Need-mul-terms-of
-mul-terms-of c = search needs
+limits-at-requires : tie.Need-limits-at-requires
+limits-at-requires c κs = search needs
 
-sub-terms-of : tie.Need-sub-terms-of
-sub-terms-of c = search needs
+mul-terms-with : tie.Need-mul-terms-with
+mul-terms-with c = search needs
 
-part-terms-of-start : tie.Need-part-terms-of-start
-part-terms-of-start c = search needs
+sub-terms-with : tie.Need-sub-terms-with
+sub-terms-with c = search needs
 
-part-terms-of-end : tie.Need-part-terms-of-end
-part-terms-of-end c = search needs
+part-terms-with-start : tie.Need-part-terms-with-start
+part-terms-with-start c = search needs
 
-terms-of-requires : tie.Need-terms-of-requires
-terms-of-requires c κs = search needs
+part-terms-with-end : tie.Need-part-terms-with-end
+part-terms-with-end c = search needs
+
+terms-with-requires : tie.Need-terms-with-requires
+terms-with-requires c κs = search needs
 
 mul-sort-by-angle : tie.Need-mul-sort-by-angle
 mul-sort-by-angle c = search needs
@@ -36,10 +39,10 @@ slice-aggregate-sort-by-angle : tie.Need-slice-aggregate-sort-by-angle
 slice-aggregate-sort-by-angle c = search needs
 
 sort-by-angle-requires : tie.Need-sort-by-angle-requires
-sort-by-angle-requires c κs = let s = c .before .before .before .before .before .before .before .before .before in sort-asks (s .args .sheet .now) (s .args .depot) (s .args .stops .now) (s .args .filled .routed) (s .args .total) (s .pre .0)
+sort-by-angle-requires c κs = let s = c .before .before .before .before .before .before .before .before .before .before in sort-asks (s .args .sheet .now) (s .args .depot) (s .args .stops .now) (s .args .filled .routed) (s .args .total) (s .pre .0)
 
 pack-requires : tie.Need-pack-requires
-pack-requires c κs = let s = c .before .before .before .before .before .before .before .before .before .before .before .before .before .before .before .before in (rw (home-of (s .args .sheet .now) (s .args .depot) (s .args .stops .now) (s .args .filled .routed) (s .args .total) (s .pre .0) (s .args .vehicle) _ (c .before .before .before .before .before .before .before .before .before .terms-of .ensures)) (order-members (s .args .sheet .now) (s .args .depot) (s .args .stops .now) (s .args .filled .routed) (s .args .total) (s .pre .0) _ (c .before .before .before .before .before .before .sort-by-angle .ensures)), s .pre .1 .0)
+pack-requires c κs = let s = c .before .before .before .before .before .before .before .before .before .before .before .before .before .before .before .before .before in (rw (home-of (s .args .sheet .now) (s .args .depot) (s .args .stops .now) (s .args .filled .routed) (s .args .total) (s .pre .0) (s .args .vehicle) _ (c .before .before .before .before .before .before .before .before .before .terms-with .ensures)) (order-members (s .args .sheet .now) (s .args .depot) (s .args .stops .now) (s .args .filled .routed) (s .args .total) (s .pre .0) _ (c .before .before .before .before .before .before .sort-by-angle .ensures)), s .pre .1 .0)
 
 same-length : tie.Need-same-length
 same-length c = search needs
@@ -51,17 +54,18 @@ same-length-3 : tie.Need-same-length-3
 same-length-3 c = search needs
 
 returns : tie.Need-returns
-returns c = let s = c .before .before .before .before .before .before .before .before .before .before .before .before .before .before .before .before .before .before .before .before .before .before .before in packed (s .args .sheet .now) (s .args .depot) (s .args .stops .now) (s .args .filled .routed) (s .args .total) (s .pre .0) _ (c .before .before .before .before .before .before .before .before .before .before .before .before .before .sort-by-angle .ensures) (s .args .vehicle) _ (c .before .before .before .before .before .before .before .before .before .before .before .before .before .before .before .before .terms-of .ensures) (s .args .ends .now) (s .args .vehicles .now) _ _ _ (s .args .filled) _ refl (c .before .before .before .before .before .before .pack .ensures)
+returns c = let s = c .before .before .before .before .before .before .before .before .before .before .before .before .before .before .before .before .before .before .before .before .before .before .before .before in packed (s .args .sheet .now) (s .args .depot) (s .args .stops .now) (s .args .filled .routed) (s .args .total) (s .pre .0) _ (c .before .before .before .before .before .before .before .before .before .before .before .before .before .sort-by-angle .ensures) (s .args .vehicle) _ (c .before .before .before .before .before .before .before .before .before .before .before .before .before .before .before .before .terms-with .ensures) (s .args .ends .now) (s .args .vehicles .now) _ _ _ (s .args .filled) _ refl (c .before .before .before .before .before .before .pack .ensures)
 
 pub sweep-spec : {M : Type 1} → statement M
 sweep-spec =
     tie.close
     (tie.spec
-    mul-terms-of
-    sub-terms-of
-    part-terms-of-start
-    part-terms-of-end
-    terms-of-requires
+    limits-at-requires
+    mul-terms-with
+    sub-terms-with
+    part-terms-with-start
+    part-terms-with-end
+    terms-with-requires
     mul-sort-by-angle
     sub-sort-by-angle
     part-sort-by-angle-start
