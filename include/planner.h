@@ -38,12 +38,13 @@
  *             one for times, service, windows, rests and the maximum duration; money
  *             for the cost and the fixed cost, money per distance for the cost per
  *             distance, distance per time for a penalty. Without a time table
- *             distances serve as times, so the first two units are one.
+ *             distances serve as times, so the first two units are one. A bill is in
+ *             cents, by a tariff of its own that knows nothing of the cost.
  *   place     Coordinates serve the sweep's order by angle alone: a plan's distances
  *             are the sheet's own. Only import_solomon works distances out from
  *             coordinates, for the sheet that it writes.
  *
- * A CALL, and this holds of all four functions:
+ * A CALL, and this holds of all five functions:
  *
  *   - has an answer for every byte string of every length, always returns, and gives
  *     the same bytes the same answer;
@@ -55,8 +56,8 @@
  *   - may run on several threads at once, each with a buffer of its own to write to.
  *     During a call no other thread may write what it reads, or touch what it writes.
  *
- * THE NAMES check_sheet, plan_rounds, limit_rounds and import_solomon are all that the
- * archive exports. Where one clashes, rename it, here and in the archive:
+ * THE NAMES check_sheet, plan_rounds, limit_rounds, import_solomon and bill_rounds are
+ * all that the archive exports. Where one clashes, rename it, here and in the archive:
  *
  *     objcopy --redefine-sym plan_rounds=our_plan_rounds libplanner.a libours.a
  *     #define plan_rounds our_plan_rounds
@@ -71,8 +72,8 @@
 /* The major number rises where bytes that a version accepts are refused or get another
    meaning, the minor one where something is added. */
 #define PLANNER_VERSION_MAJOR 2
-#define PLANNER_VERSION_MINOR 2
-#define PLANNER_VERSION "2.2"
+#define PLANNER_VERSION_MINOR 3
+#define PLANNER_VERSION "2.3"
 
 /* Bytes of stack to keep free for a call, beside what its thread takes otherwise:
    half as much again, or more, as any call was seen to take (tests/c/stack.c).
@@ -160,8 +161,8 @@ extern "C" {
  *   offset  type     field
  *        0  u32      its vehicle's id
  *        4  i32      load
- *        8  u16      first stop; 0 is an empty round, which only limit_rounds
- *                    reads or writes
+ *        8  u16      first stop; 0 is an empty round, which plan_rounds never
+ *                    writes
  *       10  u16      place of the rest: 1 is before the first stop, 2 before the
  *                    second; one more than the stops is at the depot, on return; 0 is
  *                    no rest
@@ -186,6 +187,12 @@ extern "C" {
  *
  * A chain starts at a round's first stop, or at the first stop set aside. A stop
  * set aside has only its next; a depot's row is all zero.
+ *
+ * THE BILL of a plan of N rounds has exactly 8 * (N + 1) bytes, little-endian too:
+ *
+ *   offset  type     field
+ *    8 * k  u64      charge of the round with record k, in whole cents, for k below N
+ *    8 * N  u64      sum of these charges
  *
  * THE TEXT is what import_solomon makes a sheet of: an instance in the form in which
  * Solomon's of 1987 are published. It ends where its length says: a NUL is a byte like
@@ -227,7 +234,9 @@ enum {
     PLANNER_PLAN_HEADER_BYTES = 16,
     PLANNER_PLAN_ROUND_BYTES = 56,
     PLANNER_PLAN_STOP_BYTES = 24,
-    PLANNER_PLAN_ROW_BYTES = 80 /* a round's record and a stop's */
+    PLANNER_PLAN_ROW_BYTES = 80, /* a round's record and a stop's */
+    PLANNER_CHARGE_BYTES = 8,
+    PLANNER_MOST_RATE = 1000000 /* and the most of the least charge */
 };
 
 /* How rounds are made. Savings, insertion and sweep use a depot's first vehicle for
@@ -294,11 +303,16 @@ enum {
     (PLANNER_CAST(size_t, PLANNER_PLAN_HEADER_BYTES)    \
      + PLANNER_CAST(size_t, PLANNER_PLAN_ROW_BYTES) * PLANNER_CAST(size_t, rows))
 
+/* Bytes of the bill of a plan with so many rounds. */
+#define PLANNER_BILL_BYTES(rounds) \
+    (PLANNER_CAST(size_t, PLANNER_CHARGE_BYTES) * (PLANNER_CAST(size_t, rounds) + 1u))
+
 /*
  * Why a call is turned back. The conditions are tested in this order, rows,
  * matrix entries and vehicles ascending, and the first that holds is the answer.
- * 9 and 10 are limit_rounds' alone, 11 and 12 import_solomon's. That one has an order
- * of its own, 11, 12, 5, 7, 4, and no other refusal; see there.
+ * 1 to 8 belong to every function that takes a sheet; 9 is limit_rounds' alone, 10 its
+ * and bill_rounds', 13 bill_rounds' alone. 11 and 12 are import_solomon's, which has an
+ * order of its own, 11, 12, 5, 7, 4, and no other refusal; see there.
  */
 enum planner_refusal {
     /* No condition holds. */
@@ -310,8 +324,8 @@ enum planner_refusal {
     PLANNER_TOO_MANY = 2,
     /* Method above 4. */
     PLANNER_BAD_METHOD = 3,
-    /* Sheet or a plan not of its exact length; a buffer shorter than the sheet of a
-       text. */
+    /* Sheet, a plan or a bill not of its exact length; a buffer shorter than the sheet
+       of a text. */
     PLANNER_BAD_LENGTH = 4,
     /* Field or mark of a row out of range, or an unmarked field not zero. */
     PLANNER_BAD_ROW = 5,
@@ -331,7 +345,9 @@ enum planner_refusal {
     /* Text not of its form. */
     PLANNER_BAD_TEXT = 11,
     /* Text with more than 100 customers after the depot's row. */
-    PLANNER_TOO_MANY_CUSTOMERS = 12
+    PLANNER_TOO_MANY_CUSTOMERS = 12,
+    /* A rate or the least charge above 1,000,000. */
+    PLANNER_BAD_RATE = 13
 };
 
 /*
@@ -434,6 +450,45 @@ uint32_t limit_rounds(const uint8_t *sheet, size_t sheet_len,
  *              fits in PLANNER_IMPORT_BYTES(PLANNER_MOST_ROWS), 86,544 bytes
  */
 int32_t import_solomon(const uint8_t *text, size_t text_len, uint8_t *sheet, size_t sheet_len);
+
+/*
+ * Bills a plan by a haulage tariff, round by round, in whole cents. The charge of a round
+ * is
+ *
+ *     distance_rate * begun 1,000s of its distance
+ *       + duration_rate * begun 900s of its duration,
+ *
+ * or `least` where that is more. An empty round costs 0, whatever `least` is. The begun
+ * units of a figure are the least whole number that, times 1,000 or 900, is not below it,
+ * exactly: 0 has none, 1000.0 is one of 1,000, and the next f64 above it two. Distance and
+ * duration are in the sheet's own units, and walked anew from the plan's chains, each
+ * round by its vehicle and from that one's depot, as limit_rounds does: a round that
+ * breaks a limit is billed like any other. Nothing overflows: a charge is at most
+ * 6 * 10^15, so that the sum of 101 fits.
+ *
+ * A plan of one round, distance 24 and duration 24, at rates 7 and 11 and a least charge
+ * of 0: 7 * 1 + 11 * 1 = 18 cents for the round, and 18 for the sum.
+ *
+ * PLANNER_ACCEPTED, and the bill fills its buffer; or the first refusal of enum
+ * planner_refusal that holds. Stack: PLANNER_STACK.
+ *
+ *   sheet, sheet_len    as for check_sheet; of any method, with any depots
+ *   plan, plan_len      as limit_rounds takes a plan in: plan_rounds', limit_rounds', or
+ *                       made up, and read as there. With several depots a link to any of
+ *                       them is a link to no stop
+ *   distance_rate       cents for each begun 1,000 of distance, up to PLANNER_MOST_RATE
+ *   duration_rate       cents for each begun 900 of duration, up to the same
+ *   least               cents that a round with a stop costs at least, up to the same
+ *   bill                where the bill goes
+ *   bill_len            how many bytes are lent: PLANNER_BILL_BYTES(rounds) is the only
+ *                       length accepted, by the plan's own number of rounds. That is read
+ *                       before the plan is judged, so a number above the rows is a
+ *                       PLANNER_BAD_PLAN only with a bill of the length that it asks for.
+ *                       Every bill that is accepted fits in PLANNER_BILL_BYTES(rows)
+ */
+uint32_t bill_rounds(const uint8_t *sheet, size_t sheet_len, const uint8_t *plan, size_t plan_len,
+                     uint32_t distance_rate, uint32_t duration_rate, uint32_t least,
+                     uint8_t *bill, size_t bill_len);
 
 #ifdef __cplusplus
 }

@@ -1,13 +1,14 @@
 /*
- * Readers and writers of every field of a sheet and of a plan, and the words of a
- * refusal, for C and C++ hosts of planner.h. Everything is inline: nothing of it is
- * in the archive, and nothing of it is proved.
+ * Readers and writers of every field of a sheet and of a plan, readers of a bill, and
+ * the words of a refusal, for C and C++ hosts of planner.h. Everything is inline:
+ * nothing of it is in the archive, and nothing of it is proved.
  *
- * A sheet and a plan are the bytes that planner.h lays out. The functions take their
- * address, and a row's, vehicle's or round's number from 0 on; they read and write
- * the bytes of the field and no others, and check nothing: that the bytes are there
- * is the caller's to see to. PLANNER_SHEET_BYTES and PLANNER_PLAN_BYTES tell how
- * many there have to be, and planner_sheet_bytes those that a header asks for.
+ * A sheet, a plan and a bill are the bytes that planner.h lays out. The functions take
+ * their address, and a row's, vehicle's or round's number from 0 on; they read and
+ * write the bytes of the field and no others, and check nothing: that the bytes are
+ * there is the caller's to see to. PLANNER_SHEET_BYTES, PLANNER_PLAN_BYTES and
+ * PLANNER_BILL_BYTES tell how many there have to be, and planner_sheet_bytes and
+ * planner_bill_bytes those that a header asks for.
  *
  *     uint8_t sheet[PLANNER_SHEET_BYTES(3, 1, 0)] = {0};
  *     planner_set_rows(sheet, 3);          the counts first: the places of vehicles
@@ -349,7 +350,7 @@ static inline unsigned planner_plan_rows(const uint8_t *plan)
     return PLANNER_CAST(unsigned, planner_get(plan + PLANNER_PLAN_ROWS, 2));
 }
 
-/* A plan that a host makes up needs it for the functions above; limit_rounds does not read it. */
+/* A plan that a host makes up needs it for the functions above; limit_rounds and bill_rounds do not read it. */
 static inline void planner_set_plan_rows(uint8_t *plan, unsigned rows)
 {
     planner_put(plan + PLANNER_PLAN_ROWS, 2, rows);
@@ -358,6 +359,25 @@ static inline void planner_set_plan_rows(uint8_t *plan, unsigned rows)
 static inline double planner_plan_cost(const uint8_t *plan)
 {
     return planner_get_f64(plan + PLANNER_PLAN_COST);
+}
+
+/* ---- a bill. It does not say how many rounds it has: that is its plan's to say. */
+
+/* How many bytes the bill of a plan with this header has. */
+static inline size_t planner_bill_bytes(const uint8_t *plan)
+{
+    return PLANNER_BILL_BYTES(planner_plan_rounds(plan));
+}
+
+/* In cents, and so is the sum. */
+static inline uint64_t planner_bill_charge(const uint8_t *bill, unsigned round)
+{
+    return planner_get(bill + PLANNER_CAST(size_t, PLANNER_CHARGE_BYTES) * round, PLANNER_CHARGE_BYTES);
+}
+
+static inline uint64_t planner_bill_sum(const uint8_t *bill, unsigned rounds)
+{
+    return planner_bill_charge(bill, rounds);
 }
 
 /* ---- the sentence of an answer */
@@ -375,7 +395,7 @@ static inline const char *planner_refusal_text(uint32_t number)
     case PLANNER_BAD_HEADER: return "the sheet is under 16 bytes, its time table byte is above 1, or a spare byte of its header is set";
     case PLANNER_TOO_MANY: return "the sheet has more rows or more vehicles than a sheet may have";
     case PLANNER_BAD_METHOD: return "the sheet names no method";
-    case PLANNER_BAD_LENGTH: return "the sheet or a buffer is not of the length that the sheet asks for";
+    case PLANNER_BAD_LENGTH: return "the sheet, the plan or a buffer is not of the length that is asked for";
     case PLANNER_BAD_ROW: return "a field or a mark of a row is out of range, or an unmarked field is not zero";
     case PLANNER_BAD_MATRIX: return "a distance or a time is out of range";
     case PLANNER_BAD_VEHICLE: return "a field, a mark or the depot of a vehicle is out of range, a rest at home is marked without a rest, an unmarked field is not zero, or an id stands twice";
@@ -384,6 +404,7 @@ static inline const char *planner_refusal_text(uint32_t number)
     case PLANNER_BAD_PLAN: return "the plan has more rounds than the sheet has rows, an unknown vehicle, a link to no stop, or a stop that does not stand exactly once";
     case PLANNER_BAD_TEXT: return "the text is not of the form of Solomon's instances";
     case PLANNER_TOO_MANY_CUSTOMERS: return "the text has more than 100 customers after its depot";
+    case PLANNER_BAD_RATE: return "a rate or the least charge is above 1,000,000 cents";
     default: return "no answer of the planner's";
     }
 }

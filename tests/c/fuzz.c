@@ -1,21 +1,22 @@
 /*
- * Fuzzes the planner, the limiter and the importer by mutations that know the form of
- * sheets, plans and texts.
+ * Fuzzes the planner, the limiter, the biller and the importer by mutations that know the
+ * form of sheets, plans and texts.
  *
  *   fuzz SECONDS [SEED]              mutates for so long
  *   fuzz replay FILE [PLAN_BYTES]    asks a kept sheet again
  *   fuzz limit SHEET PLAN GREATEST [PLAN_OUT_BYTES]    asks the limiter again
+ *   fuzz bill SHEET PLAN RATE RATE LEAST [BILL_BYTES]    asks the biller again
  *   fuzz import TEXT [SHEET_BYTES]    asks the importer again
  *
  * Sheets are drawn, mutated field by field according to what a field is, cut, spliced
  * and fitted to their own plans. A sheet that shows something new joins the corpus from
- * which the next ones are taken. After each sheet the limiter is asked with a plan in
- * for it: its own, or one that is dealt, and mutated. In between the next sheet is one
- * that the importer makes of a text, drawn and mutated likewise. Every call is lent as
- * lend.h says; a plan is held to plan_check.h, and whether a plan in is taken too; an
- * imported sheet has to be planned. A fault's sheet is kept in the file fuzz-fault.sheet,
- * the limiter's plan in in fuzz-fault.plan and the importer's text in fuzz-fault.text; the
- * exit status is 1.
+ * which the next ones are taken. After each sheet the limiter and the biller are asked
+ * with a plan in for it: its own, or one that is dealt, and mutated. In between the next
+ * sheet is one that the importer makes of a text, drawn and mutated likewise. Every call
+ * is lent as lend.h says; a plan is held to plan_check.h, and whether a plan in is taken
+ * too, a bill to bill_check.h; an imported sheet has to be planned. A fault's sheet is
+ * kept in the file fuzz-fault.sheet, the plan in in fuzz-fault.plan and the importer's
+ * text in fuzz-fault.text; the exit status is 1.
  */
 #define _GNU_SOURCE
 #include <stdint.h>
@@ -48,13 +49,14 @@ static struct sheet asked, spare;
 static struct plan_in plan_in;
 static struct text text, spare_text;
 static size_t import_len;
-static enum { PLANNING, LIMITING, IMPORTING } asking;
-static uint8_t plan[MOST_PLAN], plan_out[MOST_PLAN], imported[MOST_IMPORT];
+static enum { PLANNING, LIMITING, BILLING, IMPORTING } asking;
+static uint8_t plan[MOST_PLAN], plan_out[MOST_PLAN], bill[MOST_BILL], imported[MOST_IMPORT];
 static struct corpus accepted, refused, texts;
 static uint8_t signals[SIGNALS];
 static unsigned signal_count;
 static unsigned long sheets, answers[PLANNER_NO_VEHICLE + 1], planned[PLANNER_SWEEP + 1];
 static unsigned long limits, limit_answers[PLANNER_BAD_PLAN + 1], dropped, home_rests, limited_home_rests;
+static unsigned long bill_answers[PLANNER_BAD_RATE + 1], several_depots_billed, charges_checked, whole_units;
 static unsigned long imports, import_answers[PLANNER_TOO_MANY_CUSTOMERS + 1];
 
 static void keep_fault(const char *name, const uint8_t *bytes, size_t len)
@@ -74,18 +76,21 @@ static void end_import(const char *what)
 
 static void end(const char *what)
 {
-    size_t plan_len = asking == LIMITING ? plan_in.len : asked.plan_len;
+    size_t plan_len = asking == PLANNING ? asked.plan_len : plan_in.len;
     if (asking == IMPORTING)
         end_import(what);
     fprintf(stderr, "fuzz: %s: a sheet of %zu bytes, a plan of %zu\n", what, asked.len, plan_len);
     keep_fault(FAULT_FILE, asked.bytes, asked.len);
-    if (asking == LIMITING) {
+    if (asking != PLANNING)
         keep_fault(FAULT_PLAN, plan_in.bytes, plan_in.len);
+    if (asking == LIMITING)
         fprintf(stderr, "fuzz: again with: fuzz limit %s %s %u %zu\n", FAULT_FILE, FAULT_PLAN,
                 (unsigned)plan_in.greatest, plan_in.plan_out_len);
-    } else {
+    else if (asking == BILLING)
+        fprintf(stderr, "fuzz: again with: fuzz bill %s %s %u %u %u %zu\n", FAULT_FILE, FAULT_PLAN,
+                (unsigned)plan_in.distance_rate, (unsigned)plan_in.duration_rate, (unsigned)plan_in.least, plan_in.bill_len);
+    else
         fprintf(stderr, "fuzz: again with: fuzz replay %s %zu\n", FAULT_FILE, plan_len);
-    }
     exit(1);
 }
 
@@ -264,7 +269,8 @@ static int limited_is_new(const struct reading *r)
     return found;
 }
 
-static void ask_to_limit(struct sheet *s, const struct plan_in *p)
+/* Whether the plan out has the rounds of the plan in, and no fewer. */
+static int ask_to_limit(struct sheet *s, const struct plan_in *p)
 {
     static struct reading r;
     struct limiting l = {s->bytes, p->bytes, s->len, p->len, p->plan_out_len, p->greatest};
@@ -274,7 +280,7 @@ static void ask_to_limit(struct sheet *s, const struct plan_in *p)
     if (answer != expected_answer(s, p, &r))
         end("another answer of the limiter's than its sheet and plan in ask for");
     if (answer != PLANNER_ACCEPTED)
-        return;
+        return 0;
     const char *fault = limit_fault(&r, s->bytes, (uint8_t *)p->bytes, p->greatest, plan_out);
     if (fault != NULL) {
         fprintf(stderr, "fuzz: %s\n", fault);
@@ -284,16 +290,66 @@ static void ask_to_limit(struct sheet *s, const struct plan_in *p)
     limited_home_rests += r.home_rests;
     if (limited_is_new(&r))
         keep(&accepted, s->bytes, s->len);
+    return planner_plan_rounds(p->bytes) <= p->greatest;
 }
 
-/* The limiter on the sheet that was asked last. */
-static void limit_asked(struct sheet *s, int was_planned)
+/* The biller's answer likewise. */
+static uint32_t expected_bill_answer(struct sheet *s, const struct plan_in *p)
 {
-    if (!laid_out(s) || rows_in(s) > PLANNER_MOST_ROWS)
+    static struct reading r;
+    size_t exact = plan_len_of(s->bytes, s->len);
+    int fits = p->len == exact && p->bill_len == planner_bill_bytes(p->bytes);
+    uint32_t answer = check_sheet(s->bytes, s->len, fits ? exact : exact + 1);
+    if (answer != PLANNER_ACCEPTED)
+        return answer;
+    if (!plan_in_is_good(&r, s->bytes, (uint8_t *)p->bytes))
+        return PLANNER_BAD_PLAN;
+    return p->distance_rate > PLANNER_MOST_RATE || p->duration_rate > PLANNER_MOST_RATE || p->least > PLANNER_MOST_RATE
+               ? PLANNER_BAD_RATE
+               : PLANNER_ACCEPTED;
+}
+
+/* How many figures are whole numbers of their units, which one step more would exceed. */
+static unsigned whole_in(const uint8_t *walked)
+{
+    unsigned whole = 0;
+    for (unsigned k = 0; k < planner_plan_rounds(walked); k++) {
+        double distance = planner_round_distance(walked, k), duration = planner_round_duration(walked, k);
+        whole += distance > 0.0 && distance == 1000.0 * (double)begun_units(distance, 1000);
+        whole += duration > 0.0 && duration == 900.0 * (double)begun_units(duration, 900);
+    }
+    return whole;
+}
+
+/* `walked` has the figures of the plan in's rounds, or is NULL. */
+static void ask_to_bill(struct sheet *s, const struct plan_in *p, const uint8_t *walked)
+{
+    struct billing b = {s->bytes, p->bytes, s->len, p->len, p->bill_len, p->distance_rate, p->duration_rate, p->least};
+    uint32_t answer = ask_biller(&b, bill);
+    bill_answers[answer]++;
+    if (answer != expected_bill_answer(s, p))
+        end("another answer of the biller's than its sheet, plan and rates ask for");
+    if (answer != PLANNER_ACCEPTED)
         return;
+    several_depots_billed += planner_depots(s->bytes) > 1 && planner_plan_rounds(p->bytes) > 0;
+    if (walked == NULL)
+        return;
+    const char *fault = charge_fault(&b, walked, bill);
+    if (fault != NULL)
+        end(fault);
+    charges_checked += planner_plan_rounds(p->bytes);
+    whole_units += whole_in(walked);
+}
+
+/* The limiter and the biller on the sheet that was asked last. Its own plan has its figures, and so has a plan out of as
+   many rounds. */
+static void ask_with_plan_in(struct sheet *s, int was_planned)
+{
     asking = LIMITING;
-    make_plan_in(&plan_in, s, was_planned ? plan : NULL);
-    ask_to_limit(s, &plan_in);
+    int is_whole_out = ask_to_limit(s, &plan_in);
+    int is_own = was_planned && memcmp(plan_in.bytes, plan, PLANNER_PLAN_BYTES(rows_in(s))) == 0;
+    asking = BILLING;
+    ask_to_bill(s, &plan_in, is_own ? plan : is_whole_out ? plan_out : NULL);
     asking = PLANNING;
 }
 
@@ -411,7 +467,10 @@ static void run(double seconds, unsigned long seed)
     do {
         if (one_in(4) ? import_next(&asked) : make_next(&asked, was_planned && one_in(3), &r)) {
             was_planned = ask(&asked, &r);
-            limit_asked(&asked, was_planned);
+            if (laid_out(&asked) && rows_in(&asked) <= PLANNER_MOST_ROWS) {
+                make_plan_in(&plan_in, &asked, was_planned ? plan : NULL);
+                ask_with_plan_in(&asked, was_planned);
+            }
         }
         clock_gettime(CLOCK_MONOTONIC, &now);
     } while ((double)(now.tv_sec - began.tv_sec) + 1e-9 * (double)(now.tv_nsec - began.tv_nsec) < seconds);
@@ -461,6 +520,26 @@ static int replay_limit(const char *sheet, const char *plan_name, const char *gr
     return 0;
 }
 
+static int replay_bill(char **words, const char *bill_len)
+{
+    static struct reading r;
+    asked.len = read_file(words[0], asked.bytes, MOST_SHEET);
+    asked.plan_len = plan_len_of(asked.bytes, asked.len);
+    plan_in.len = read_file(words[1], plan_in.bytes, MOST_PLAN);
+    plan_in.greatest = UINT32_MAX;
+    plan_in.plan_out_len = asked.plan_len;
+    plan_in.distance_rate = (uint32_t)strtoul(words[2], NULL, 10);
+    plan_in.duration_rate = (uint32_t)strtoul(words[3], NULL, 10);
+    plan_in.least = (uint32_t)strtoul(words[4], NULL, 10);
+    plan_in.bill_len = bill_len != NULL ? strtoul(bill_len, NULL, 10) : planner_bill_bytes(plan_in.bytes);
+    plan_in.bill_len = plan_in.bill_len < MOST_BILL ? plan_in.bill_len : MOST_BILL;
+    ask_with_plan_in(&asked, ask(&asked, &r));
+    for (uint32_t answer = 0; answer <= PLANNER_BAD_RATE; answer++)
+        if (bill_answers[answer] > 0)
+            printf("fuzz: answer %u\n", (unsigned)answer);
+    return 0;
+}
+
 static int replay_import(const char *name, const char *sheet_len)
 {
     text.len = read_file(name, text.bytes, MOST_TEXT);
@@ -479,18 +558,22 @@ static void print_counts(const char *what, const unsigned long *counts, unsigned
 
 static int report(void)
 {
-    int lacking = home_rests == 0 || limited_home_rests == 0 || dropped == 0 || import_answers[PLANNER_ACCEPTED] == 0;
+    int lacking = home_rests == 0 || limited_home_rests == 0 || dropped == 0 || import_answers[PLANNER_ACCEPTED] == 0
+                  || several_depots_billed == 0 || charges_checked == 0 || whole_units == 0;
     printf("fuzz: %lu sheets, %lu plans in and %lu texts, %lu calls\n", sheets, limits, imports, calls);
     print_counts("answers", answers, PLANNER_NO_VEHICLE);
     print_counts("planned by method", planned, PLANNER_SWEEP);
     print_counts("answers of the limiter", limit_answers, PLANNER_BAD_PLAN);
     printf("fuzz: %lu plans out with fewer rounds; rests at home: %lu in plans, %lu in plans out\n", dropped, home_rests,
            limited_home_rests);
+    print_counts("answers of the biller", bill_answers, PLANNER_BAD_RATE);
+    printf("fuzz: %lu plans of several depots billed; %lu charges held to their figures, of which %lu are whole units\n",
+           several_depots_billed, charges_checked, whole_units);
     print_counts("answers of the importer", import_answers, PLANNER_TOO_MANY_CUSTOMERS);
     printf("fuzz: corpus of %u sheets planned, %u refused and %u texts, %u signals\n", accepted.count, refused.count,
            texts.count, signal_count);
     if (lacking)
-        fprintf(stderr, "fuzz: nothing was planned or limited, with a rest at home, or imported\n");
+        fprintf(stderr, "fuzz: nothing was planned or limited, with a rest at home, or billed, or imported\n");
     return lacking;
 }
 
@@ -501,13 +584,16 @@ int main(int argc, char **argv)
         return replay(argv[2], argc > 3 ? argv[3] : NULL);
     if (argc > 4 && strcmp(argv[1], "limit") == 0)
         return replay_limit(argv[2], argv[3], argv[4], argc > 5 ? argv[5] : NULL);
+    if (argc > 6 && strcmp(argv[1], "bill") == 0)
+        return replay_bill(argv + 2, argc > 7 ? argv[7] : NULL);
     if (argc > 2 && strcmp(argv[1], "import") == 0)
         return replay_import(argv[2], argc > 3 ? argv[3] : NULL);
     double seconds = argc > 1 ? strtod(argv[1], NULL) : 0.0;
     unsigned long seed = argc > 2 ? strtoul(argv[2], NULL, 10) : (unsigned long)time(NULL);
     if (argc > 3 || seconds <= 0.0) {
         fprintf(stderr, "usage: fuzz SECONDS [SEED] | fuzz replay FILE [PLAN_BYTES] | "
-                        "fuzz limit SHEET PLAN GREATEST [PLAN_OUT_BYTES] | fuzz import TEXT [SHEET_BYTES]\n");
+                        "fuzz limit SHEET PLAN GREATEST [PLAN_OUT_BYTES] | "
+                        "fuzz bill SHEET PLAN RATE RATE LEAST [BILL_BYTES] | fuzz import TEXT [SHEET_BYTES]\n");
         return 2;
     }
     printf("fuzz: %g s, seed %lu\n", seconds, seed);

@@ -1,7 +1,7 @@
 /*
  * Lends sheets of every kind, cut short, damaged, random and accepted, with plans of
- * every length, to the limiter plans in and to the importer texts likewise, and holds
- * the answers that are known to what they must be.
+ * every length, to the limiter and the biller plans in and to the importer texts
+ * likewise, and holds the answers that are known to what they must be.
  */
 #define _GNU_SOURCE
 #include <stdint.h>
@@ -11,7 +11,7 @@
 #include "lend.h"
 #include "plans.h"
 
-static unsigned long planned, limited, imported;
+static unsigned long planned, limited, billed, imported;
 static const char *lending = "nothing";
 
 static void end(const char *what)
@@ -130,7 +130,7 @@ static void lend_planned(uint8_t *sheet)
         shape.depots = 1 + below(&state, shape.rows < 4 ? shape.rows : 4);
         shape.method = below(&state, 5);
         shape.time_table = below(&state, 2);
-        shape.vehicles = needs_vehicle(shape.method) + below(&state, 6);
+        shape.vehicles = (unsigned)needs_vehicle(shape.method) + below(&state, 6);
         shape.load = 15;
         shape.hours = 1;
         expect(sheet, draw_sheet(sheet, shape, &state), PLANNER_ACCEPTED);
@@ -264,6 +264,167 @@ static void lend_to_limiter(uint8_t *sheet)
     limit_dealt(sheet, plan_in, &state);
 }
 
+static uint32_t bill(struct billing b)
+{
+    static uint8_t made[MOST_BILL];
+    uint32_t answer = ask_biller(&b, made);
+    billed += answer == PLANNER_ACCEPTED;
+    return answer;
+}
+
+static void expect_bill(struct billing b, uint32_t answer)
+{
+    uint32_t got = bill(b);
+    if (got != answer) {
+        fprintf(stderr, "guard: %s: a plan of %zu bytes, a bill of %zu: %u, not %u\n", lending, b.plan_len, b.bill_len,
+                (unsigned)got, (unsigned)answer);
+        exit(1);
+    }
+}
+
+/* A sheet with a plan of it and a bill, of their exact lengths. */
+static struct billing with_bill(const uint8_t *sheet, size_t len, const uint8_t *plan)
+{
+    struct billing b = {sheet, plan, len, plan_len_of(sheet, len), planner_bill_bytes(plan), 7, 11, 20};
+    return b;
+}
+
+/* Plans and bills of every length, up to some more than a charge too many. */
+static void bill_lengths(struct billing b)
+{
+    size_t exact = b.plan_len, exact_bill = b.bill_len;
+    for (size_t len = 0; len <= exact + 1; len++) {
+        b.plan_len = len;
+        expect_bill(b, len == exact ? PLANNER_ACCEPTED : PLANNER_BAD_LENGTH);
+    }
+    b.plan_len = exact;
+    for (size_t len = 0; len <= exact_bill + PLANNER_CHARGE_BYTES + 1; len++) {
+        b.bill_len = len;
+        expect_bill(b, len == exact_bill ? PLANNER_ACCEPTED : PLANNER_BAD_LENGTH);
+    }
+}
+
+static void bill_cut(struct billing b)
+{
+    for (size_t len = b.len; len > 0; len--) {
+        b.len = len - 1;
+        expect_bill(b, b.len < PLANNER_HEADER_BYTES ? PLANNER_BAD_HEADER : PLANNER_BAD_LENGTH);
+    }
+}
+
+/* With a bill for the rounds that the damaged plan says, as far as there is room, and for those that it had. */
+static void bill_damaged(struct billing b, uint8_t *plan)
+{
+    static const uint8_t damages[] = {0x01, 0x02, 0x40, 0x80, 0xff};
+    size_t exact = b.bill_len;
+    for (size_t at = 0; at < b.plan_len; at++)
+        for (size_t i = 0; i < sizeof damages; i++) {
+            plan[at] ^= damages[i];
+            b.bill_len = exact;
+            bill(b);
+            b.bill_len = planner_bill_bytes(plan) < MOST_BILL ? planner_bill_bytes(plan) : MOST_BILL;
+            bill(b);
+            plan[at] ^= damages[i];
+        }
+}
+
+/* Numbers of rounds above the rows. Of the greatest the bill is lent without closed pages: no byte of it changes. */
+static void bill_counts(struct billing b, uint8_t *plan)
+{
+    static uint8_t longest[PLANNER_BILL_BYTES(UINT16_MAX)];
+    unsigned rounds = planner_plan_rounds(plan), rows = planner_rows(b.sheet);
+    for (unsigned count = rows + 1; PLANNER_BILL_BYTES(count) <= MOST_BILL; count++) {
+        planner_set_plan_rounds(plan, count);
+        b.bill_len = PLANNER_BILL_BYTES(rounds);
+        expect_bill(b, PLANNER_BAD_LENGTH);
+        b.bill_len = PLANNER_BILL_BYTES(count);
+        expect_bill(b, PLANNER_BAD_PLAN);
+    }
+    planner_set_plan_rounds(plan, UINT16_MAX);
+    uint32_t answer = bill_rounds(b.sheet, b.len, plan, b.plan_len, 0, 0, 0, longest, sizeof longest);
+    if (answer != PLANNER_BAD_PLAN || !all_are(longest, sizeof longest, 0))
+        end("65,535 rounds are not refused as they should be");
+    planner_set_plan_rounds(plan, rounds);
+}
+
+/* Each rate at its most and above, alone and where something else is wrong, which is told before it. */
+static void bill_rates(struct billing b, uint8_t *sheet, uint8_t *plan)
+{
+    static const uint32_t above[] = {PLANNER_MOST_RATE + 1, UINT32_C(0x7fffffff), UINT32_C(0x80000000), UINT32_MAX};
+    uint32_t *const rates[] = {&b.distance_rate, &b.duration_rate, &b.least};
+    unsigned aside = planner_plan_aside(plan);
+    for (unsigned i = 0; i < 3; i++) {
+        uint32_t had = *rates[i];
+        *rates[i] = PLANNER_MOST_RATE;
+        expect_bill(b, PLANNER_ACCEPTED);
+        for (unsigned k = 0; k < sizeof above / sizeof above[0]; k++) {
+            *rates[i] = above[k];
+            expect_bill(b, PLANNER_BAD_RATE);
+            planner_set_plan_aside(plan, UINT16_MAX);
+            expect_bill(b, PLANNER_BAD_PLAN);
+            planner_set_row_demand(sheet, 0, -1);
+            expect_bill(b, PLANNER_BAD_ROW);
+            b.bill_len++;
+            expect_bill(b, PLANNER_BAD_LENGTH);
+            b.bill_len--;
+            planner_set_row_demand(sheet, 0, 0);
+            planner_set_plan_aside(plan, aside);
+        }
+        *rates[i] = had;
+    }
+}
+
+/* Lone rounds, or all set aside where there is no vehicle. */
+static void bill_sizes(uint8_t *sheet, uint8_t *plan, uint64_t *state)
+{
+    for (unsigned rows = 0; rows <= PLANNER_MOST_ROWS; rows++)
+        for (unsigned vehicles = 0; vehicles < 2; vehicles++) {
+            size_t len = plain_sheet(sheet, rows, vehicles, rows % 2);
+            deal_plan(plan, sheet, rows, 1, state);
+            expect_bill(with_bill(sheet, len, plan), PLANNER_ACCEPTED);
+        }
+}
+
+/* Plans dealt for accepted sheets with every mark, of one depot and of several. */
+static void bill_dealt(uint8_t *sheet, uint8_t *plan, uint64_t *state)
+{
+    for (int turn = 0; turn < 6000; turn++) {
+        struct shape shape = {1 + below(state, turn % 100 == 0 ? PLANNER_MOST_ROWS : 14), 1, 1 + below(state, 5),
+                              below(state, 5), below(state, 2), 15, 1 + below(state, 40)};
+        shape.depots = 1 + below(state, shape.rows < 4 ? shape.rows : 4);
+        size_t len = draw_sheet(sheet, shape, state);
+        deal_plan(plan, sheet, below(state, shape.rows + 1), turn % 4 == 0, state);
+        struct billing b = with_bill(sheet, len, plan);
+        b.distance_rate = below(state, PLANNER_MOST_RATE + 1);
+        b.duration_rate = below(state, PLANNER_MOST_RATE + 1);
+        b.least = below(state, PLANNER_MOST_RATE + 1);
+        expect_bill(b, PLANNER_ACCEPTED);
+    }
+}
+
+static void lend_to_biller(uint8_t *sheet)
+{
+    static uint8_t plan[MOST_PLAN];
+    uint64_t state = UINT64_C(0x9e3779b97f4a7c15);
+    size_t len = plain_sheet(sheet, 4, 2, 1);
+    deal_plan(plan, sheet, 3, 1, &state);
+    struct billing b = with_bill(sheet, len, plan);
+    lending = "plans and bills of every length";
+    bill_lengths(b);
+    lending = "a sheet cut short, to the biller";
+    bill_cut(b);
+    lending = "a plan with a damaged byte, to the biller";
+    bill_damaged(b, plan);
+    lending = "more rounds than rows, to the biller";
+    bill_counts(b, plan);
+    lending = "rates";
+    bill_rates(b, sheet, plan);
+    lending = "bills of every number of rounds";
+    bill_sizes(sheet, plan, &state);
+    lending = "plans dealt at random, to the biller";
+    bill_dealt(sheet, plan, &state);
+}
+
 static int32_t import(const struct text *t, size_t sheet_len)
 {
     static uint8_t sheet[MOST_IMPORT];
@@ -395,8 +556,9 @@ int main(void)
     lending = "accepted sheets";
     lend_planned(sheet);
     lend_to_limiter(sheet);
+    lend_to_biller(sheet);
     lend_to_importer();
-    printf("guard: %lu calls, %lu sheets planned, %lu plans limited and %lu texts imported at both ends\n", calls, planned,
-           limited, imported);
+    printf("guard: %lu calls, %lu sheets planned, %lu plans limited, %lu billed and %lu texts imported at both ends\n", calls,
+           planned, limited, billed, imported);
     return 0;
 }

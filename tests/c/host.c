@@ -1,8 +1,9 @@
 /*
- * A host in C: builds sheet A (docs/SCOPE.md), has it planned and its plans limited,
- * prints the rounds in plain words, then damages it in the way of each refusal's
+ * A host in C: builds sheet A (docs/SCOPE.md), has it planned and its plans limited and
+ * billed, prints the rounds in plain words, then damages it in the way of each refusal's
  * example. At the end it imports a text, has its sheet planned, and damages that.
  */
+#include <inttypes.h>
 #include <stdint.h>
 #include <stdio.h>
 #include <string.h>
@@ -74,6 +75,7 @@ static const char *words(uint32_t answer)
     case PLANNER_BAD_PLAN: return "refused 10, no plan of this sheet";
     case PLANNER_BAD_TEXT: return "refused 11, no text of this form";
     case PLANNER_TOO_MANY_CUSTOMERS: return "refused 12, too many customers";
+    case PLANNER_BAD_RATE: return "refused 13, a rate or the least charge too high";
     }
     return "an answer that is no refusal";
 }
@@ -119,24 +121,30 @@ struct plan {
     uint8_t bytes[PLANNER_PLAN_BYTES(ROWS)];
 };
 
+/* What a buffer holds before a call, and after one that is refused. */
+enum { UNTOUCHED = 0xa5 };
+
 static struct plan untouched(void)
 {
     struct plan plan;
-    memset(plan.bytes, 0xa5, sizeof plan.bytes);
+    memset(plan.bytes, UNTOUCHED, sizeof plan.bytes);
     return plan;
 }
 
-/* A refused call leaves the buffer as it was. */
+static void print_changed(const uint8_t *bytes, size_t len)
+{
+    for (size_t i = 0; i < len; i++)
+        if (bytes[i] != UNTOUCHED)
+            printf("  byte %zu was changed\n", i);
+}
+
 static void print_answer(const char *what, uint32_t answer, const struct plan *plan)
 {
     printf("%s: %s\n", what, words(answer));
-    if (answer == PLANNER_ACCEPTED) {
+    if (answer == PLANNER_ACCEPTED)
         print_plan(plan->bytes);
-        return;
-    }
-    for (size_t i = 0; i < sizeof plan->bytes; i++)
-        if (plan->bytes[i] != 0xa5)
-            printf("  byte %zu was changed\n", i);
+    else
+        print_changed(plan->bytes, sizeof plan->bytes);
 }
 
 static struct plan plan_it(const char *what, const struct sheet *s)
@@ -151,6 +159,54 @@ static void limit_it(const char *what, const struct sheet *s, const struct plan 
     struct plan out = untouched();
     uint32_t answer = limit_rounds(s->bytes, s->len, in->bytes, sizeof in->bytes, greatest, out.bytes, sizeof out.bytes);
     print_answer(what, answer, &out);
+}
+
+struct tariff {
+    uint32_t distance_rate, duration_rate, least;
+};
+
+/* Into a buffer of the bill's length and so many bytes more. */
+static void bill_it(const char *what, const struct sheet *s, const struct plan *plan, struct tariff t, size_t more)
+{
+    uint8_t bill[PLANNER_BILL_BYTES(ROWS) + 1];
+    unsigned rounds = planner_plan_rounds(plan->bytes);
+    memset(bill, UNTOUCHED, sizeof bill);
+    uint32_t answer = bill_rounds(s->bytes, s->len, plan->bytes, sizeof plan->bytes, t.distance_rate, t.duration_rate, t.least,
+                                  bill, planner_bill_bytes(plan->bytes) + more);
+    printf("%s: %s\n", what, words(answer));
+    if (answer != PLANNER_ACCEPTED) {
+        print_changed(bill, sizeof bill);
+        return;
+    }
+    for (unsigned k = 0; k < rounds; k++)
+        printf("  round %u: %" PRIu64 " cents\n", k + 1, planner_bill_charge(bill, k));
+    printf("  in all: %" PRIu64 " cents\n", planner_bill_sum(bill, rounds));
+}
+
+/* A round at the end of a unit and past it, an empty one, one of two depots; and what is refused. */
+static void bill_sheet_a(void)
+{
+    const struct tariff rates = {7, 11, 0}, with_least = {7, 11, 20}, too_high = {7, 11, PLANNER_MOST_RATE + 1};
+    struct sheet s = sheet_a();
+    struct plan plan = plan_it("sheet A, savings", &s);
+    bill_it("its bill, 7 a begun 1,000 and 11 a begun 900", &s, &plan, rates, 0);
+    bill_it("its bill, the least charge 20", &s, &plan, with_least, 0);
+    bill_it("its bill, one byte too many", &s, &plan, rates, 1);
+    bill_it("its bill, the least charge 1,000,001", &s, &plan, too_high, 0);
+    planner_set_distance(s.bytes, 2, 0, 986.0);
+    bill_it("its bill, distance and duration 1000", &s, &plan, rates, 0);
+    planner_set_distance(s.bytes, 2, 0, 986.5);
+    bill_it("its bill, distance and duration 1000.5", &s, &plan, rates, 0);
+    planner_set_plan_rounds(plan.bytes, 2);
+    planner_set_round_id(plan.bytes, 1, 7);
+    bill_it("its bill with an empty round more, the least charge 20", &s, &plan, with_least, 0);
+    planner_set_stop_next(plan.bytes, 2, 2);
+    bill_it("its bill, next of 2 is 2, the least charge 1,000,001", &s, &plan, too_high, 0);
+
+    s = sheet_a();
+    planner_set_row_marks(s.bytes, 1, PLANNER_DEPOT);
+    plan = plan_it("sheet A with 2 depots, savings", &s);
+    bill_it("its bill, 7 a begun 1,000 and 11 a begun 900", &s, &plan, rates, 0);
 }
 
 /* A text of ROWS rows, and a customer's row. */
@@ -222,6 +278,8 @@ int main(void)
     limit_it("its plan within 1 round", &s, &rested, 1);
     planner_set_vehicle_max_duration(s.bytes, 0, 28.0);
     limit_it("the same, duration at most 28", &s, &rested, 1);
+
+    bill_sheet_a();
 
     s = sheet_a();
     s.len = 0;

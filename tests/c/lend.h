@@ -1,9 +1,9 @@
 /*
- * Lends sheets, plans and texts to the planner, the limiter and the importer up against
- * pages that nobody may touch, so that one byte read or written outside them ends the
- * run: first with such a page right after the last byte of each, then right before the
- * first. What is only read is lent by a view of its pages that can't be written, so a
- * write there ends the run too.
+ * Lends sheets, plans and texts to the planner, the limiter, the importer and the biller
+ * up against pages that nobody may touch, so that one byte read or written outside them
+ * ends the run: first with such a page right after the last byte of each, then right
+ * before the first. What is only read is lent by a view of its pages that can't be
+ * written, so a write there ends the run too.
  *
  * Define _GNU_SOURCE before the first header of a program that includes this one.
  */
@@ -16,14 +16,16 @@
 #include <sys/mman.h>
 #include <unistd.h>
 
+#include "bill_check.h"
 #include "planner_fields.h"
 #include "texts.h"
 
 /* The longest sheet of one row and one vehicle too many, and the longest plan, each with one byte more; the longest sheet
-   of a text with some more. */
+   of a text with some more; the bill of more rounds than a byte counts. */
 enum { MOST_SHEET = PLANNER_SHEET_BYTES(PLANNER_MOST_ROWS + 1, PLANNER_MOST_VEHICLES + 1, 1) + 1 };
 enum { MOST_PLAN = PLANNER_PLAN_BYTES(PLANNER_MOST_ROWS) + 1 };
 enum { MOST_IMPORT = PLANNER_IMPORT_BYTES(PLANNER_MOST_ROWS) + 64 };
+enum { MOST_BILL = PLANNER_BILL_BYTES(300) + 1 };
 
 /* Says what went wrong and ends the run with status 1; the program's own. */
 static void end(const char *what);
@@ -37,7 +39,7 @@ struct room {
 
 /* Rooms whose bytes are all `around`, but for what is lent at one end of them. */
 struct place {
-    struct room sheets, plans_in, plans, texts, imports;
+    struct room sheets, plans_in, plans, texts, imports, bills;
     int at_front;
     int around;
 };
@@ -104,6 +106,7 @@ static inline struct place open_place(int front, int around)
     place.plans = open_room(MOST_PLAN, PROT_READ | PROT_WRITE, around);
     place.texts = open_room(MOST_TEXT, PROT_READ, around);
     place.imports = open_room(MOST_IMPORT, PROT_READ | PROT_WRITE, around);
+    place.bills = open_room(MOST_BILL, PROT_READ | PROT_WRITE, around);
     place.at_front = front;
     place.around = around;
     return place;
@@ -165,10 +168,10 @@ static inline void take_buffer(const struct place *place, const struct room *roo
     memcpy(out, room->own + at, len);
 }
 
-/* How many bytes an answer of the planner's or the limiter's writes; and one of the importer's. */
-static inline size_t plan_written(uint32_t answer, size_t plan_len)
+/* How many bytes of a buffer an answer fills, the whole of it or none; and how many one of the importer's writes. */
+static inline size_t filled(uint32_t answer, size_t len)
 {
-    return answer == PLANNER_ACCEPTED ? plan_len : 0;
+    return answer == PLANNER_ACCEPTED ? len : 0;
 }
 
 static inline size_t sheet_written(int32_t answer)
@@ -184,7 +187,7 @@ static inline uint32_t lend(const struct place *place, const uint8_t *sheet, siz
     if (check_sheet(lent, len, plan_len) != answer)
         end("check_sheet says otherwise");
     take_back(place, &place->sheets, sheet, len);
-    take_buffer(place, &place->plans, plan_written(answer, plan_len), out, plan_len);
+    take_buffer(place, &place->plans, filled(answer, plan_len), out, plan_len);
     return answer;
 }
 
@@ -197,7 +200,7 @@ static inline uint32_t lend_limiting(const struct place *place, struct limiting 
     uint32_t answer = limit_rounds(sheet, l.len, plan_in, l.plan_in_len, l.greatest, plan_out, l.plan_out_len);
     take_back(place, &place->sheets, l.sheet, l.len);
     take_back(place, &place->plans_in, l.plan_in, l.plan_in_len);
-    take_buffer(place, &place->plans, plan_written(answer, l.plan_out_len), out, l.plan_out_len);
+    take_buffer(place, &place->plans, filled(answer, l.plan_out_len), out, l.plan_out_len);
     return answer;
 }
 
@@ -211,6 +214,20 @@ static inline int32_t lend_text(const struct place *place, const struct text *t,
     return answer;
 }
 
+/* The biller's answer to copies of sheet and plan. */
+static inline uint32_t lend_billing(const struct place *place, const struct billing *b, uint8_t *out)
+{
+    const uint8_t *sheet = lend_copy(place, &place->sheets, b->sheet, b->len);
+    const uint8_t *plan = lend_copy(place, &place->plans_in, b->plan, b->plan_len);
+    uint8_t *bill = lend_buffer(place, &place->bills, b->bill_len);
+    uint32_t answer = bill_rounds(sheet, b->len, plan, b->plan_len, b->distance_rate, b->duration_rate, b->least, bill,
+                                  b->bill_len);
+    take_back(place, &place->sheets, b->sheet, b->len);
+    take_back(place, &place->plans_in, b->plan, b->plan_len);
+    take_buffer(place, &place->bills, filled(answer, b->bill_len), out, b->bill_len);
+    return answer;
+}
+
 /* Two answers that have to be one, and so has what they wrote. */
 static inline void same(int64_t answer, int64_t other_answer, const uint8_t *written, const uint8_t *other, size_t len)
 {
@@ -220,14 +237,14 @@ static inline void same(int64_t answer, int64_t other_answer, const uint8_t *wri
         end("what is written depends on the bytes around, or on those it is written over");
 }
 
-static uint8_t other_plan[MOST_PLAN], other_import[MOST_IMPORT];
+static uint8_t other_plan[MOST_PLAN], other_import[MOST_IMPORT], other_bill[MOST_BILL];
 
 /* The answer, which is the same at either end, and so is the plan, of MOST_PLAN bytes of room. */
 static inline uint32_t ask_with_plan(const uint8_t *sheet, size_t len, uint8_t *plan, size_t plan_len)
 {
     uint32_t answer = lend(&at_back, sheet, len, plan_len, plan);
     uint32_t other = lend(&at_front, sheet, len, plan_len, other_plan);
-    same(answer, other, plan, other_plan, plan_written(answer, plan_len));
+    same(answer, other, plan, other_plan, filled(answer, plan_len));
     if (answer > PLANNER_NO_VEHICLE)
         end("an answer that is no refusal");
     return answer;
@@ -238,7 +255,7 @@ static inline uint32_t ask_limiter(struct limiting l, uint8_t *plan_out)
 {
     uint32_t answer = lend_limiting(&at_back, l, plan_out);
     uint32_t other = lend_limiting(&at_front, l, other_plan);
-    same(answer, other, plan_out, other_plan, plan_written(answer, l.plan_out_len));
+    same(answer, other, plan_out, other_plan, filled(answer, l.plan_out_len));
     if (answer > PLANNER_BAD_PLAN)
         end("an answer that is no refusal");
     return answer;
@@ -260,6 +277,25 @@ static inline int32_t ask_importer(const struct text *t, uint8_t *sheet, size_t 
         end("an answer that is no refusal and no sheet's length");
     if (answer > 0 && check_sheet(sheet, (size_t)answer, PLANNER_PLAN_BYTES(planner_rows(sheet))) != PLANNER_ACCEPTED)
         end("the sheet of a text is not accepted");
+    return answer;
+}
+
+static inline int is_bill_answer(uint32_t answer)
+{
+    return answer <= PLANNER_NO_VEHICLE || answer == PLANNER_BAD_PLAN || answer == PLANNER_BAD_RATE;
+}
+
+/* The same of the biller; `bill` has MOST_BILL bytes of room. What it writes is a bill by the tariff's own rules. */
+static inline uint32_t ask_biller(const struct billing *b, uint8_t *bill)
+{
+    uint32_t answer = lend_billing(&at_back, b, bill);
+    uint32_t other = lend_billing(&at_front, b, other_bill);
+    same(answer, other, bill, other_bill, filled(answer, b->bill_len));
+    if (!is_bill_answer(answer))
+        end("an answer that is no refusal");
+    const char *fault = answer == PLANNER_ACCEPTED ? bill_fault(b, bill) : NULL;
+    if (fault != NULL)
+        end(fault);
     return answer;
 }
 

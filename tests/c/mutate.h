@@ -179,7 +179,7 @@ static inline struct shape draw_shape(void)
     shape.depots = shape.rows == 0 || one_in(2) ? 1 : 1 + draw(shape.rows < 5 ? shape.rows : 5);
     shape.vehicles = one_in(16) ? draw(PLANNER_MOST_VEHICLES + 1) : draw(6);
     shape.method = draw(PLANNER_SWEEP + 1);
-    shape.time_table = one_in(3);
+    shape.time_table = (unsigned)one_in(3);
     shape.load = one_in(3) ? 400 : 15;
     shape.hours = one_in(3) ? 10 : 1;
     return shape;
@@ -549,10 +549,30 @@ static inline void fit_vehicle(const struct reading *r, unsigned rounds)
     }
 }
 
+/* A way home by which a round ends at a whole number of the tariff's units, of distance or of duration. */
+static inline void fit_units(struct sheet *s, const struct reading *r, unsigned rounds)
+{
+    uint8_t leg[8];
+    unsigned k = draw(rounds), last = planner_round_first(r->plan, k), next;
+    unsigned depot = planner_vehicle_depot(s->bytes, vehicle_by_id(r, planner_round_id(r->plan, k)));
+    while ((next = next_of(r, r->plan, last)) != 0)
+        last = next;
+    int by_time = one_in(2), of_times = by_time && planner_time_table(s->bytes);
+    uint8_t *home = s->bytes + (of_times ? planner_time_at(s->bytes, last, depot) : planner_distance_at(s->bytes, last, depot));
+    double figure = by_time ? planner_round_duration(r->plan, k) : planner_round_distance(r->plan, k);
+    double fitted = planner_get_f64(home) + ((by_time ? 900 : 1000) * (1.0 + draw(4)) - figure);
+    if (!(fitted >= 0.0))
+        return;
+    planner_put_f64(leg, fitted);
+    put_beside(home, leg, MOST_LEG);
+}
+
 static inline void fit(struct sheet *s, const struct reading *r)
 {
     unsigned rounds = planner_plan_rounds(r->plan);
-    if (rounds > 0 && one_in(2))
+    if (rounds > 0 && one_in(6))
+        fit_units(s, r, rounds);
+    else if (rounds > 0 && one_in(2))
         fit_vehicle(r, rounds);
     else if (r->rows > r->depots)
         fit_stop(s, r);

@@ -1,17 +1,17 @@
 /*
- * Plans for the limiter to take, and mutations of them that know their form: links,
- * the number of rounds, ids, and what is not read.
+ * Plans for the limiter and the biller to take, and mutations of them that know their
+ * form: links, the number of rounds, ids, and what is not read.
  */
 #ifndef MUTATE_PLAN_H
 #define MUTATE_PLAN_H
 
 #include "mutate.h"
 
-/* A plan in for the sheet that it was made for, and the rest of a call. */
+/* A plan in for the sheet that it was made for, and the rest of a call of either. */
 struct plan_in {
     uint8_t bytes[MOST_PLAN];
-    size_t len, plan_out_len;
-    uint32_t greatest;
+    size_t len, plan_out_len, bill_len;
+    uint32_t greatest, distance_rate, duration_rate, least;
 };
 
 /* Where any link stands: of a round, of the stops set aside, of a row. */
@@ -75,6 +75,22 @@ static inline void mutate_plan(struct sheet *s, uint8_t *plan)
     }
 }
 
+static inline uint32_t draw_cents(void)
+{
+    const uint64_t within[] = {0, 1, 7, draw(1000), draw(PLANNER_MOST_RATE), PLANNER_MOST_RATE - 1, PLANNER_MOST_RATE};
+    const uint64_t beyond[] = {PLANNER_MOST_RATE + 1, UINT64_C(0x80000000), UINT64_C(0xffffffff), next_random(&state)};
+    return (uint32_t)(one_in(60) ? PICK(beyond) : PICK(within));
+}
+
+/* For a number of rounds far above the rows there is no room: its bill has another length. */
+static inline size_t draw_bill_len(unsigned rounds, unsigned rows)
+{
+    size_t exact = PLANNER_BILL_BYTES(rounds);
+    const uint64_t wrong[] = {0, exact - 1, exact + 1, exact - 8, exact + 8, PLANNER_BILL_BYTES(rows), draw(MOST_BILL + 1)};
+    size_t len = one_in(20) ? (size_t)PICK(wrong) : exact;
+    return len < MOST_BILL ? len : MOST_BILL;
+}
+
 /* For a sheet whose fields can be found: its own plan if it has one, or one dealt, at times mutated. */
 static inline void make_plan_in(struct plan_in *p, struct sheet *s, const uint8_t *own)
 {
@@ -91,6 +107,10 @@ static inline void make_plan_in(struct plan_in *p, struct sheet *s, const uint8_
     p->greatest = (uint32_t)(one_in(12) ? PICK(wide) | draw(4) : draw(rounds % 128 + 2));
     p->len = one_in(40) ? (size_t)PICK(lens) : exact;
     p->plan_out_len = one_in(40) ? (size_t)PICK(lens) : exact;
+    p->bill_len = draw_bill_len(rounds, rows_in(s));
+    p->distance_rate = draw_cents();
+    p->duration_rate = draw_cents();
+    p->least = draw_cents();
 }
 
 #endif

@@ -369,7 +369,7 @@ static inline int chain_is_good(struct reading *r, unsigned stop)
     return 1;
 }
 
-/* Whether the limiter can take a plan in, of an accepted sheet of one depot. */
+/* Whether the limiter, if there is one depot, and the biller can take a plan in, of an accepted sheet. */
 static inline int plan_in_is_good(struct reading *r, uint8_t *sheet, uint8_t *plan_in)
 {
     begin(r, sheet, plan_in, NULL);
@@ -380,7 +380,7 @@ static inline int plan_in_is_good(struct reading *r, uint8_t *sheet, uint8_t *pl
         if (vehicle_by_id(r, planner_round_id(plan_in, k)) == r->vehicles
             || !chain_is_good(r, planner_round_first(plan_in, k)))
             return 0;
-    return chain_is_good(r, planner_plan_aside(plan_in)) && (r->rows == 0 || r->stops == r->rows - 1);
+    return chain_is_good(r, planner_plan_aside(plan_in)) && (r->rows == 0 || r->stops == r->rows - r->depots);
 }
 
 static inline int is_aside(const struct reading *r, uint8_t *plan, unsigned sought)

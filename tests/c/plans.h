@@ -19,10 +19,10 @@ static inline uint8_t *stop_of(uint8_t *plan, unsigned rows, unsigned stop)
 }
 
 /* Any stops in any order in so many rounds of any vehicles, and some set aside; or one in each round, as far as
-   there are rounds. A sheet without a vehicle has no rounds. Only what the limiter reads is written. */
+   there are rounds. A sheet without a vehicle has no rounds. Only what is read of a plan in is written. */
 static inline void deal_plan(uint8_t *plan, uint8_t *sheet, unsigned rounds, int lone, uint64_t *state)
 {
-    unsigned rows = planner_rows(sheet), vehicles = planner_vehicles(sheet);
+    unsigned rows = planner_rows(sheet), depots = planner_depots(sheet), vehicles = planner_vehicles(sheet);
     unsigned stops[PLANNER_MOST_ROWS] = {0};
     uint8_t *ends[PLANNER_MOST_ROWS + 1];
     rounds = vehicles > 0 ? rounds : 0;
@@ -32,13 +32,13 @@ static inline void deal_plan(uint8_t *plan, uint8_t *sheet, unsigned rounds, int
         ends[k] = round_record(plan, k) + PLANNER_ROUND_FIRST;
     }
     ends[rounds] = plan + PLANNER_PLAN_ASIDE;
-    for (unsigned i = 1; i < rows; i++) {
-        unsigned at = 1 + below(state, i);
+    for (unsigned i = depots; i < rows; i++) {
+        unsigned at = depots + below(state, i - depots + 1);
         stops[i] = stops[at];
         stops[at] = i;
     }
-    for (unsigned i = 1; i < rows; i++) {
-        uint8_t **end = &ends[!lone ? below(state, rounds + 1) : i <= rounds ? i - 1 : rounds];
+    for (unsigned i = depots; i < rows; i++) {
+        uint8_t **end = &ends[!lone ? below(state, rounds + 1) : i - depots < rounds ? i - depots : rounds];
         planner_put(*end, 2, stops[i]);
         *end = stop_of(plan, rows, stops[i]) + PLANNER_STOP_NEXT;
     }

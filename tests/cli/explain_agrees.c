@@ -1,7 +1,7 @@
 /*
  * explain_agrees [SHEETS [SEED]]: guchfenor's own reading of what is wrong with a sheet
- * and a plan in (tools/guchfenor/faults.c) against check_sheet and limit_rounds, on
- * drawn and mutated ones. Every refusal has to occur.
+ * and a plan in (tools/guchfenor/faults.c) against check_sheet, limit_rounds and
+ * bill_rounds, on drawn and mutated ones. Every refusal has to occur.
  */
 #define _GNU_SOURCE
 #include "drawn.h"
@@ -10,7 +10,7 @@
 
 static struct sheet sheet;
 static struct plan_in plan_in;
-static uint8_t plan_out[MOST_PLAN];
+static uint8_t plan_out[MOST_PLAN], bill[PLANNER_BILL_BYTES(UINT16_MAX)];
 static unsigned long answers[PLANNER_BAD_PLAN + 1], told;
 
 static void keep(const char *name, const uint8_t *bytes, size_t len)
@@ -57,6 +57,8 @@ static void plan_agrees(void)
     make_plan_in(&plan_in, &sheet, NULL);
     plan_in.len = PLANNER_PLAN_BYTES(rows_in(&sheet));
     find_plan_faults(&faults, sheet.bytes, plan_in.bytes);
+    agree(refusal_of(&faults), bill_rounds(sheet.bytes, sheet.len, plan_in.bytes, plan_in.len, 0, 0, 0, bill,
+                                           planner_bill_bytes(plan_in.bytes)));
     agree(planner_depots(sheet.bytes) > 1 ? PLANNER_SEVERAL_DEPOTS : refusal_of(&faults),
           limit_rounds(sheet.bytes, sheet.len, plan_in.bytes, plan_in.len, UINT32_MAX, plan_out, plan_in.len));
 }

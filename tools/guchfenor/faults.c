@@ -295,7 +295,7 @@ void find_faults(struct faults *faults, const uint8_t *sheet, size_t len, size_t
         read_contents(&r);
 }
 
-/* ---- 9 and 10: a plan in */
+/* ---- 10: a plan in */
 
 struct chains {
     struct reader r;
@@ -304,7 +304,7 @@ struct chains {
     uint8_t met[PLANNER_MOST_ROWS];
 };
 
-/* By the sheet's rows: the limiter does not read those of the plan's header. */
+/* By the sheet's rows: those of the plan's header are not read. */
 static size_t stop_record(const struct chains *c, unsigned stop)
 {
     return planner_round_at(c->rows) + (size_t)PLANNER_PLAN_STOP_BYTES * stop;

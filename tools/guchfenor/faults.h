@@ -28,7 +28,7 @@ struct faults {
 /* For a plan buffer of plan_len bytes. Every byte string of every length has an answer: count 0 is accepted. */
 void find_faults(struct faults *faults, const uint8_t *sheet, size_t len, size_t plan_len);
 
-/* What limit_rounds has against a plan in of its exact length; the sheet is accepted. */
+/* What limit_rounds and bill_rounds have against a plan in of its exact length; the sheet is accepted. */
 void find_plan_faults(struct faults *faults, const uint8_t *sheet, const uint8_t *plan);
 
 /* The number of a list's refusal. */

@@ -21,7 +21,7 @@ enum {
     UNUSABLE = 2 /* bad usage, or a file that cannot be read or written */
 };
 
-enum { MOST_WORDS = 3 };
+enum { MOST_WORDS = 5 };
 
 /* What a command was given: its words, and where -o sends what it makes (NULL: standard output). */
 struct call {
@@ -38,8 +38,8 @@ struct command {
     const char *help;
 };
 
-extern const struct command plan_command, limit_command, show_command, draw_command, explain_command, make_command,
-    text_command, import_command;
+extern const struct command plan_command, limit_command, show_command, draw_command, bill_command, explain_command,
+    make_command, text_command, import_command;
 
 #ifdef __GNUC__
 #define LIKE_PRINTF(words, first) __attribute__((format(printf, words, first)))
@@ -49,6 +49,9 @@ extern const struct command plan_command, limit_command, show_command, draw_comm
 
 /* A line on standard error, after the program's name. */
 void tell(const char *format, ...) LIKE_PRINTF(1, 2);
+
+/* Says that the planner refused the sheet, or the sheet with a plan (NULL: none). WRONG. */
+int turned_back(uint32_t answer, const char *sheet, const char *plan);
 
 /* Says loudly that this program's own reading of a file gives another refusal than the planner. UNUSABLE. */
 int differs(const char *name, unsigned here, uint32_t planner);

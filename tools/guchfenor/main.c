@@ -1,13 +1,13 @@
 /*
- * guchfenor COMMAND ..: plans sheets, shows and draws plans, explains refusals, and
- * makes sheets from text, and imports them. See guchfenor.h; outside the proof.
+ * guchfenor COMMAND ..: plans sheets, shows, draws and bills plans, explains refusals,
+ * and makes sheets from text, and imports them. See guchfenor.h; outside the proof.
  */
 #include <string.h>
 
 #include "guchfenor.h"
 
-static const struct command *const commands[] = {&plan_command, &limit_command, &show_command,   &draw_command,
-                                                 &explain_command, &make_command, &text_command, &import_command};
+static const struct command *const commands[] = {&plan_command,    &limit_command, &show_command, &draw_command,  &bill_command,
+                                                 &explain_command, &make_command,  &text_command, &import_command};
 enum { COMMANDS = sizeof commands / sizeof *commands };
 
 static const struct command *find_command(const char *name)
@@ -29,7 +29,7 @@ static int overview(FILE *out)
           "Exit status: 0 done; 1 the planner refused, or what was read is not right;\n"
           "2 bad usage, or a file that cannot be read or written.\n\n"
           "This program is plain C outside the proof. What is proved is the library whose\n"
-          "plan_rounds, limit_rounds, import_solomon and check_sheet it calls.\n",
+          "plan_rounds, limit_rounds, bill_rounds, import_solomon and check_sheet it calls.\n",
           out);
     return DONE;
 }

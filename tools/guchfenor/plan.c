@@ -8,13 +8,6 @@
 /* Plans of every header's rows, those that are refused too. */
 static uint8_t plan_out[PLANNER_PLAN_BYTES(UINT16_MAX)];
 
-static int refused(uint32_t answer, const char *files)
-{
-    fprintf(stderr, "refused %lu: %s\n", (unsigned long)answer, planner_refusal_text(answer));
-    tell("nothing was written; `guchfenor explain %s` says what is wrong, and where", files);
-    return WRONG;
-}
-
 static int run_plan(const struct call *call)
 {
     struct file sheet;
@@ -23,7 +16,7 @@ static int run_plan(const struct call *call)
     size_t plan_len = plan_bytes_of(sheet.bytes, sheet.len);
     uint32_t answer = plan_rounds(sheet.bytes, sheet.len, plan_out, plan_len);
     if (answer != PLANNER_ACCEPTED)
-        return refused(answer, call->word[0]);
+        return turned_back(answer, call->word[0], NULL);
     return write_bytes(call->out, plan_out, plan_len);
 }
 
@@ -32,7 +25,6 @@ static int run_limit(const struct call *call)
     struct file sheet, plan;
     struct word number = {call->word[0], strlen(call->word[0])};
     int64_t greatest;
-    char files[1024];
     if (!read_whole(number, 0, UINT32_MAX, &greatest)) {
         tell("N has to be a whole number from 0 to 4294967295, not %s", call->word[0]);
         return UNUSABLE;
@@ -41,9 +33,8 @@ static int run_limit(const struct call *call)
         return UNUSABLE;
     size_t plan_len = plan_bytes_of(sheet.bytes, sheet.len);
     uint32_t answer = limit_rounds(sheet.bytes, sheet.len, plan.bytes, plan.len, (uint32_t)greatest, plan_out, plan_len);
-    snprintf(files, sizeof files, "%s %s", call->word[1], call->word[2]);
     if (answer != PLANNER_ACCEPTED)
-        return refused(answer, files);
+        return turned_back(answer, call->word[1], call->word[2]);
     return write_bytes(call->out, plan_out, plan_len);
 }
 

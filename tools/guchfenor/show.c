@@ -1,89 +1,49 @@
 /* show: a table for each round. */
-#include <stdarg.h>
-#include <string.h>
-
 #include "names.h"
 #include "numbers.h"
 #include "reading.h"
+#include "table.h"
 
 enum column { PLACE, STOP, ARRIVAL, REST, WAITING, START, DEPARTURE, LOAD, WINDOW, LATE, COLUMNS };
-enum { CELL = 72 };
-
-/* One line for the names, one for each stop and one for a rest at the depot; a column without content is left out. */
-struct table {
-    char cell[PLANNER_MOST_ROWS + 1][COLUMNS][CELL];
-    unsigned lines, width[COLUMNS];
-};
 
 static struct table table;
 
-static void set(enum column column, const char *format, ...) LIKE_PRINTF(2, 3);
-
-static void set(enum column column, const char *format, ...)
-{
-    va_list given;
-    char *cell = table.cell[table.lines][column];
-    va_start(given, format);
-    vsnprintf(cell, CELL, format, given);
-    va_end(given);
-    if (table.lines > 0 && strlen(cell) > table.width[column])
-        table.width[column] = (unsigned)strlen(cell);
-}
-
-static void begin_table(void)
+static void begin_round(void)
 {
     static const char *const names[COLUMNS] = {"place", "stop",      "arrival", "rest",   "waiting",
                                                "start", "departure", "load",    "window", "late"};
-    memset(&table, 0, sizeof table);
-    for (int column = 0; column < COLUMNS; column++)
-        set((enum column)column, "%s", names[column]);
-    table.lines = 1;
+    begin_table(&table, names, COLUMNS);
 }
 
 static void put_visit(const struct round *round, const struct visit *visit)
 {
-    set(PLACE, "%u", visit->place);
-    set(STOP, "%u", visit->stop);
-    set(ARRIVAL, "%s", plain(visit->arrival));
+    set_cell(&table, PLACE, "%u", visit->place);
+    set_cell(&table, STOP, "%u", visit->stop);
+    set_cell(&table, ARRIVAL, "%s", plain(visit->arrival));
     if (visit->rested)
-        set(REST, "%s to %s", plain(round->rest_start), plain(round->rest_end));
+        set_cell(&table, REST, "%s to %s", plain(round->rest_start), plain(round->rest_end));
     if (visit->waiting > 0)
-        set(WAITING, "%s", plain(visit->waiting));
-    set(START, "%s", plain(visit->start));
-    set(DEPARTURE, "%s", plain(visit->departure));
-    set(LOAD, "%ld", visit->load);
+        set_cell(&table, WAITING, "%s", plain(visit->waiting));
+    set_cell(&table, START, "%s", plain(visit->start));
+    set_cell(&table, DEPARTURE, "%s", plain(visit->departure));
+    set_cell(&table, LOAD, "%ld", visit->load);
     if (visit->has_window)
-        set(WINDOW, "%s to %s%s", plain(visit->ready), plain(visit->due), visit->is_soft ? ", soft" : "");
+        set_cell(&table, WINDOW, "%s to %s%s", plain(visit->ready), plain(visit->due), visit->is_soft ? ", soft" : "");
     if (visit->late > 0)
-        set(LATE, "%s%s", plain(visit->late), visit->is_soft ? "" : " MISSED");
-    table.lines++;
+        set_cell(&table, LATE, "%s%s", plain(visit->late), visit->is_soft ? "" : " MISSED");
+    next_line(&table);
 }
 
 /* A rest at the depot, after the last stop. */
 static void put_home(const struct round *round)
 {
-    set(PLACE, "%u", round->rest_place);
-    set(STOP, "depot");
-    set(ARRIVAL, "%s", plain(round->returned));
-    set(REST, "%s to %s", plain(round->rest_start), plain(round->rest_end));
+    set_cell(&table, PLACE, "%u", round->rest_place);
+    set_cell(&table, STOP, "depot");
+    set_cell(&table, ARRIVAL, "%s", plain(round->returned));
+    set_cell(&table, REST, "%s to %s", plain(round->rest_start), plain(round->rest_end));
     if (round->rest_start > round->returned)
-        set(WAITING, "%s", plain(round->rest_start - round->returned));
-    table.lines++;
-}
-
-static void print_line(FILE *out, unsigned line)
-{
-    char text[COLUMNS * (CELL + 2) + 1] = "";
-    size_t len = 0;
-    for (int column = 0; column < COLUMNS; column++) {
-        unsigned width = table.width[column], name = (unsigned)strlen(table.cell[0][column]);
-        if (width > 0)
-            len += (size_t)snprintf(text + len, sizeof text - len, "  %*s", (int)(width > name ? width : name),
-                                    table.cell[line][column]);
-    }
-    while (len > 0 && text[len - 1] == ' ')
-        text[--len] = '\0';
-    fprintf(out, "%s\n", text);
+        set_cell(&table, WAITING, "%s", plain(round->rest_start - round->returned));
+    next_line(&table);
 }
 
 static void print_limits(FILE *out, const uint8_t *sheet, unsigned vehicle)
@@ -128,13 +88,12 @@ static void print_round(FILE *out, const struct reading *r, unsigned k)
         fputs("  empty\n", out);
         return;
     }
-    begin_table();
+    begin_round();
     for (unsigned i = 0; i < round->stops; i++)
         put_visit(round, &r->visit[round->first + i]);
     if (round->rests_home)
         put_home(round);
-    for (unsigned line = 0; line < table.lines; line++)
-        print_line(out, line);
+    print_table(out, &table);
     print_end(out, r, round);
 }
 

@@ -1,3 +1,4 @@
 pub mod Promised
 pub mod Insertion
 pub mod LimitPromised
+pub mod Billed

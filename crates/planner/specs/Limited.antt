@@ -1,44 +1,15 @@
 -- docs/SCOPE.md#the-limiter. What the limiter answers with, and what holds of every plan out. Document 01: "The limiter takes a sheet, a plan in, a greatest number of rounds (u32) and a plan out."
 use mathlib.Core.Path.{_≡_}
 use Prim.Native.Nat.{ℕ, zero, suc, _≤_, _<_}
-use mathlib.Core.Bool.{Bool, _&&_}
 use mathlib.Core.List.{List}
-use lib.Dec.{leb}
 use lib.ListN.{length}
 use Rattle.lists.specs.Count.{count}
 use Rattle.lists.specs.Every.{Every}
 use Rattle.lists.specs.Ascending.{Ascending}
-use Rattle.sheet.specs.Depots.{depotsOf}
-use Rattle.sheet.specs.Refusal.{headerRight, countsRight, methodRight, lengthsRight, unless, contents}
-use Rattle.plan.specs.Read.{readPlan, planRight}
+use Rattle.plan.specs.Read.{readPlan}
 use Rattle.fleet.specs.Stood.{Stood}
-use Rattle.planner_limiting.specs.Limiting.{limitedPlan}
+use Rattle.planner_limiting.specs.Limiting.{limitRefusal, limitedPlan}
 use Rattle.planner.specs.Answer.{Answer, refused, planned, numberOf, bytesOf, Standing}
-
--- ---- the refusals
--- a number, or what follows where it is 0
-abbrev pub orElse : ℕ → ℕ → ℕ
-orElse zero next = next
-orElse (suc n) next = suc n
-
--- 9: "limiter with several depots"
-abbrev pub oneDepot : List ℕ → Bool
-oneDepot s = leb (depotsOf s) 1
-
--- "Tested in this order": 1 to 3 as for the planner, 4 for "sheet or a plan buffer not of its exact length", of two such buffers here,
--- 5 to 8 as for the planner, and 9. So much is told before a plan in of m bytes is read.
-unfoldable pub unreadRefusal : List ℕ → ℕ → ℕ → ℕ
-unreadRefusal s m room =
-    unless (headerRight s) 1
-    (unless (countsRight s) 2
-    (unless (methodRight s) 3
-    (unless (lengthsRight s m && lengthsRight s room) 4
-    (orElse (contents s)
-    (unless (oneDepot s) 9 0)))))
-
--- 10: "limiter's plan: over `rows` rounds, unknown id, a link to no stop, or a stop not exactly once in all chains"
-unfoldable pub limitRefusal : List ℕ → List ℕ → ℕ → ℕ
-limitRefusal s plan room = orElse (unreadRefusal s (length plan) room) (unless (planRight s plan) 10 0)
 
 -- ---- the answer
 abbrev pub limitTold : ℕ → List ℕ → List ℕ → ℕ → Answer

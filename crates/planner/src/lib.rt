@@ -1,12 +1,12 @@
 // What a host calls.
-mod limit;
-
+use tariff::Rates;
 ghost use mathlib.Core.Path.{_≡_};
 ghost use lib.ListN.{length};
 ghost use Rattle.sheet.specs.Fields.{planLength};
 ghost use Rattle.sheet.specs.Accepted.{Sized, Accepted};
 ghost use Rattle.sheet.specs.Refusal.{refusalOf};
 ghost use Rattle.solomon_import.specs.Import.{ImportAnswered, ImportAccepted};
+ghost use Rattle.tariff_bill.specs.Bill.{BillAnswered, BillExact};
 ghost use Rattle.planner.specs.Answer.{priced, planFor, Answered, Once, Feasibly, Lawful, Alone, Closed};
 ghost use Rattle.planner.specs.Tabled.{PlannerTables};
 ghost use Rattle.planner.specs.Limited.{LimitAnswered, LimitOnce, LimitFew, LimitStood, LimitAside};
@@ -116,10 +116,6 @@ pub extern "C" fn limit_rounds(
     ensures { λ r. ⌜ LimitStood (now (sheet .entry)) (now («plan_in» .entry)) r (now («plan_out» .exit)) ⌝ }
     ensures { λ r. ⌜ LimitAside (now (sheet .entry)) (now («plan_in» .entry)) r (now («plan_out» .exit)) ⌝ }
 {
-    let told = limit::unread_refusal(sheet, plan_in.len(), plan_out.len());
-    if told != 0 {
-        return told;
-    }
     planner_limiting::limit(sheet, plan_in, greatest, plan_out)
 }
 
@@ -131,4 +127,25 @@ pub extern "C" fn import_solomon(text: &[u8], sheet: &mut [u8]) -> i32
     ensures { λ r. ⌜ ImportAccepted r (now (sheet .exit)) ⌝ }
 {
     solomon_import::import(text, sheet)
+}
+
+// Bills a plan's rounds: 0 and the bill, or the number of the refusal and every byte of `bill` as it was.
+#[no_mangle]
+pub extern "C" fn bill_rounds(
+    sheet: &[u8],
+    plan: &[u8],
+    distance_rate: u32,
+    duration_rate: u32,
+    least: u32,
+    bill: &mut [u8],
+) -> u32
+    ensures { λ r. ⌜ BillAnswered (now (sheet .entry)) (now (plan .entry)) (record { distance = «distance_rate»; duration = «duration_rate»; least = least }) (now (bill .entry)) r (now (bill .exit)) ⌝ }
+    ensures { λ r. ⌜ BillExact (now (sheet .entry)) (now (plan .entry)) (record { distance = «distance_rate»; duration = «duration_rate»; least = least }) r (now (bill .exit)) ⌝ }
+{
+    let rates = Rates {
+        distance: distance_rate,
+        duration: duration_rate,
+        least,
+    };
+    tariff_bill::bill(sheet, plan, rates, bill)
 }

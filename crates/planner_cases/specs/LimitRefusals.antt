@@ -6,7 +6,7 @@ use lib.ListN.{replicate}
 use Rattle.wire.specs.Bytes.{bytes}
 use Rattle.sheet.specs.SheetA.{f10, sheetHeader, rowBytes, noTimes, stopRows, vehicleBytes, tableBytes, sheetA, sheetCarrying}
 use Rattle.solomon_i1.specs.Laws.Cases.{due}
-use Rattle.planner.specs.Limited.{limitRefusal}
+use Rattle.planner_limiting.specs.Limiting.{limitRefusal}
 use Rattle.planner_cases.specs.Table.{oneAndTwo, twoAlone, bothAside}
 
 -- a plan of so many rounds: the first is vehicle 7's from stop 1 on, with what stops 1 and 2 link to

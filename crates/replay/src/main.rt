@@ -18,6 +18,7 @@ fn replay_record() -> bool {
         1 => replay_plans::replay_plan(),
         2 => replay_plans::replay_limit(),
         3 => kinds::replay_import(),
+        4 => replay_plans::replay_bill(),
         other => line::stop_at_unknown(other),
     }
 }

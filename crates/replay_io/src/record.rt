@@ -2,7 +2,7 @@
 use libc::STDIN_FILENO;
 ghost use Rattle.io.specs.Counts.{Counts};
 
-// The most bytes of a plan, of a sheet that is planned or imported, and of a text: no sample has more.
+// The most bytes of a plan, a bill or a text, and of a sheet that is not only checked: no sample has more.
 pub const ROOM: usize = 8192;
 
 // How many bytes of `room` are lent where a record says `len`: fewer, where there is no room.

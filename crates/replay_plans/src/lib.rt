@@ -1,5 +1,5 @@
-// A replay's records of plans and of limited plans, a function for each kind. It reads what follows
-// the kind's byte, numbers as u32, little-endian, makes the call and prints its answer; and it
+// A replay's records of plans, of limited plans and of bills, a function for each kind. It reads what
+// follows the kind's byte, numbers as u32, little-endian, makes the call and prints its answer; and it
 // answers whether to go on.
 use libc::STDIN_FILENO;
 use replay_io::line;
@@ -47,4 +47,37 @@ pub fn replay_limit() -> bool {
     }
     let number = planner::limit_rounds(&sheet[..n], &plan_in[..i], greatest, &mut plan_out[..o]);
     line::print_answer(number, out_len, &plan_out)
+}
+
+// The sheet's length, the plan's, the rates of distance and of duration, the least charge and the
+// bill's length, then the sheet and the plan. Prints `refused N`, or the bill.
+pub fn replay_bill() -> bool {
+    let mut numbers = [0u8; 24];
+    if io::read_full(STDIN_FILENO, &mut numbers) < 24 {
+        return line::stop_at_cut();
+    }
+    let sheet_len = wire::u32_at(&numbers, 0);
+    let plan_len = wire::u32_at(&numbers, 4);
+    let distance_rate = wire::u32_at(&numbers, 8);
+    let duration_rate = wire::u32_at(&numbers, 12);
+    let least = wire::u32_at(&numbers, 16);
+    let bill_len = wire::u32_at(&numbers, 20);
+    let mut sheet = [0u8; ROOM];
+    let mut plan = [0u8; ROOM];
+    let mut bill = [0u8; ROOM];
+    let n = record::read_part(sheet_len, &mut sheet);
+    let p = record::read_part(plan_len, &mut plan);
+    let b = record::room_for(bill_len, &bill);
+    if n < sheet_len as usize || p < plan_len as usize || b < bill_len as usize {
+        return line::stop_at_cut();
+    }
+    let number = planner::bill_rounds(
+        &sheet[..n],
+        &plan[..p],
+        distance_rate,
+        duration_rate,
+        least,
+        &mut bill[..b],
+    );
+    line::print_answer(number, bill_len, &bill)
 }

@@ -11,11 +11,19 @@ use crate::bench_sides::{Drive, Side};
 use crate::plan::{encode_chains, plan_len, Chains};
 use crate::planner;
 use crate::reference::{limit, Problem};
-use crate::sheet::NEAREST;
+use crate::sheet::{Sheet, NEAREST};
 
 const ROWS: usize = 101;
 /// The rounds of the plan in, and the greatest number.
 const LIMITS: [(usize, u32); 3] = [(100, 16), (100, 1), (2, 1)];
+
+/// The stops in order, as many to each round; vehicles in turn.
+pub fn shared_out(sheet: &Sheet, rounds: usize) -> Chains {
+    let stops: Vec<usize> = (1..sheet.rows.len()).collect();
+    let ids = sheet.vehicles.iter().map(|vehicle| vehicle.id).cycle();
+    let rounds = stops.chunks(stops.len() / rounds).map(|stops| stops.to_vec());
+    Chains { rounds: ids.zip(rounds).collect(), aside: vec![] }
+}
 
 #[derive(Clone, Copy)]
 pub struct Case {
@@ -54,26 +62,20 @@ impl Drive for Limiting {
         format!("{rounds} | {greatest} | {capacity} | {feature}")
     }
 
-    /// The stops in order, as many to each round; vehicles in turn.
     fn new(case: Case) -> Limiting {
         let Case { rounds, greatest, capacity, feature } = case;
         let (rows, legs) = (ROWS, LEGS[0]);
         let method = NEAREST;
         let sheet = sheet(bench_plans::Case { method, rows, depots: 1, capacity, legs, feature });
-        let stops: Vec<usize> = (1..rows).collect();
-        let routes: Vec<Vec<usize>> =
-            stops.chunks(stops.len() / rounds).map(|stops| stops.to_vec()).collect();
-        let vehicles: Vec<usize> = (0..rounds).map(|k| k % sheet.vehicles.len()).collect();
-        let ids = vehicles.iter().map(|&vehicle| sheet.vehicles[vehicle].id);
-        let chains = Chains { rounds: ids.zip(routes.clone()).collect(), aside: vec![] };
+        let (problem, chains) = (Problem::held(&sheet), shared_out(&sheet, rounds));
         let mut drive = Limiting {
-            problem: Problem::held(&sheet),
             sheet: sheet.encode(),
             plan_in: encode_chains(rows, &chains),
             greatest,
             plan_out: vec![0; plan_len(rows)],
-            routes,
-            vehicles,
+            vehicles: chains.rounds.iter().map(|(id, _)| problem.driver_of(*id)).collect(),
+            routes: chains.rounds.into_iter().map(|(_, stops)| stops).collect(),
+            problem,
         };
         drive.drive(Side::Port);
         let right = limit(&drive.sheet, &drive.plan_in, greatest).expect("an accepted call");

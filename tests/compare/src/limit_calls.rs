@@ -148,7 +148,7 @@ impl Call {
 }
 
 /// Depot marks after the first row mean nothing where the second has none.
-fn close_depots(sheet: &mut Sheet) {
+pub fn close_depots(sheet: &mut Sheet) {
     if let Some(row) = sheet.rows.get_mut(1) {
         row.marks &= !DEPOT;
     }
@@ -183,7 +183,7 @@ fn make_room(sheet: &mut Sheet, random: &mut Random) {
 }
 
 /// Any number of rounds up to `rows`, some of them kept empty, and stops set aside in any order.
-fn dealt(sheet: &Sheet, random: &mut Random) -> Chains {
+pub fn dealt(sheet: &Sheet, random: &mut Random) -> Chains {
     let rows = sheet.rows.len();
     let (any, few) = (random.below(rows + 1), (2 + random.below(3)).min(rows));
     let count = random.pick(&[rows, any, few, few, few]);
@@ -203,7 +203,7 @@ fn dealt(sheet: &Sheet, random: &mut Random) -> Chains {
 }
 
 /// One stop a round, and at times one round more.
-fn lone(sheet: &Sheet, random: &mut Random) -> Chains {
+pub fn lone(sheet: &Sheet, random: &mut Random) -> Chains {
     let mut stops = shuffled(sheet, random);
     let mut plan = empty_rounds(sheet, stops.len(), random);
     for (_, round) in &mut plan.rounds {
@@ -377,7 +377,7 @@ fn fit_cost(sheet: &mut Sheet, cost: f64, tried: &Tried, random: &mut Random) {
 }
 
 /// A soft window of a stop of the round that closes before its vehicle comes.
-fn make_soft(sheet: &mut Sheet, problem: &Problem, round: &Round, random: &mut Random) {
+pub fn make_soft(sheet: &mut Sheet, problem: &Problem, round: &Round, random: &mut Random) {
     let route = problem.built(&problem.vehicles[round.vehicle], &round.stops);
     let visit = &route.visits()[random.below(round.stops.len())];
     let row = &mut sheet.rows[visit.customer_id];

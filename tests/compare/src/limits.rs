@@ -117,16 +117,26 @@ pub fn answer(call: &Call) -> Result<Vec<u8>, u32> {
     ask(&call.sheet, &call.plan_in, call.greatest, call.plan_out_len)
 }
 
-/// The limiter's answer, where a refused call leaves the plan out as it was; one that does not is
-/// 99, and one that changes what it was given 98 or 97.
 fn ask(sheet: &[u8], plan_in: &[u8], greatest: u32, len: usize) -> Result<Vec<u8>, u32> {
-    let [lent_sheet, lent_plan]: [Box<[u8]>; 2] = [sheet.into(), plan_in.into()];
-    let mut plan_out = pattern(len);
-    match planner::limit(&lent_sheet, &lent_plan, greatest, &mut plan_out) {
+    lent(sheet, plan_in, len, |sheet, plan, out| planner::limit(sheet, plan, greatest, out))
+}
+
+/// The answer of a function that is lent a sheet, a plan and a buffer of `len` bytes, where a refused
+/// call leaves the buffer as it was; one that does not is 99, and one that changes what it was given
+/// 98 or 97.
+pub fn lent(
+    sheet: &[u8],
+    plan: &[u8],
+    len: usize,
+    call: impl Fn(&[u8], &[u8], &mut [u8]) -> u32,
+) -> Result<Vec<u8>, u32> {
+    let [lent_sheet, lent_plan]: [Box<[u8]>; 2] = [sheet.into(), plan.into()];
+    let mut buffer = pattern(len);
+    match call(&lent_sheet, &lent_plan, &mut buffer) {
         _ if lent_sheet[..] != *sheet => Err(98),
-        _ if lent_plan[..] != *plan_in => Err(97),
-        0 => Ok(plan_out.into()),
-        _ if plan_out != pattern(len) => Err(99),
+        _ if lent_plan[..] != *plan => Err(97),
+        0 => Ok(buffer.into()),
+        _ if buffer != pattern(len) => Err(99),
         number => Err(number),
     }
 }

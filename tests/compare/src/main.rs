@@ -12,6 +12,7 @@
 //!     compare rest_rounds COUNT SEED   the port's evaluation on COUNT rounds that may rest at home
 //!     compare rests COUNT SEED       plans of COUNT sheets with such vehicles, and limited ones
 //!     compare imports COUNT SEED     the importer's sheets of COUNT texts, and of fixed ones
+//!     compare bills COUNT SEED       the bills of COUNT plans, and of all tiny ones
 //!     compare roots COUNT SEED       the importer's square root on COUNT numbers
 //!     compare checked COUNT SEED     the checker of demand 3 on COUNT plans of the Rust's
 //!     compare bench                  the port's route_feasible against the Rust's, timed
@@ -19,6 +20,7 @@
 //!     compare bench SIDE CASE RUNS   one side of one case alone, for a profiler
 //!     compare bench plans ..         the planner against the Rust, in the same three ways
 //!     compare bench limits ..        the limiter against the Rust, likewise
+//!     compare bench bills ..         bills against this harness's over the Rust's figures, likewise
 //!     compare bench imports          the importer beside the harness's own, timed
 //!     compare slowest METHOD SECONDS SEED FILE   a sheet that takes the planner long; for
 //!                                                METHOD `limiter`, a call of that
@@ -32,10 +34,17 @@
 
 mod angles;
 mod bench;
+mod bench_bills;
 mod bench_imports;
 mod bench_limits;
 mod bench_plans;
 mod bench_sides;
+mod bill_calls;
+mod bill_fits;
+mod bill_kinds;
+mod bill_refusals;
+mod billing;
+mod bills;
 mod checked;
 mod corners;
 mod cross;
@@ -47,6 +56,7 @@ mod fit;
 mod fit_return;
 mod flavours;
 mod freeze;
+mod freeze_bills;
 mod freeze_imports;
 mod freeze_limits;
 mod freeze_plans;
@@ -87,6 +97,7 @@ mod roots;
 mod rounds;
 mod sample;
 mod selftest;
+mod selftest_bills;
 mod selftest_imports;
 mod selftest_rests;
 mod sheet;
@@ -98,12 +109,14 @@ mod tiny_plans;
 mod trial;
 mod tried;
 mod vary;
+mod wrong_bills;
 mod wrong_rests;
 
 use std::io;
 use std::path::Path;
 use std::process::ExitCode;
 
+use bench_bills::Billing;
 use bench_limits::Limiting;
 use bench_plans::Planning;
 
@@ -111,8 +124,10 @@ const USAGE: &str = "usage: compare selftest | refusals COUNT SEED | rounds COUN
                      plans COUNT SEED | plan NUMBER SEED | checked COUNT SEED | \
                      limits COUNT SEED | limit NUMBER SEED | dues COUNT SEED | \
                      rest_rounds COUNT SEED | rests COUNT SEED | \
-                     imports COUNT SEED | roots COUNT SEED | listings PROGRAM COUNT SEED | \
-                     bench [plans | limits] [instructions | SIDE CASE RUNS] | bench imports | \
+                     imports COUNT SEED | bills COUNT SEED | roots COUNT SEED | \
+                     listings PROGRAM COUNT SEED | \
+                     bench [plans | limits | bills] [instructions | SIDE CASE RUNS] | \
+                     bench imports | \
                      freeze SEED DIR | example DIR | \
                      slowest METHOD SECONDS SEED FILE";
 
@@ -123,6 +138,7 @@ fn main() -> ExitCode {
         ["selftest"] => Some(selftest::run()),
         ["bench", "plans", ref words @ ..] => bench_sides::run::<Planning>(words),
         ["bench", "limits", ref words @ ..] => bench_sides::run::<Limiting>(words),
+        ["bench", "bills", ref words @ ..] => bench_sides::run::<Billing>(words),
         ["bench", "imports"] => Some(bench_imports::run()),
         ["bench", ref words @ ..] => bench::run(words),
         ["slowest", method, seconds, seed, file] => slowest::run(method, seconds, seed, file),
@@ -136,6 +152,7 @@ fn main() -> ExitCode {
         ["rests", count, seed] => numbers(count, seed).map(|(c, s)| rests::run(c, s)),
         ["rest_rounds", count, seed] => numbers(count, seed).map(|(c, s)| rest_rounds::run(c, s)),
         ["imports", count, seed] => numbers(count, seed).map(|(c, s)| imports::run(c, s)),
+        ["bills", count, seed] => numbers(count, seed).map(|(c, s)| bills::run(c, s)),
         ["roots", count, seed] => numbers(count, seed).map(|(c, s)| roots::run(c, s)),
         ["listings", program, count, seed] => {
             numbers(count, seed).map(|(c, s)| listings::run(program, c, s))

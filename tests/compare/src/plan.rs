@@ -98,11 +98,16 @@ fn link(stop: Option<&usize>) -> [u8; 2] {
     (stop.copied().unwrap_or(0) as u16).to_le_bytes()
 }
 
+/// The number of rounds that a plan of 2 bytes or more says it has.
+pub fn round_count(plan: &[u8]) -> usize {
+    u16::from_le_bytes(field(plan, 0)).into()
+}
+
 /// The chains of a plan of the right length for `sheet`. `None` for more rounds than rows, an
 /// unknown id, a link to no stop, or a stop not exactly once in all chains.
 pub fn chains(plan: &[u8], sheet: &Sheet) -> Option<Chains> {
     let rows = sheet.rows.len();
-    let count = usize::from(u16::from_le_bytes(field(plan, 0)));
+    let count = round_count(plan);
     if count > rows {
         return None;
     }

@@ -1,4 +1,4 @@
-//! Damage to the limiter's plan in, and noise where it is not read.
+//! Damage to a plan that is read, and noise where it is not.
 
 use crate::plan::{round_at, stop_at, Chains};
 use crate::random::Random;
@@ -16,7 +16,7 @@ pub const DAMAGES: [&str; 9] = [
     "damaged: any byte",
 ];
 
-/// Puts noise where the limiter does not read.
+/// Puts noise where no one reads.
 pub fn fill_unread(bytes: &mut [u8], plan: &Chains, rows: usize, random: &mut Random) {
     let count = plan.rounds.len();
     let id_and_first = |k| [round_at(k)..round_at(k) + 4, round_at(k) + 8..round_at(k) + 10];
@@ -81,6 +81,18 @@ pub fn damage_plan(
             bytes[at] = random.bits() as u8;
         }
         _ => (),
+    }
+}
+
+/// A link to a row that is a depot, often one that ended a chain; where there is one depot, no damage.
+pub fn link_depot(bytes: &mut [u8], sheet: &Sheet, plan: &Chains, random: &mut Random) {
+    let links = links(plan, sheet.rows.len());
+    let (ats, _) = &links[random.below(links.len())];
+    let any = random.below(ats.len());
+    let at = ats[random.pick(&[any, ats.len() - 1])];
+    let depot = random.below(sheet.depots()) as u16;
+    if depot > 0 {
+        bytes[at..at + 2].copy_from_slice(&depot.to_le_bytes());
     }
 }
 

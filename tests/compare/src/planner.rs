@@ -1,5 +1,7 @@
 //! The planner's library and the probe's: the one place that calls them.
 
+use crate::billing::Tariff;
+
 /// Whether there is a planner, and a probe, to call.
 pub const PLANNER: bool = cfg!(planner);
 pub const PROBE: bool = cfg!(probe);
@@ -19,6 +21,17 @@ extern "C" {
         plan_out_len: usize,
     ) -> u32;
     fn import_solomon(text: *const u8, text_len: usize, sheet: *mut u8, sheet_len: usize) -> i32;
+    fn bill_rounds(
+        sheet: *const u8,
+        sheet_len: usize,
+        plan: *const u8,
+        plan_len: usize,
+        distance_rate: u32,
+        duration_rate: u32,
+        least: u32,
+        bill: *mut u8,
+        bill_len: usize,
+    ) -> u32;
 }
 
 /// Refusals 1 to 8, 0 for an accepted sheet. The sheet is lent from memory of exactly its size.
@@ -55,6 +68,19 @@ pub fn import(text: &[u8], sheet: &mut [u8]) -> i32 {
     unsafe { import_solomon(text.as_ptr(), text.len(), sheet.as_mut_ptr(), sheet.len()) }
 }
 
+/// A plan's bill by a tariff, written into `bill`, and 0; or a refusal.
+#[cfg(planner)]
+pub fn bill(sheet: &[u8], plan: &[u8], tariff: Tariff, bill: &mut [u8]) -> u32 {
+    let Tariff { rates: [distance_rate, duration_rate], least } = tariff;
+    let (out, out_len) = (bill.as_mut_ptr(), bill.len());
+    // SAFETY: as above.
+    unsafe {
+        let (sheet, sheet_len) = (sheet.as_ptr(), sheet.len());
+        let (plan, len) = (plan.as_ptr(), plan.len());
+        bill_rounds(sheet, sheet_len, plan, len, distance_rate, duration_rate, least, out, out_len)
+    }
+}
+
 #[cfg(not(planner))]
 pub fn check(_sheet: &[u8], _plan_len: usize) -> u32 {
     no_planner()
@@ -72,6 +98,11 @@ pub fn limit(_sheet: &[u8], _plan_in: &[u8], _greatest: u32, _plan_out: &mut [u8
 
 #[cfg(not(planner))]
 pub fn import(_text: &[u8], _sheet: &mut [u8]) -> i32 {
+    no_planner()
+}
+
+#[cfg(not(planner))]
+pub fn bill(_sheet: &[u8], _plan: &[u8], _tariff: Tariff, _bill: &mut [u8]) -> u32 {
     no_planner()
 }
 

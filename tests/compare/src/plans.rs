@@ -245,9 +245,9 @@ pub fn hexadecimal(bytes: &[u8]) -> String {
 /// An answer as the listing shows it, and the cost.
 pub fn decoded(sheet: &[u8], who: &str, answer: &Result<Vec<u8>, u32>) -> String {
     match answer {
-        Err(97) => format!("{who}: the plan in was changed"),
+        Err(97) => format!("{who}: the plan that was given was changed"),
         Err(98) => format!("{who}: the sheet was changed"),
-        Err(99) => format!("{who}: refused, but the plan buffer was changed"),
+        Err(99) => format!("{who}: refused, but the buffer was changed"),
         Err(number) => format!("{who}: refused {number}"),
         Ok(plan) => {
             let read = accepted(OFFERED, sheet, &[plan.len()]).ok();

@@ -1,5 +1,6 @@
 //! What is turned back (document 01, "Turned back"): the first line of its table that holds.
 
+use crate::billing::{bill_len, Tariff, MOST_CENTS};
 use crate::plan::{chains, plan_len, Chains};
 use crate::sheet::{Header, Row, Sheet, Vehicle, INSERTION, SAVINGS, SWEEP};
 use crate::sheet::{HEADER, HOME, MAX_DISTANCE, MAX_DURATION, PENALTY, REST, WINDOW};
@@ -28,6 +29,11 @@ pub fn refusal(sheet: &[u8], plan_len: usize) -> u32 {
 
 /// Refusals 1 to 8 where these methods are offered, for plan buffers of these lengths.
 pub fn accepted(methods: &[u8], bytes: &[u8], plan_lens: &[usize]) -> Result<Sheet, u32> {
+    accepted_with(methods, bytes, |rows| plan_lens.iter().all(|&len| len == plan_len(rows)))
+}
+
+/// The same where all else that is lent may have other lengths, told by the number of rows.
+fn accepted_with(methods: &[u8], bytes: &[u8], fits: impl Fn(usize) -> bool) -> Result<Sheet, u32> {
     if bytes.len() < HEADER {
         return Err(1);
     }
@@ -41,8 +47,7 @@ pub fn accepted(methods: &[u8], bytes: &[u8], plan_lens: &[usize]) -> Result<She
     if !methods.contains(&header.method) {
         return Err(3);
     }
-    let wrong_plan = |&len: &usize| len != plan_len(header.rows);
-    if bytes.len() != header.sheet_len() || plan_lens.iter().any(wrong_plan) {
+    if bytes.len() != header.sheet_len() || !fits(header.rows) {
         return Err(4);
     }
     let sheet = Sheet::decode(bytes);
@@ -83,6 +88,22 @@ pub fn limiter_accepted(
         return Err(9);
     }
     let chains = chains(plan_in, &sheet).ok_or(10u32)?;
+    Ok((sheet, chains))
+}
+
+/// Refusals 1 to 8, 10 and 13, for a bill of `len` bytes. It is made of a sheet of any method.
+pub fn bill_accepted(
+    bytes: &[u8],
+    plan: &[u8],
+    tariff: Tariff,
+    len: usize,
+) -> Result<(Sheet, Chains), u32> {
+    let fits = |rows| plan.len() == plan_len(rows) && len == bill_len(plan);
+    let sheet = accepted_with(METHODS, bytes, fits)?;
+    let chains = chains(plan, &sheet).ok_or(10u32)?;
+    if tariff.amounts().iter().any(|&amount| amount > MOST_CENTS) {
+        return Err(13);
+    }
     Ok((sheet, chains))
 }
 

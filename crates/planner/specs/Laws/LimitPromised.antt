@@ -1,6 +1,6 @@
 -- The limiter's plan out keeps what is promised: every stop once, few rounds, and each as it stood or feasible. Assumes nothing.
-use mathlib.Core.Path.{_≡_, refl, ap, _∙_}
-use Prim.Native.Nat.{ℕ, zero, suc, _+_, _≤_, _<_}
+use mathlib.Core.Path.{_≡_, _∙_}
+use Prim.Native.Nat.{ℕ, _≤_, _<_}
 use native.Mathlib.Omega.{arith}
 use mathlib.Core.List.{List}
 use lib.Dec.{T, leb, leb→le}
@@ -13,8 +13,9 @@ use Rattle.sheet.specs.Depots.{depotsOf}
 use Rattle.sheet.specs.Accepted.{Accepted}
 use Rattle.constructive.specs.Right.{outcomeRight}
 use Rattle.plan.specs.Plan.{planOf}
-use Rattle.plan.specs.Read.{readPlan, roundsAt, roundsFrom, planRight}
+use Rattle.plan.specs.Read.{readPlan, roundsAt, planRight}
 use Rattle.plan.specs.Laws.RoundTrip.{read-written, written-right}
+use Rattle.plan_figures.specs.Laws.Rounds.{rounds-long}
 use Rattle.fleet.specs.Limit.{limitRoutes}
 use Rattle.fleet.specs.Laws.RoundCount.{limit-few, limit-no-more}
 use Rattle.fleet.specs.Stood.{Stood}
@@ -25,11 +26,6 @@ use Rattle.planner_limiting.specs.Limiting.{limitedPlan}
 use Rattle.planner.specs.Answer.{Standing}
 use Rattle.planner.specs.Limited.{LeftAside}
 
-read-long : (s plan : List ℕ) (n k : ℕ) → length (roundsFrom s plan n k) ≡ n
-unfolding roundsFrom
-read-long s plan zero k = refl
-read-long s plan (suc n) k = ap suc (read-long s plan n (k + 1))
-
 module _ (s plan : List ℕ) (greatest : ℕ) (fine : Accepted s) (small : (i : ℕ) → getD s i 0 < 256) (right : T (planRight s plan)) where
   before-right : T (outcomeRight s (readPlan s plan))
   unfolding planRight
@@ -37,7 +33,7 @@ module _ (s plan : List ℕ) (greatest : ℕ) (fine : Accepted s) (small : (i : 
 
   before-few : length (readPlan s plan .rounds) ≤ rowsOf s
   unfolding planRight readPlan
-  before-few = omega (arith, read-long s plan (roundsAt plan) 0, leb→le (roundsAt plan) (rowsOf s) (and-l (leb (roundsAt plan) (rowsOf s)) (outcomeRight s (readPlan s plan)) right))
+  before-few = omega (arith, rounds-long s plan (roundsAt plan) 0, leb→le (roundsAt plan) (rowsOf s) (and-l (leb (roundsAt plan) (rowsOf s)) (outcomeRight s (readPlan s plan)) right))
 
   after-right : T (outcomeRight s (limitRoutes s greatest (readPlan s plan)))
   after-right = limit-counts s greatest (readPlan s plan) before-right

@@ -1,0 +1,3 @@
+pub mod Units
+pub mod Charge
+pub mod Laws
