@@ -39,13 +39,12 @@
  *             for the cost and the fixed cost, money per distance for the cost per
  *             distance, distance per time for a penalty. Without a time table
  *             distances serve as times, so the first two units are one. A bill is in
- *             cents, by a tariff of its own that knows nothing of the cost. A deal
- *             counts durations in whole units of time.
+ *             cents, by a tariff of its own that knows nothing of the cost.
  *   place     Coordinates serve the sweep's order by angle alone: a plan's distances
  *             are the sheet's own. Only import_solomon works distances out from
  *             coordinates, for the sheet that it writes.
  *
- * A CALL, and this holds of all six functions:
+ * A CALL, and this holds of all five functions:
  *
  *   - has an answer for every byte string of every length, always returns, and gives
  *     the same bytes the same answer;
@@ -57,9 +56,8 @@
  *   - may run on several threads at once, each with a buffer of its own to write to.
  *     During a call no other thread may write what it reads, or touch what it writes.
  *
- * THE NAMES check_sheet, plan_rounds, limit_rounds, import_solomon, bill_rounds and
- * deal_rounds are all that the archive exports. Where one clashes, rename it, here and in
- * the archive:
+ * THE NAMES check_sheet, plan_rounds, limit_rounds, import_solomon and bill_rounds are
+ * all that the archive exports. Where one clashes, rename it, here and in the archive:
  *
  *     objcopy --redefine-sym plan_rounds=our_plan_rounds libplanner.a libours.a
  *     #define plan_rounds our_plan_rounds
@@ -73,9 +71,9 @@
 
 /* The major number rises where bytes that a version accepts are refused or get another
    meaning, the minor one where something is added. */
-#define PLANNER_VERSION_MAJOR 3
-#define PLANNER_VERSION_MINOR 1
-#define PLANNER_VERSION "3.1"
+#define PLANNER_VERSION_MAJOR 2
+#define PLANNER_VERSION_MINOR 3
+#define PLANNER_VERSION "2.3"
 
 /* Bytes of stack to keep free for a call, beside what its thread takes otherwise:
    half as much again, or more, as any call was seen to take (tests/c/stack.c).
@@ -182,24 +180,19 @@ extern "C" {
  *
  *   offset  type     field
  *        0  u16      the next stop of its chain, 0 at the end
- *        2  u16      reason of a stop set aside, see enum planner_reason; 0 of others
+ *        2  u16      zero
  *        4  i32      load after it
  *        8  f64      arrival; a rest at this stop comes after it
  *       16  f64      departure
  *
  * A chain starts at a round's first stop, or at the first stop set aside. A stop
- * set aside has only its next and its reason; a depot's row is all zero.
+ * set aside has only its next; a depot's row is all zero.
  *
  * THE BILL of a plan of N rounds has exactly 8 * (N + 1) bytes, little-endian too:
  *
  *   offset  type     field
  *    8 * k  u64      charge of the round with record k, in whole cents, for k below N
  *    8 * N  u64      sum of these charges
- *
- * THE DEAL of a plan of N rounds has exactly N bytes, so none where there is no round:
- *
- *   offset  type     field
- *        k  u8       crew of the round with record k, from 1, for k below N
  *
  * THE TEXT is what import_solomon makes a sheet of: an instance in the form in which
  * Solomon's of 1987 are published. It ends where its length says: a NUL is a byte like
@@ -243,8 +236,7 @@ enum {
     PLANNER_PLAN_STOP_BYTES = 24,
     PLANNER_PLAN_ROW_BYTES = 80, /* a round's record and a stop's */
     PLANNER_CHARGE_BYTES = 8,
-    PLANNER_MOST_RATE = 1000000, /* and the most of the least charge */
-    PLANNER_MOST_CREWS = 8
+    PLANNER_MOST_RATE = 1000000 /* and the most of the least charge */
 };
 
 /* How rounds are made. Savings, insertion and sweep use a depot's first vehicle for
@@ -289,43 +281,6 @@ enum {
     PLANNER_REST_AT_HOME = 8 /* only with PLANNER_REST */
 };
 
-/*
- * Why a stop is set aside. From plan_rounds it is one of 1 to 7, the first that holds of
- * the stop's lone round, depot to stop to depot. The depot is the one tried last: of those
- * that have a vehicle the farthest by its leg to the stop, of equally far ones the higher
- * row. The vehicle is that depot's first. From limit_rounds it is one of 0 to 8.
- *
- * Each is asked as the method asks it: savings pass over PLANNER_ASIDE_CAPACITY, and plain
- * nearest neighbour, on a vehicle without a rest, over PLANNER_ASIDE_WINDOW, the depot's
- * due and waiting.
- */
-enum planner_reason {
-    /* Not told: limit_rounds copies it from a plan in that is older than version 3.0, or
-       made up. */
-    PLANNER_ASIDE_UNTOLD = 0,
-    /* No depot has a vehicle: the sheet has none. */
-    PLANNER_ASIDE_NO_VEHICLE = 1,
-    /* The demand is above the capacity. */
-    PLANNER_ASIDE_CAPACITY = 2,
-    /* Even without a rest the arrival is after the due of a hard window. */
-    PLANNER_ASIDE_WINDOW = 3,
-    /* The rest has no place, maxima and the depot's due apart: before the stop it would
-       start after latest, or end after the due of a hard window; and at the depot it may
-       not stand, or would start after latest there too. */
-    PLANNER_ASIDE_REST = 4,
-    /* The distance is above the maximum. */
-    PLANNER_ASIDE_DISTANCE = 5,
-    /* The duration is above the maximum, or after the depot's due, with the rest at every
-       place that it has. */
-    PLANNER_ASIDE_DURATION = 6,
-    /* The fleet is used up: nothing of this holds of the first vehicle; or, whatever does,
-       another one of that depot could make the lone round. Only by the nearest neighbours,
-       since the other methods use a vehicle as often as it takes. */
-    PLANNER_ASIDE_FLEET = 7,
-    /* limit_rounds dropped the stop's round, and no round that was left took the stop. */
-    PLANNER_ASIDE_LIMITED = 8
-};
-
 #ifdef __cplusplus
 #define PLANNER_CAST(type, value) static_cast<type>(value)
 #else
@@ -352,16 +307,12 @@ enum planner_reason {
 #define PLANNER_BILL_BYTES(rounds) \
     (PLANNER_CAST(size_t, PLANNER_CHARGE_BYTES) * (PLANNER_CAST(size_t, rounds) + 1u))
 
-/* Bytes of the deal of a plan with so many rounds. */
-#define PLANNER_DEAL_BYTES(rounds) PLANNER_CAST(size_t, rounds)
-
 /*
  * Why a call is turned back. The conditions are tested in this order, rows,
  * matrix entries and vehicles ascending, and the first that holds is the answer.
- * 1 to 8 belong to every function that takes a sheet, 10 to every one that reads a plan;
- * 9 is limit_rounds' alone, 13 bill_rounds' and 14 deal_rounds'. 11 and 12 are
- * import_solomon's, which has an order of its own, 11, 12, 5, 7, 4, and no other refusal;
- * see there.
+ * 1 to 8 belong to every function that takes a sheet; 9 is limit_rounds' alone, 10 its
+ * and bill_rounds', 13 bill_rounds' alone. 11 and 12 are import_solomon's, which has an
+ * order of its own, 11, 12, 5, 7, 4, and no other refusal; see there.
  */
 enum planner_refusal {
     /* No condition holds. */
@@ -373,8 +324,8 @@ enum planner_refusal {
     PLANNER_TOO_MANY = 2,
     /* Method above 4. */
     PLANNER_BAD_METHOD = 3,
-    /* Sheet, a plan, a bill or a deal not of its exact length; a buffer shorter than the
-       sheet of a text. */
+    /* Sheet, a plan or a bill not of its exact length; a buffer shorter than the sheet
+       of a text. */
     PLANNER_BAD_LENGTH = 4,
     /* Field or mark of a row out of range, or an unmarked field not zero. */
     PLANNER_BAD_ROW = 5,
@@ -388,17 +339,15 @@ enum planner_refusal {
     /* The sheet has several depots. */
     PLANNER_SEVERAL_DEPOTS = 9,
     /* The plan in has more rounds than the sheet has rows, a round whose id is
-       no vehicle's, a link to no stop, a stop that does not stand exactly once
-       in all its chains, or a stop set aside with a reason above 8. */
+       no vehicle's, a link to no stop, or a stop that does not stand exactly
+       once in all its chains. */
     PLANNER_BAD_PLAN = 10,
     /* Text not of its form. */
     PLANNER_BAD_TEXT = 11,
     /* Text with more than 100 customers after the depot's row. */
     PLANNER_TOO_MANY_CUSTOMERS = 12,
     /* A rate or the least charge above 1,000,000. */
-    PLANNER_BAD_RATE = 13,
-    /* No crew, or more than 8. */
-    PLANNER_BAD_CREWS = 14
+    PLANNER_BAD_RATE = 13
 };
 
 /*
@@ -422,10 +371,8 @@ uint32_t check_sheet(const uint8_t *sheet, size_t sheet_len, size_t plan_len);
  *   plan_len          how many bytes are lent: PLANNER_PLAN_BYTES(rows) is the only
  *                     length accepted
  *
- * Every stop stands once in the plan, in a round or set aside. One that is set aside has
- * a reason from 1 to 7: PLANNER_ASIDE_NO_VEHICLE where the sheet has no vehicle, and only
- * there, and PLANNER_ASIDE_FLEET never by savings, insertion or sweep. The rest of what
- * is promised is so on sheets where no row has both PLANNER_WINDOW and PLANNER_PENALTY,
+ * Every stop stands once in the plan, in a round or set aside. The rest of what is
+ * promised is so on sheets where no row has both PLANNER_WINDOW and PLANNER_PENALTY,
  * and where distances, times, windows, service and rests are whole numbers:
  *
  *   - every round keeps its windows, its rest and its maxima, by every method but
@@ -444,26 +391,24 @@ uint32_t plan_rounds(const uint8_t *sheet, size_t sheet_len, uint8_t *plan, size
  * first. Its stops go, the cheapest first, to the rounds that stay, each at the
  * cheapest place that keeps its vehicle's capacity, limits and rest and all hard
  * windows; what a place costs is the detour, and with soft windows the lateness
- * too. A stop that fits nowhere is set aside, by PLANNER_ASIDE_LIMITED. A round that
- * takes no stop stays as it was, whatever it breaks.
+ * too. A stop that fits nowhere is set aside. A round that takes no stop stays as it
+ * was, whatever it breaks.
  *
  * PLANNER_ACCEPTED, and the plan out fills its buffer, with the figures of every
  * round walked anew; or the first refusal of enum planner_refusal that holds. Every
  * stop stands once in the plan out, and there are at most `greatest` rounds. Stops
- * that the plan in sets aside stay so, each with the reason that it has there, 0 too;
- * the chain of those set aside comes out ascending. A round whose rest has no place, nor
- * one at home where that is allowed, has the figures of the walk without it.
+ * that the plan in sets aside stay so; the chain of those set aside comes out
+ * ascending. A round whose rest has no place, nor one at home where that is allowed,
+ * has the figures of the walk without it.
  * Stack: PLANNER_STACK.
  *
  *   sheet, sheet_len    as for check_sheet; of any method, with one depot
  *   plan_in             the plan's bytes: a plan of plan_rounds', of this function's,
  *                       or made up. What is read of it: the number of rounds, the ids
  *                       and first stops of so many records, the first stop set aside,
- *                       each stop's next, and the reasons of the stops set aside, which
- *                       are not held to the sheet. No figure is read, and none of the
- *                       other bytes needs to be zero, nor has a stop on a round to have
- *                       the reason 0. Rounds may be empty, over capacity or late, and
- *                       several may have one vehicle
+ *                       and each stop's next. No figure is read, and none of the other
+ *                       bytes needs to be zero. Rounds may be empty, over capacity or
+ *                       late, and several may have one vehicle
  *   plan_in_len         how many bytes are lent: PLANNER_PLAN_BYTES(rows) is the only
  *                       length accepted
  *   greatest            the most rounds of the plan out, any number; with 0 every
@@ -529,8 +474,8 @@ int32_t import_solomon(const uint8_t *text, size_t text_len, uint8_t *sheet, siz
  *
  *   sheet, sheet_len    as for check_sheet; of any method, with any depots
  *   plan, plan_len      as limit_rounds takes a plan in: plan_rounds', limit_rounds', or
- *                       made up, and read as there, reasons too. With several depots a
- *                       link to any of them is a link to no stop
+ *                       made up, and read as there. With several depots a link to any of
+ *                       them is a link to no stop
  *   distance_rate       cents for each begun 1,000 of distance, up to PLANNER_MOST_RATE
  *   duration_rate       cents for each begun 900 of duration, up to the same
  *   least               cents that a round with a stop costs at least, up to the same
@@ -544,43 +489,6 @@ int32_t import_solomon(const uint8_t *text, size_t text_len, uint8_t *sheet, siz
 uint32_t bill_rounds(const uint8_t *sheet, size_t sheet_len, const uint8_t *plan, size_t plan_len,
                      uint32_t distance_rate, uint32_t duration_rate, uint32_t least,
                      uint8_t *bill, size_t bill_len);
-
-/*
- * Deals a plan's rounds to crews. The longest round not yet dealt goes to the crew with
- * the least total so far; of equally long rounds the lower one goes first, and of equal
- * totals the lower crew takes it. A round counts with its duration in whole units of time,
- * rounded up, exactly: 24.0 counts 24, and the next f64 above it 25. By these numbers
- * rounds are compared, and of them totals are summed. Durations are walked anew from the
- * plan's chains, as bill_rounds does: a round that breaks a limit is dealt like any other,
- * and so is an empty one, whose only leg is that from its depot to itself. Nothing
- * overflows: a duration is below 2^53, so that the sum of 101 fits.
- *
- * Three rounds of 20, 20.5 and 30 for two crews: the third goes to crew 1, the second to
- * crew 2, which has 21 of it, and the first to crew 2 too. The totals are 30 and 41.
- *
- * PLANNER_ACCEPTED, and the deal fills its buffer; or the first refusal of enum
- * planner_refusal that holds. Every round has a crew from 1 to `crews`; a crew may be left
- * without a round. What is promised of the totals:
- *
- *   - no crew's total exceeds another's by more than the shortest of its own rounds, or by
- *     more than 0 where it has none;
- *   - the largest total times `crews` is at most the sum of all totals plus the longest
- *     round, or 0 where there is none, times `crews` - 1.
- *
- * Stack: PLANNER_STACK.
- *
- *   sheet, sheet_len    as for check_sheet; of any method, with any depots
- *   plan, plan_len      as for bill_rounds
- *   crews               how many crews there are, 1 to PLANNER_MOST_CREWS, whatever the
- *                       number of rounds
- *   deal                where the deal goes
- *   deal_len            how many bytes are lent: PLANNER_DEAL_BYTES(rounds) is the only
- *                       length accepted, by the plan's own number of rounds, which is read
- *                       as for bill_rounds. Every deal that is accepted fits in
- *                       PLANNER_DEAL_BYTES(rows)
- */
-uint32_t deal_rounds(const uint8_t *sheet, size_t sheet_len, const uint8_t *plan, size_t plan_len,
-                     uint32_t crews, uint8_t *deal, size_t deal_len);
 
 #ifdef __cplusplus
 }

@@ -1,15 +1,14 @@
 /*
- * Readers and writers of every field of a sheet and of a plan, readers of a bill and of
- * a deal, and the words of a refusal and of a reason, for C and C++ hosts of planner.h.
- * Everything is inline: nothing of it is in the archive, and nothing of it is proved.
+ * Readers and writers of every field of a sheet and of a plan, readers of a bill, and
+ * the words of a refusal, for C and C++ hosts of planner.h. Everything is inline:
+ * nothing of it is in the archive, and nothing of it is proved.
  *
- * A sheet, a plan, a bill and a deal are the bytes that planner.h lays out. The functions
- * take their address, and a row's, vehicle's or round's number from 0 on; they read and
+ * A sheet, a plan and a bill are the bytes that planner.h lays out. The functions take
+ * their address, and a row's, vehicle's or round's number from 0 on; they read and
  * write the bytes of the field and no others, and check nothing: that the bytes are
- * there is the caller's to see to. PLANNER_SHEET_BYTES, PLANNER_PLAN_BYTES,
- * PLANNER_BILL_BYTES and PLANNER_DEAL_BYTES tell how many there have to be, and
- * planner_sheet_bytes, planner_bill_bytes and planner_deal_bytes those that a header asks
- * for.
+ * there is the caller's to see to. PLANNER_SHEET_BYTES, PLANNER_PLAN_BYTES and
+ * PLANNER_BILL_BYTES tell how many there have to be, and planner_sheet_bytes and
+ * planner_bill_bytes those that a header asks for.
  *
  *     uint8_t sheet[PLANNER_SHEET_BYTES(3, 1, 0)] = {0};
  *     planner_set_rows(sheet, 3);          the counts first: the places of vehicles
@@ -132,7 +131,7 @@ enum {
 
 enum {
     PLANNER_STOP_NEXT = 0,
-    PLANNER_STOP_REASON = 2,
+    PLANNER_STOP_SPARE = 2,
     PLANNER_STOP_LOAD = 4,
     PLANNER_STOP_ARRIVAL = 8,
     PLANNER_STOP_DEPARTURE = 16
@@ -315,7 +314,6 @@ PLANNER_FIELD_F64(round, planner_round_at(number), lateness_cost, PLANNER_ROUND_
 PLANNER_FIELD_F64(round, planner_round_at(number), rest_start, PLANNER_ROUND_REST_START)
 
 PLANNER_FIELD_UINT(stop, planner_stop_at(bytes, number), next, PLANNER_STOP_NEXT, 2)
-PLANNER_FIELD_UINT(stop, planner_stop_at(bytes, number), reason, PLANNER_STOP_REASON, 2)
 PLANNER_FIELD_I32(stop, planner_stop_at(bytes, number), load, PLANNER_STOP_LOAD)
 PLANNER_FIELD_F64(stop, planner_stop_at(bytes, number), arrival, PLANNER_STOP_ARRIVAL)
 PLANNER_FIELD_F64(stop, planner_stop_at(bytes, number), departure, PLANNER_STOP_DEPARTURE)
@@ -352,7 +350,7 @@ static inline unsigned planner_plan_rows(const uint8_t *plan)
     return PLANNER_CAST(unsigned, planner_get(plan + PLANNER_PLAN_ROWS, 2));
 }
 
-/* A plan that a host makes up needs it for the functions above; limit_rounds, bill_rounds and deal_rounds do not read it. */
+/* A plan that a host makes up needs it for the functions above; limit_rounds and bill_rounds do not read it. */
 static inline void planner_set_plan_rows(uint8_t *plan, unsigned rows)
 {
     planner_put(plan + PLANNER_PLAN_ROWS, 2, rows);
@@ -382,20 +380,6 @@ static inline uint64_t planner_bill_sum(const uint8_t *bill, unsigned rounds)
     return planner_bill_charge(bill, rounds);
 }
 
-/* ---- a deal, which does not say that either */
-
-/* How many bytes the deal of a plan with this header has. */
-static inline size_t planner_deal_bytes(const uint8_t *plan)
-{
-    return PLANNER_DEAL_BYTES(planner_plan_rounds(plan));
-}
-
-/* From 1. */
-static inline unsigned planner_deal_crew(const uint8_t *deal, unsigned round)
-{
-    return deal[round];
-}
-
 /* ---- the sentence of an answer */
 
 /* The refusal in an answer of import_solomon's; PLANNER_ACCEPTED where it is a length. */
@@ -417,31 +401,11 @@ static inline const char *planner_refusal_text(uint32_t number)
     case PLANNER_BAD_VEHICLE: return "a field, a mark or the depot of a vehicle is out of range, a rest at home is marked without a rest, an unmarked field is not zero, or an id stands twice";
     case PLANNER_NO_VEHICLE: return "savings, insertion and sweep need a vehicle, and the sheet has none";
     case PLANNER_SEVERAL_DEPOTS: return "the sheet has several depots, and the limiter takes one";
-    case PLANNER_BAD_PLAN: return "the plan has more rounds than the sheet has rows, an unknown vehicle, a link to no stop, a stop that does not stand exactly once, or a stop set aside with a reason above 8";
+    case PLANNER_BAD_PLAN: return "the plan has more rounds than the sheet has rows, an unknown vehicle, a link to no stop, or a stop that does not stand exactly once";
     case PLANNER_BAD_TEXT: return "the text is not of the form of Solomon's instances";
     case PLANNER_TOO_MANY_CUSTOMERS: return "the text has more than 100 customers after its depot";
     case PLANNER_BAD_RATE: return "a rate or the least charge is above 1,000,000 cents";
-    case PLANNER_BAD_CREWS: return "the number of crews is 0 or above 8";
     default: return "no answer of the planner's";
-    }
-}
-
-/* ---- the sentence of a reason */
-
-/* Of a stop set aside: planner_reason_text(planner_stop_reason(plan, stop)). */
-static inline const char *planner_reason_text(uint32_t number)
-{
-    switch (number) {
-    case PLANNER_ASIDE_UNTOLD: return "the plan does not say why";
-    case PLANNER_ASIDE_NO_VEHICLE: return "no depot has a vehicle";
-    case PLANNER_ASIDE_CAPACITY: return "its demand is above the vehicle's capacity";
-    case PLANNER_ASIDE_WINDOW: return "even a round of its own is too late for its window";
-    case PLANNER_ASIDE_REST: return "a round of its own has no place for the rest";
-    case PLANNER_ASIDE_DISTANCE: return "a round of its own is over the maximum distance";
-    case PLANNER_ASIDE_DURATION: return "a round of its own is over the maximum duration, or the depot's due";
-    case PLANNER_ASIDE_FLEET: return "the fleet is used up";
-    case PLANNER_ASIDE_LIMITED: return "its round was dropped, and it fits in no other";
-    default: return "no reason of the planner's";
     }
 }
 

@@ -1,23 +1,22 @@
 /*
- * Fuzzes the planner, the limiter, the biller, the dealer and the importer by mutations
- * that know the form of sheets, plans and texts.
+ * Fuzzes the planner, the limiter, the biller and the importer by mutations that know the
+ * form of sheets, plans and texts.
  *
  *   fuzz SECONDS [SEED]              mutates for so long
  *   fuzz replay FILE [PLAN_BYTES]    asks a kept sheet again
  *   fuzz limit SHEET PLAN GREATEST [PLAN_OUT_BYTES]    asks the limiter again
  *   fuzz bill SHEET PLAN RATE RATE LEAST [BILL_BYTES]    asks the biller again
- *   fuzz deal SHEET PLAN CREWS [DEAL_BYTES]    asks the dealer again
  *   fuzz import TEXT [SHEET_BYTES]    asks the importer again
  *
  * Sheets are drawn, mutated field by field according to what a field is, cut, spliced
  * and fitted to their own plans. A sheet that shows something new joins the corpus from
- * which the next ones are taken. After each sheet the limiter, the biller and the dealer
- * are asked with a plan in for it: its own, or one that is dealt, and mutated. In between
- * the next sheet is one that the importer makes of a text, drawn and mutated likewise.
- * Every call is lent as lend.h says; a plan is held to plan_check.h, and whether a plan in
- * is taken too, a bill to bill_check.h and a deal to deal_check.h; an imported sheet has
- * to be planned. A fault's sheet is kept in the file fuzz-fault.sheet, the plan in in
- * fuzz-fault.plan and the importer's text in fuzz-fault.text; the exit status is 1.
+ * which the next ones are taken. After each sheet the limiter and the biller are asked
+ * with a plan in for it: its own, or one that is dealt, and mutated. In between the next
+ * sheet is one that the importer makes of a text, drawn and mutated likewise. Every call
+ * is lent as lend.h says; a plan is held to plan_check.h, and whether a plan in is taken
+ * too, a bill to bill_check.h; an imported sheet has to be planned. A fault's sheet is
+ * kept in the file fuzz-fault.sheet, the plan in in fuzz-fault.plan and the importer's
+ * text in fuzz-fault.text; the exit status is 1.
  */
 #define _GNU_SOURCE
 #include <stdint.h>
@@ -50,16 +49,14 @@ static struct sheet asked, spare;
 static struct plan_in plan_in;
 static struct text text, spare_text;
 static size_t import_len;
-static enum { PLANNING, LIMITING, BILLING, DEALING, IMPORTING } asking;
-static uint8_t plan[MOST_PLAN], plan_out[MOST_PLAN], out[MOST_OUT], imported[MOST_IMPORT];
+static enum { PLANNING, LIMITING, BILLING, IMPORTING } asking;
+static uint8_t plan[MOST_PLAN], plan_out[MOST_PLAN], bill[MOST_BILL], imported[MOST_IMPORT];
 static struct corpus accepted, refused, texts;
 static uint8_t signals[SIGNALS];
 static unsigned signal_count;
 static unsigned long sheets, answers[PLANNER_NO_VEHICLE + 1], planned[PLANNER_SWEEP + 1];
 static unsigned long limits, limit_answers[PLANNER_BAD_PLAN + 1], dropped, home_rests, limited_home_rests;
-static unsigned long reasons[REASONS], limited_reasons[REASONS], reasons_refused;
-static unsigned long plan_answers[ANSWER_KINDS][PLANNER_BAD_CREWS + 1], of_several_depots[ANSWER_KINDS];
-static unsigned long charges_checked, whole_units, crews_checked, tied_rounds, tied_crews;
+static unsigned long bill_answers[PLANNER_BAD_RATE + 1], several_depots_billed, charges_checked, whole_units;
 static unsigned long imports, import_answers[PLANNER_TOO_MANY_CUSTOMERS + 1];
 
 static void keep_fault(const char *name, const uint8_t *bytes, size_t len)
@@ -91,11 +88,7 @@ static void end(const char *what)
                 (unsigned)plan_in.greatest, plan_in.plan_out_len);
     else if (asking == BILLING)
         fprintf(stderr, "fuzz: again with: fuzz bill %s %s %u %u %u %zu\n", FAULT_FILE, FAULT_PLAN,
-                (unsigned)plan_in.distance_rate, (unsigned)plan_in.duration_rate, (unsigned)plan_in.least,
-                plan_in.out_len[BILL]);
-    else if (asking == DEALING)
-        fprintf(stderr, "fuzz: again with: fuzz deal %s %s %u %zu\n", FAULT_FILE, FAULT_PLAN, (unsigned)plan_in.crews,
-                plan_in.out_len[DEAL]);
+                (unsigned)plan_in.distance_rate, (unsigned)plan_in.duration_rate, (unsigned)plan_in.least, plan_in.bill_len);
     else
         fprintf(stderr, "fuzz: again with: fuzz replay %s %zu\n", FAULT_FILE, plan_len);
     exit(1);
@@ -201,21 +194,6 @@ static unsigned incidents(const struct reading *r, unsigned rounds)
     return size_class(rests) << 8 | size_class(late);
 }
 
-/* Which reasons stops are set aside for, one bit for each. */
-static unsigned reasons_met(const struct reading *r)
-{
-    unsigned met = 0;
-    for (unsigned reason = 0; reason < REASONS; reason++)
-        met |= (unsigned)(r->reasons[reason] > 0) << reason;
-    return met;
-}
-
-static void count_reasons(const struct reading *r, unsigned long *counts)
-{
-    for (unsigned reason = 0; reason < REASONS; reason++)
-        counts[reason] += r->reasons[reason];
-}
-
 /* Whether a planned sheet shows something new. */
 static int planned_is_new(const struct reading *r)
 {
@@ -226,7 +204,6 @@ static int planned_is_new(const struct reading *r)
     found |= is_new(2, by << 16 | size_class(r->rows) << 8 | r->vehicles);
     found |= is_new(3, by << 16 | incidents(r, rounds));
     found |= is_new(15, by << 16 | size_class(r->home_rests) << 8 | size_class(rounds));
-    found |= is_new(17, by << 16 | reasons_met(r));
     found |= is_new(4, r->method << 16 | marks_met(row_of(r->sheet, 0), r->rows, PLANNER_ROW_BYTES));
     found |= is_new(5, r->method << 16 | fleet);
     found |= is_new(6, r->method << 16 | (unsigned)(planner_get(r->plan + PLANNER_PLAN_COST, 8) >> 52));
@@ -263,7 +240,6 @@ static int ask(struct sheet *s, struct reading *r)
     }
     planned[r->method]++;
     home_rests += r->home_rests;
-    count_reasons(r, reasons);
     if (planned_is_new(r))
         keep(&accepted, s->bytes, s->len);
     return 1;
@@ -278,11 +254,7 @@ static uint32_t expected_answer(struct sheet *s, const struct plan_in *p, struct
         return answer;
     if (planner_depots(s->bytes) > 1)
         return PLANNER_SEVERAL_DEPOTS;
-    if (!chains_are_good(r, s->bytes, (uint8_t *)p->bytes))
-        return PLANNER_BAD_PLAN;
-    int is_good = reasons_are_good(r);
-    reasons_refused += !is_good;
-    return is_good ? PLANNER_ACCEPTED : PLANNER_BAD_PLAN;
+    return plan_in_is_good(r, s->bytes, (uint8_t *)p->bytes) ? PLANNER_ACCEPTED : PLANNER_BAD_PLAN;
 }
 
 /* Whether a plan out shows something new. */
@@ -292,7 +264,6 @@ static int limited_is_new(const struct reading *r)
     int found = is_new(11, size_class(before) << 16 | size_class(after) << 8 | size_class(r->aside));
     found |= is_new(12, size_class(before - after) << 16 | incidents(r, after));
     found |= is_new(16, size_class(r->home_rests) << 8 | size_class(after));
-    found |= is_new(18, reasons_met(r));
     if (r->rows < 12)
         found |= is_new(13, links_class(r));
     return found;
@@ -317,24 +288,25 @@ static int ask_to_limit(struct sheet *s, const struct plan_in *p)
     }
     dropped += planner_plan_rounds(p->bytes) > p->greatest;
     limited_home_rests += r.home_rests;
-    count_reasons(&r, limited_reasons);
     if (limited_is_new(&r))
         keep(&accepted, s->bytes, s->len);
     return planner_plan_rounds(p->bytes) <= p->greatest;
 }
 
-/* The biller's answer likewise, or the dealer's. */
-static uint32_t expected_of_plan(struct sheet *s, const struct asking *a)
+/* The biller's answer likewise. */
+static uint32_t expected_bill_answer(struct sheet *s, const struct plan_in *p)
 {
     static struct reading r;
     size_t exact = plan_len_of(s->bytes, s->len);
-    int fits = a->plan_len == exact && a->out_len == out_bytes(a->kind, planner_plan_rounds(a->plan));
+    int fits = p->len == exact && p->bill_len == planner_bill_bytes(p->bytes);
     uint32_t answer = check_sheet(s->bytes, s->len, fits ? exact : exact + 1);
     if (answer != PLANNER_ACCEPTED)
         return answer;
-    if (!plan_in_is_good(&r, s->bytes, (uint8_t *)a->plan))
+    if (!plan_in_is_good(&r, s->bytes, (uint8_t *)p->bytes))
         return PLANNER_BAD_PLAN;
-    return is_out_of_range(a) ? own_refusal(a->kind) : PLANNER_ACCEPTED;
+    return p->distance_rate > PLANNER_MOST_RATE || p->duration_rate > PLANNER_MOST_RATE || p->least > PLANNER_MOST_RATE
+               ? PLANNER_BAD_RATE
+               : PLANNER_ACCEPTED;
 }
 
 /* How many figures are whole numbers of their units, which one step more would exceed. */
@@ -349,49 +321,35 @@ static unsigned whole_in(const uint8_t *walked)
     return whole;
 }
 
-/* What is wrong with a bill, or a deal, by the figures of its rounds. */
-static const char *fault_by(const struct asking *a, const uint8_t *walked)
-{
-    struct crew_totals t;
-    const char *fault = a->kind == DEAL ? crew_fault(a, walked, out, &t) : charge_fault(a, walked, out);
-    if (a->kind == DEAL) {
-        crews_checked += planner_plan_rounds(a->plan);
-        tied_rounds += t.tied_rounds;
-        tied_crews += t.tied_crews;
-    } else {
-        charges_checked += planner_plan_rounds(a->plan);
-        whole_units += whole_in(walked);
-    }
-    return fault;
-}
-
 /* `walked` has the figures of the plan in's rounds, or is NULL. */
-static void ask_for(enum answer_kind kind, struct sheet *s, const struct plan_in *p, const uint8_t *walked)
+static void ask_to_bill(struct sheet *s, const struct plan_in *p, const uint8_t *walked)
 {
-    struct asking a = asking_with(kind, s, p);
-    asking = kind == DEAL ? DEALING : BILLING;
-    uint32_t answer = ask_about_plan(&a, out);
-    plan_answers[kind][answer]++;
-    if (answer != expected_of_plan(s, &a))
-        end("another answer of the biller's or the dealer's than its sheet, plan and numbers ask for");
+    struct billing b = {s->bytes, p->bytes, s->len, p->len, p->bill_len, p->distance_rate, p->duration_rate, p->least};
+    uint32_t answer = ask_biller(&b, bill);
+    bill_answers[answer]++;
+    if (answer != expected_bill_answer(s, p))
+        end("another answer of the biller's than its sheet, plan and rates ask for");
     if (answer != PLANNER_ACCEPTED)
         return;
-    of_several_depots[kind] += planner_depots(s->bytes) > 1 && planner_plan_rounds(p->bytes) > 0;
-    const char *fault = walked != NULL ? fault_by(&a, walked) : NULL;
+    several_depots_billed += planner_depots(s->bytes) > 1 && planner_plan_rounds(p->bytes) > 0;
+    if (walked == NULL)
+        return;
+    const char *fault = charge_fault(&b, walked, bill);
     if (fault != NULL)
         end(fault);
+    charges_checked += planner_plan_rounds(p->bytes);
+    whole_units += whole_in(walked);
 }
 
-/* The limiter, the biller and the dealer on the sheet that was asked last. Its own plan has its figures, and so has a plan out
-   of as many rounds. */
+/* The limiter and the biller on the sheet that was asked last. Its own plan has its figures, and so has a plan out of as
+   many rounds. */
 static void ask_with_plan_in(struct sheet *s, int was_planned)
 {
     asking = LIMITING;
     int is_whole_out = ask_to_limit(s, &plan_in);
     int is_own = was_planned && memcmp(plan_in.bytes, plan, PLANNER_PLAN_BYTES(rows_in(s))) == 0;
-    const uint8_t *walked = is_own ? plan : is_whole_out ? plan_out : NULL;
-    for (enum answer_kind kind = BILL; kind < ANSWER_KINDS; kind++)
-        ask_for(kind, s, &plan_in, walked);
+    asking = BILLING;
+    ask_to_bill(s, &plan_in, is_own ? plan : is_whole_out ? plan_out : NULL);
     asking = PLANNING;
 }
 
@@ -562,13 +520,7 @@ static int replay_limit(const char *sheet, const char *plan_name, const char *gr
     return 0;
 }
 
-static uint32_t number_of(const char *word)
-{
-    return (uint32_t)strtoul(word, NULL, 10);
-}
-
-/* A sheet, a plan, and what is asked: a bill's three numbers or a deal's one. */
-static int replay_asking(enum answer_kind kind, char **words, const char *out_len)
+static int replay_bill(char **words, const char *bill_len)
 {
     static struct reading r;
     asked.len = read_file(words[0], asked.bytes, MOST_SHEET);
@@ -576,20 +528,14 @@ static int replay_asking(enum answer_kind kind, char **words, const char *out_le
     plan_in.len = read_file(words[1], plan_in.bytes, MOST_PLAN);
     plan_in.greatest = UINT32_MAX;
     plan_in.plan_out_len = asked.plan_len;
-    for (enum answer_kind each = BILL; each < ANSWER_KINDS; each++) {
-        size_t exact = out_bytes(each, planner_plan_rounds(plan_in.bytes));
-        size_t len = each == kind && out_len != NULL ? strtoul(out_len, NULL, 10) : exact;
-        plan_in.out_len[each] = len < MOST_OUT ? len : MOST_OUT;
-    }
-    plan_in.crews = kind == DEAL ? number_of(words[2]) : 1;
-    if (kind == BILL) {
-        plan_in.distance_rate = number_of(words[2]);
-        plan_in.duration_rate = number_of(words[3]);
-        plan_in.least = number_of(words[4]);
-    }
+    plan_in.distance_rate = (uint32_t)strtoul(words[2], NULL, 10);
+    plan_in.duration_rate = (uint32_t)strtoul(words[3], NULL, 10);
+    plan_in.least = (uint32_t)strtoul(words[4], NULL, 10);
+    plan_in.bill_len = bill_len != NULL ? strtoul(bill_len, NULL, 10) : planner_bill_bytes(plan_in.bytes);
+    plan_in.bill_len = plan_in.bill_len < MOST_BILL ? plan_in.bill_len : MOST_BILL;
     ask_with_plan_in(&asked, ask(&asked, &r));
-    for (uint32_t answer = 0; answer <= PLANNER_BAD_CREWS; answer++)
-        if (plan_answers[kind][answer] > 0)
+    for (uint32_t answer = 0; answer <= PLANNER_BAD_RATE; answer++)
+        if (bill_answers[answer] > 0)
             printf("fuzz: answer %u\n", (unsigned)answer);
     return 0;
 }
@@ -610,43 +556,24 @@ static void print_counts(const char *what, const unsigned long *counts, unsigned
         printf(" %u: %lu%s", i, counts[i], i < last ? "," : "\n");
 }
 
-/* Whether some reason from `first` to `last` was not seen. */
-static int lacks_reason(const unsigned long *counts, unsigned first, unsigned last)
-{
-    for (unsigned reason = first; reason <= last; reason++)
-        if (counts[reason] == 0)
-            return 1;
-    return 0;
-}
-
 static int report(void)
 {
     int lacking = home_rests == 0 || limited_home_rests == 0 || dropped == 0 || import_answers[PLANNER_ACCEPTED] == 0
-                  || of_several_depots[BILL] == 0 || charges_checked == 0 || whole_units == 0 || reasons_refused == 0
-                  || of_several_depots[DEAL] == 0 || crews_checked == 0 || tied_rounds == 0 || tied_crews == 0
-                  || plan_answers[DEAL][PLANNER_BAD_CREWS] == 0
-                  || lacks_reason(reasons, PLANNER_ASIDE_NO_VEHICLE, PLANNER_ASIDE_FLEET)
-                  || lacks_reason(limited_reasons, PLANNER_ASIDE_UNTOLD, PLANNER_ASIDE_LIMITED);
+                  || several_depots_billed == 0 || charges_checked == 0 || whole_units == 0;
     printf("fuzz: %lu sheets, %lu plans in and %lu texts, %lu calls\n", sheets, limits, imports, calls);
     print_counts("answers", answers, PLANNER_NO_VEHICLE);
     print_counts("planned by method", planned, PLANNER_SWEEP);
-    print_counts("stops set aside by reason", reasons, PLANNER_ASIDE_LIMITED);
     print_counts("answers of the limiter", limit_answers, PLANNER_BAD_PLAN);
     printf("fuzz: %lu plans out with fewer rounds; rests at home: %lu in plans, %lu in plans out\n", dropped, home_rests,
            limited_home_rests);
-    print_counts("stops set aside in plans out by reason", limited_reasons, PLANNER_ASIDE_LIMITED);
-    printf("fuzz: %lu plans in refused for a reason alone\n", reasons_refused);
-    print_counts("answers of the biller", plan_answers[BILL], PLANNER_BAD_RATE);
+    print_counts("answers of the biller", bill_answers, PLANNER_BAD_RATE);
     printf("fuzz: %lu plans of several depots billed; %lu charges held to their figures, of which %lu are whole units\n",
-           of_several_depots[BILL], charges_checked, whole_units);
-    print_counts("answers of the dealer", plan_answers[DEAL], PLANNER_BAD_CREWS);
-    printf("fuzz: %lu plans of several depots dealt; %lu rounds held to their durations, %lu ties of rounds and %lu of crews\n",
-           of_several_depots[DEAL], crews_checked, tied_rounds, tied_crews);
+           several_depots_billed, charges_checked, whole_units);
     print_counts("answers of the importer", import_answers, PLANNER_TOO_MANY_CUSTOMERS);
     printf("fuzz: corpus of %u sheets planned, %u refused and %u texts, %u signals\n", accepted.count, refused.count,
            texts.count, signal_count);
     if (lacking)
-        fprintf(stderr, "fuzz: nothing was planned or limited, with a rest at home, for each reason, or billed, dealt or imported\n");
+        fprintf(stderr, "fuzz: nothing was planned or limited, with a rest at home, or billed, or imported\n");
     return lacking;
 }
 
@@ -658,9 +585,7 @@ int main(int argc, char **argv)
     if (argc > 4 && strcmp(argv[1], "limit") == 0)
         return replay_limit(argv[2], argv[3], argv[4], argc > 5 ? argv[5] : NULL);
     if (argc > 6 && strcmp(argv[1], "bill") == 0)
-        return replay_asking(BILL, argv + 2, argc > 7 ? argv[7] : NULL);
-    if (argc > 4 && strcmp(argv[1], "deal") == 0)
-        return replay_asking(DEAL, argv + 2, argc > 5 ? argv[5] : NULL);
+        return replay_bill(argv + 2, argc > 7 ? argv[7] : NULL);
     if (argc > 2 && strcmp(argv[1], "import") == 0)
         return replay_import(argv[2], argc > 3 ? argv[3] : NULL);
     double seconds = argc > 1 ? strtod(argv[1], NULL) : 0.0;
@@ -668,8 +593,7 @@ int main(int argc, char **argv)
     if (argc > 3 || seconds <= 0.0) {
         fprintf(stderr, "usage: fuzz SECONDS [SEED] | fuzz replay FILE [PLAN_BYTES] | "
                         "fuzz limit SHEET PLAN GREATEST [PLAN_OUT_BYTES] | "
-                        "fuzz bill SHEET PLAN RATE RATE LEAST [BILL_BYTES] | fuzz deal SHEET PLAN CREWS [DEAL_BYTES] | "
-                        "fuzz import TEXT [SHEET_BYTES]\n");
+                        "fuzz bill SHEET PLAN RATE RATE LEAST [BILL_BYTES] | fuzz import TEXT [SHEET_BYTES]\n");
         return 2;
     }
     printf("fuzz: %g s, seed %lu\n", seconds, seed);

@@ -297,13 +297,11 @@ void find_faults(struct faults *faults, const uint8_t *sheet, size_t len, size_t
 
 /* ---- 10: a plan in */
 
-enum met { NOWHERE, ON_A_ROUND, ASIDE };
-
 struct chains {
     struct reader r;
     const uint8_t *sheet;
     unsigned rows, depots;
-    enum met met[PLANNER_MOST_ROWS];
+    uint8_t met[PLANNER_MOST_ROWS];
 };
 
 /* By the sheet's rows: those of the plan's header are not read. */
@@ -312,7 +310,7 @@ static size_t stop_record(const struct chains *c, unsigned stop)
     return planner_round_at(c->rows) + (size_t)PLANNER_PLAN_STOP_BYTES * stop;
 }
 
-static void follow(struct chains *c, size_t link, const char *chain, enum met met)
+static void follow(struct chains *c, size_t link, const char *chain)
 {
     snprintf(c->r.record_name, sizeof c->r.record_name, "%s", chain);
     for (;;) {
@@ -323,11 +321,11 @@ static void follow(struct chains *c, size_t link, const char *chain, enum met me
             add(&c->r, "link", link, "to row %u, which is %s", stop, stop < c->rows ? "a depot" : "not there");
             return;
         }
-        if (c->met[stop] != NOWHERE) {
+        if (c->met[stop]) {
             add(&c->r, "link", link, "to stop %u, which stands in a chain already", stop);
             return;
         }
-        c->met[stop] = met;
+        c->met[stop] = 1;
         link = stop_record(c, stop) + PLANNER_STOP_NEXT;
     }
 }
@@ -348,28 +346,14 @@ static void follow_round(struct chains *c, unsigned k)
     if (!is_vehicle(c->sheet, planner_round_id(c->r.bytes, k)))
         add(&c->r, "vehicle", planner_round_at(k) + PLANNER_ROUND_ID, "%lu, which is no vehicle's id",
             (unsigned long)planner_round_id(c->r.bytes, k));
-    follow(c, planner_round_at(k) + PLANNER_ROUND_FIRST, name, ON_A_ROUND);
-}
-
-/* Of stops set aside alone: that of a stop on a round is not read. */
-static void read_reasons(struct chains *c)
-{
-    for (unsigned stop = c->depots; stop < c->rows; stop++) {
-        size_t at = stop_record(c, stop) + PLANNER_STOP_REASON;
-        unsigned reason = (unsigned)planner_get(c->r.bytes + at, 2);
-        if (c->met[stop] != ASIDE || reason <= PLANNER_ASIDE_LIMITED)
-            continue;
-        c->r.number = stop;
-        snprintf(c->r.record_name, sizeof c->r.record_name, "stop %u, set aside", stop);
-        add(&c->r, "reason", at, "%u, above %d", reason, PLANNER_ASIDE_LIMITED);
-    }
+    follow(c, planner_round_at(k) + PLANNER_ROUND_FIRST, name);
 }
 
 static void find_missed(struct chains *c)
 {
     c->r.record_name[0] = '\0';
     for (unsigned stop = c->depots; stop < c->rows; stop++)
-        if (c->met[stop] == NOWHERE) {
+        if (!c->met[stop]) {
             c->r.number = stop;
             add(&c->r, "chains", stop_record(c, stop), "none leads to stop %u", stop);
         }
@@ -393,7 +377,6 @@ void find_plan_faults(struct faults *faults, const uint8_t *sheet, const uint8_t
     }
     for (unsigned k = 0; k < planner_plan_rounds(plan); k++)
         follow_round(&c, k);
-    follow(&c, PLANNER_PLAN_ASIDE, "stops set aside", ASIDE);
-    read_reasons(&c);
+    follow(&c, PLANNER_PLAN_ASIDE, "stops set aside");
     find_missed(&c);
 }

@@ -8,7 +8,7 @@ ghost use Rattle.multi_depot_offers.specs.Promises.{RowAsked};
 use sheet::{matrix, vehicle};
 
 // Whether a depot has a vehicle.
-pub fn has_vehicle(sheet: &[u8], depot: usize) -> bool
+fn has_vehicle(sheet: &[u8], depot: usize) -> bool
     requires { Accepted sheet.now }
     ensures { result ≡ has_vehicle sheet.now depot }
 {
@@ -22,7 +22,7 @@ pub fn has_vehicle(sheet: &[u8], depot: usize) -> bool
 }
 
 // Whether the stop is nearer to depot d than to depot e; a tie goes to the lower.
-pub fn is_sooner(sheet: &[u8], stop: usize, d: usize, e: usize) -> bool
+fn is_sooner(sheet: &[u8], stop: usize, d: usize, e: usize) -> bool
     requires accepted { Accepted sheet.now }
     requires stop_bound { (stop < rows_of sheet.now) × ((d < rows_of sheet.now) × (e < rows_of sheet.now)) }
     ensures { result ≡ sooner sheet.now stop d e }

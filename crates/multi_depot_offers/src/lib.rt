@@ -5,7 +5,7 @@ ghost use Rattle.constructive.specs.Marks.{Marks, marked_by};
 ghost use Rattle.multi_depot_offers.specs.ByDepot.{planned_at, moves_to, after_offers, moved, first_depots};
 ghost use Rattle.multi_depot_offers.specs.Promises.{RowAsked, Offering, Cleared, Alike};
 
-pub mod depots;
+mod depots;
 pub mod members;
 
 // Every row at its nearest depot with a vehicle.

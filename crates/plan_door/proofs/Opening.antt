@@ -1,11 +1,11 @@
 -- The refusals of a sheet and a plan before the plan is read, from those of the planner. Assumes nothing.
 use mathlib.Core.Path.{◌≡◌, refl, sym, ap, ◌∙◌, subst}
-use Prim.Native.Nat.{ℕ, zero, suc, ◌-◌, ◌≤◌, ◌<◌}
+use Prim.Native.Nat.{ℕ, zero, suc, ◌≤◌, ◌<◌}
 use native.Mathlib.Omega.{arith}
 use mathlib.Core.Bool.{Bool, true, false, not, ◌&&◌, ◌||◌, true≢false}
 use mathlib.Core.List.{List}
 use lib.Dec.{ltb}
-use lib.ListN.{length, take, drop}
+use lib.ListN.{length}
 use borrow.Author.Tests.{ltb-true, lt-ltb, lt-leb, le-leb}
 use Rattle.sheet.specs.Depots.{depots_of}
 use Rattle.sheet.specs.Ranges.{rows_in_range, entries_in_range, vehicles_in_range}
@@ -14,13 +14,11 @@ use native.Mathlib.Nat.{le_trans}
 use Rattle.sheet.specs.Fields.{plan_length}
 use Rattle.sheet.specs.Accepted.{Accepted}
 use Rattle.sheet.specs.Laws.Accepted.{accepted}
-use Rattle.plan.specs.Read.{read_plan, plan_right}
-use Rattle.plan_reasons.specs.Reasons.{reasons_right}
+use Rattle.plan.specs.Read.{plan_right}
 use Rattle.plan_reader.specs.declared.Reading.{Reading}
 use Rattle.plan_reader.specs.declared.Reading.TheVariants.{Right, Wrong}
-use Rattle.plan_reader.specs.Reading.{stop_count, ReaderTables, ReadRight, ReadAs}
-use Rattle.constructive.specs.Outcome.{Outcome, start_in, outcome_in}
-use Rattle.plan_door.specs.Door.{or_else, one_depot, unread_refusal, plan_taken, door_refusal, DoorTables, LetIn}
+use Rattle.plan_reader.specs.Reading.{ReaderTables, ReadRight, ReadAs}
+use Rattle.plan_door.specs.Door.{or_else, one_depot, unread_refusal, door_refusal, DoorTables, LetIn}
 use Rattle.plan_door.specs.Laws.Door.{unread_open}
 
 -- what the sheet holds is told of by 5 and above
@@ -118,7 +116,7 @@ module _ (s plan : List ℕ) (room one : Bool) (n : ℕ) (told : n ≡ unread_re
       positive zero h = absurd (h refl)
       positive (suc k) h = omega arith
 
-      go : (k : ℕ) → n ≡ k → n ≡ or_else k (unless (plan_taken s plan) 10 0)
+      go : (k : ℕ) → n ≡ k → n ≡ or_else k (unless (plan_right s plan) 10 0)
       go zero e = absurd (h e)
       go (suc k) e = e
 
@@ -126,30 +124,20 @@ module _ (s plan : List ℕ) (room one : Bool) (n : ℕ) (told : n ≡ unread_re
     fine : Accepted s × (length plan ≡ plan_length s)
     fine = accepted s (length plan) (unread_open s (length plan) room one (sym told ∙ none)).sheet
 
-    pub door_planned : length plan ≡ plan_length s
-    door_planned = fine.1
-
     pub door_reads : (stops ends vehicles : List ℕ) → DoorTables stops ends vehicles → ReaderTables s plan stops ends vehicles
     door_reads stops ends vehicles t =
         let few = fine.0.sized.rows in
         record { sheet = fine.0; planned = fine.1; rows = le_trans few t.stopped; ended = le_trans few t.ended; fleet = le_trans few t.driven }
 
-    past : door_refusal s plan room one ≡ unless (plan_taken s plan) 10 0
+    past : door_refusal s plan room one ≡ unless (plan_right s plan) 10 0
     unfolding door_refusal
     past = rw (sym told ∙ none) refl
 
     pub door_wrong : plan_right s plan ≡ false → (10 ≡ door_refusal s plan room one) × (0 < 10)
-    unfolding plan_taken
     door_wrong h = (sym (past ∙ rw h refl), omega arith)
 
-    module _ (stops ends vehicles : List ℕ) (k : ℕ) (r : ReadRight s plan stops ends vehicles k) where
-      pub door_unreasoned : reasons_right s plan (read_plan s plan).aside ≡ false → (10 ≡ door_refusal s plan room one) × (0 < 10)
-      unfolding plan_taken
-      door_unreasoned h = (sym (past ∙ rw (r.right, h) refl), omega arith)
-
-      pub door_right : reasons_right s plan (read_plan s plan).aside ≡ true → LetIn s plan room one stops ends vehicles k
-      unfolding plan_taken
-      door_right h = record { free = past ∙ rw (r.right, h) refl; sheet = fine.0; read = r }
+    pub door_right : (stops ends vehicles : List ℕ) (k : ℕ) → ReadRight s plan stops ends vehicles k → LetIn s plan room one stops ends vehicles k
+    door_right stops ends vehicles k r = record { free = past ∙ rw r.right refl; sheet = fine.0; read = r }
 
 -- ---- what the reader told
 pub read_wrong : (s plan stops ends vehicles : List ℕ) (r : Reading) → ReadAs s plan r stops ends vehicles → r ≡ Wrong → plan_right s plan ≡ false
@@ -157,9 +145,3 @@ read_wrong s plan stops ends vehicles r a e = subst (λ (x : Reading). ReadAs s 
 
 pub read_right : (s plan stops ends vehicles : List ℕ) (r : Reading) (n : ℕ) → ReadAs s plan r stops ends vehicles → r ≡ Right n → ReadRight s plan stops ends vehicles n
 read_right s plan stops ends vehicles r n a e = subst (λ (x : Reading). ReadAs s plan x stops ends vehicles) e a
-
--- what is told of the stops set aside, as the tables have them
-pub aside_read : (s plan stops ends vehicles : List ℕ) (n : ℕ) → ReadRight s plan stops ends vehicles n → (start total : ℕ) → start ≡ start_in ends n → total ≡ stop_count s
-    → (told : Bool) → told ≡ reasons_right s plan (take (total - start) (drop start stops)) → told ≡ reasons_right s plan (read_plan s plan).aside
-unfolding outcome_in
-aside_read s plan stops ends vehicles n r start total from all told e = e ∙ rw (from, all) (ap (λ (o : Outcome). reasons_right s plan o.aside) r.outcome)

@@ -1,2 +1,1 @@
 pub mod Door
-pub mod Told

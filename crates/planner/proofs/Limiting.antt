@@ -4,11 +4,13 @@ use Prim.Native.Nat.{ℕ, zero, suc, ◌<◌}
 use native.Mathlib.Omega.{arith}
 use mathlib.Core.Bool.{true}
 use mathlib.Core.List.{List}
+use lib.Dec.{T}
 use lib.ListN.{length, get_or}
 use Rattle.sheet.specs.Refusal.{lengths_right}
 use Rattle.sheet.specs.Accepted.{Accepted}
-use Rattle.plan_door.specs.Door.{plan_taken, door_refusal, unless_refused}
-use Rattle.plan_door.specs.Laws.Door.{door_accepted, door_taken}
+use Rattle.plan.specs.Read.{plan_right}
+use Rattle.plan_door.specs.Door.{door_refusal, unless_refused}
+use Rattle.plan_door.specs.Laws.Door.{door_accepted, door_plan}
 use Rattle.planner_limiting.specs.Limiting.{limit_refusal, limited_plan, LimitDone}
 use Rattle.planner.specs.Answer.{number_of, bytes_of}
 use Rattle.planner.specs.Limited.{limit_told, limit_answer, LimitAnswered, LimitOnce, LimitFew, LimitStood, LimitAside}
@@ -36,8 +38,8 @@ module _ (s plan lent : List ℕ) (greatest r : ℕ) (out : List ℕ) (done : Li
     fine : Accepted s
     fine = (door_accepted s plan (lengths_right s (length lent)) true let_in).0
 
-    right : plan_taken s plan ≡ true
-    right = door_taken s plan (lengths_right s (length lent)) true let_in
+    right : T (plan_right s plan)
+    right = rw (door_plan s plan (lengths_right s (length lent)) true let_in) tt
 
     made : out ≡ limited_plan s plan greatest
     made = rw (sym done.number ∙ none) at done.bytes

@@ -3,20 +3,12 @@ ghost use Rattle.std.specs.Prelude.{◌≡◌, length};
 ghost use Rattle.sheet.specs.Fields.{plan_length};
 ghost use Rattle.sheet.specs.Accepted.{Sized, Accepted};
 ghost use Rattle.sheet.specs.Refusal.{refusal_of};
-ghost use Rattle.constructive.specs.Outcome.{outcome_in};
-ghost use Rattle.constructive.specs.Tables.{Tables};
-ghost use Rattle.plan.specs.Plan.{plan_of};
-ghost use Rattle.plan_reader.specs.Reading.{stop_count};
-ghost use Rattle.reason.specs.Reason.{reason_of};
-ghost use Rattle.plan_reasons.specs.Reasons.{with_reasons};
 ghost use Rattle.solomon_import.specs.Import.{ImportAnswered, ImportAccepted};
 ghost use Rattle.tariff_bill.specs.Bill.{BillAnswered, BillExact};
-ghost use Rattle.crews_deal.specs.Rounds.{DealAnswered, DealShared, DealEven, DealBounded};
 ghost use Rattle.planner.specs.Answer.{priced, plan_for, Answered, Once, Feasibly, Lawful, Alone, Closed};
 ghost use Rattle.planner.specs.Tabled.{PlannerTables};
 ghost use Rattle.planner.specs.Limited.{LimitAnswered, LimitOnce, LimitFew, LimitStood, LimitAside};
 
-use constructive::tables;
 use tariff::Rates;
 
 // Whether a sheet would be planned into a buffer of `plan_len` bytes: 0, or the number of the refusal.
@@ -37,27 +29,6 @@ fn is_priced(sheet: &[u8]) -> bool
     1 < sheet::rows(sheet)
 }
 
-// The plan of the outcome in the tables, with the reason of each stop set aside.
-fn write_told(
-    plan: &mut [u8],
-    sheet: &[u8],
-    stops: &[u16],
-    ends: &[u16],
-    vehicles: &[u16],
-    rounds: usize,
-)
-    requires tables { Tables sheet.now stops.now ends.now vehicles.now rounds (stop_count sheet.now) }
-    requires plan_len { length plan.old ≡ plan_length sheet.now }
-    ensures { plan.new ≡ with_reasons sheet.now (reason_of sheet.now) (outcome_in stops.now ends.now vehicles.now rounds (stop_count sheet.now)).aside (plan_of sheet.now (outcome_in stops.now ends.now vehicles.now rounds (stop_count sheet.now)) (priced sheet.now)) }
-{
-    let total = plan_door::stops_in(sheet);
-    let priced = is_priced(sheet);
-    plan::write_plan(plan, sheet, stops, ends, vehicles, rounds, total, priced);
-    let start = tables::end_of(ends, rounds);
-    let depots = sheet::customer::depots(sheet);
-    plan_reasons::write_reasons(plan, sheet, depots, &stops[start..total]);
-}
-
 // The plan of an accepted sheet, by way of tables that are lent.
 fn fill_by(
     sheet: &[u8],
@@ -75,7 +46,17 @@ fn fill_by(
     ensures { plan.new ≡ plan_for sheet.now }
 {
     let filled = multi_depot::outcome(sheet, at, marks, fleet, stops, ends, vehicles);
-    write_told(plan, sheet, stops, ends, vehicles, filled.rounds);
+    let rounds = filled.rounds;
+    plan::write_plan(
+        plan,
+        sheet,
+        stops,
+        ends,
+        vehicles,
+        rounds,
+        planner_limiting::stops_in(sheet),
+        is_priced(sheet),
+    );
 }
 
 // The plan of an accepted sheet. The tables stand here, some kilobyte in all.
@@ -167,15 +148,4 @@ pub extern "C" fn bill_rounds(
         least,
     };
     tariff_bill::bill(sheet, plan, rates, bill)
-}
-
-// Deals a plan's rounds to crews: 0 and the deal, or the number of the refusal and every byte of `deal` as it was.
-#[unsafe(no_mangle)]
-pub extern "C" fn deal_rounds(sheet: &[u8], plan: &[u8], crews: u32, deal: &mut [u8]) -> u32
-    ensures deal_answered { DealAnswered sheet.now plan.now crews deal.old result deal.new }
-    ensures deal_shared { DealShared sheet.now plan.now crews result deal.new }
-    ensures deal_even { DealEven sheet.now plan.now crews result deal.new }
-    ensures deal_bounded { DealBounded sheet.now plan.now crews result deal.new }
-{
-    crews_deal::deal(sheet, plan, crews, deal)
 }

@@ -1,7 +1,6 @@
 pub mod Refusals
 pub mod LimitRefusals
 pub mod Bills
-pub mod Deals
 pub mod Table
 pub mod WholeSheets
 pub mod Exact

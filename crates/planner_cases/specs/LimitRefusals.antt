@@ -44,8 +44,6 @@ limit_cases =
     ∷ record { sheet = sheet_a 1; plan = one_and_two; room = 256; answer = 0 }
     ∷ record { sheet = sheet_carrying 1; plan = one_and_two; room = 256; answer = 0 }
     ∷ record { sheet = due f10; plan = one_and_two; room = 256; answer = 0 }
-    ∷ record { sheet = sheet_a 1; plan = two_alone 0; room = 256; answer = 0 }
-    ∷ record { sheet = sheet_a 1; plan = both_aside 8; room = 256; answer = 0 }
-    -- a reason above 8, on the chain of the stops set aside; on that of a round it is not read
-    ∷ record { sheet = sheet_a 1; plan = both_aside 9; room = 256; answer = 10 }
+    ∷ record { sheet = sheet_a 1; plan = two_alone; room = 256; answer = 0 }
+    ∷ record { sheet = sheet_a 1; plan = both_aside; room = 256; answer = 0 }
     ∷ []

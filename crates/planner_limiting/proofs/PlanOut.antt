@@ -1,26 +1,20 @@
 -- The plan in let in at the door and read into the tables, the limiter's there, and the plan out. Assumes nothing.
 use mathlib.Core.Path.{◌≡◌, refl, sym, ap, ◌∙◌, subst}
-use Prim.Native.Nat.{ℕ, zero, suc, ◌-◌, ◌≤◌, ◌<◌}
+use Prim.Native.Nat.{ℕ, zero, suc, ◌≤◌, ◌<◌}
 use native.Mathlib.Omega.{arith}
 use mathlib.Core.Bool.{Bool, true, false, ◌&&◌, true≢false}
-use mathlib.Core.List.{List, [], ◌∷◌}
+use mathlib.Core.List.{List}
 use lib.Dec.{T, leb, eqb}
 use lib.Ieee.Fits.{and_r}
-use lib.ListN.{length, get_or, take, drop}
+use lib.ListN.{length}
 use borrow.Author.Tests.{eqb-true}
 use Rattle.sheet.specs.Fields.{rows_of, sheet_length, plan_length}
 use Rattle.sheet.specs.Refusal.{lengths_right}
-use Rattle.lists.specs.Every.{Every}
-use Rattle.lists.specs.Laws.Every.{every_of}
-use Rattle.constructive.specs.Outcome.{Outcome, start_in, outcome_in}
-use Rattle.constructive.specs.Tables.{Tables}
+use Rattle.constructive.specs.Outcome.{outcome_in}
 use Rattle.constructive.specs.Right.{outcome_right}
 use Rattle.plan.specs.Plan.{plan_of}
 use Rattle.plan.specs.Read.{rounds_at, read_plan, plan_right}
-use Rattle.plan.proofs.Planning.{chained}
-use Rattle.plan_reader.specs.Reading.{stop_count, ReadRight}
-use Rattle.plan_reasons.specs.Reasons.{with_reasons}
-use Rattle.plan_reasons.specs.Copying.{copied_reason, Copied}
+use Rattle.plan_reader.specs.Reading.{stop_count}
 use Rattle.plan_door.specs.Door.{door_refusal, unless_refused, LetIn, EntryAs}
 use Rattle.plan_door.specs.Laws.Door.{door_room, door_fits, door_accepted, door_one}
 use Rattle.plan_door.specs.declared.Entry.{Entry}
@@ -79,48 +73,6 @@ module _ (s plan lent : List ℕ) where
       pub limit_fits : length lent ≡ plan_length s
       limit_fits = eqb-true (length lent) (length plan) (door_fits s plan room true let_in.free) ∙ (door_accepted s plan room true let_in.free).1
 
-      pub limit_reads : ReadRight s plan stops ends vehicles n
-      limit_reads = let_in.read
-
-      pub limit_planned : length plan ≡ plan_length s
-      limit_planned = (door_accepted s plan room true let_in.free).1
-
-      pub limit_few : rows_of s ≤ 101
-      limit_few = let_in.sheet.sized.rows
-
-      pub limit_done : (greatest : ℕ) (out : List ℕ) → out ≡ limited_plan s plan greatest → LimitDone s plan greatest lent 0 out
-      limit_done greatest out w = let none : limit_refusal s plan (length lent) ≡ 0 = sym door_limit ∙ let_in.free in record { number = sym none; bytes = rw (none, w) }
-
--- ---- the reasons
--- reasons that agree on the rows are the same
-same_reasons : (s : List ℕ) (f g : ℕ → ℕ) (rows plan : List ℕ) → Every (λ (row : ℕ). f row ≡ g row) rows → with_reasons s f rows plan ≡ with_reasons s g rows plan
-unfolding with_reasons
-same_reasons s f g [] plan e = refl
-same_reasons s f g (row ∷ rows) plan e = rw e.0 (same_reasons s f g rows _ e.1)
-
--- the stops that tables set aside are rows
-aside_row : (s stops ends vehicles : List ℕ) (n total : ℕ) → Tables s stops ends vehicles n total → (k : ℕ) → k < length (outcome_in stops ends vehicles n total).aside → get_or (outcome_in stops ends vehicles n total).aside k 0 < rows_of s
-unfolding outcome_in
-aside_row s stops ends vehicles n total ok k h = (chained s stops ends vehicles n total ok (start_in ends n) refl).row k h
-
--- the plan out, from the tables before and after
-pub read_out : (s plan stops ends vehicles : List ℕ) (n greatest : ℕ) → ReadRight s plan stops ends vehicles n → (why : List ℕ) → rows_of s ≤ length why → Copied s plan (read_plan s plan).aside why
-    → (total : ℕ) → total ≡ stop_count s → (stops' ends' vehicles' : List ℕ) (left : ℕ) → Tables s stops' ends' vehicles' left total
-    → outcome_in stops' ends' vehicles' left total ≡ limit_routes s greatest (outcome_in stops ends vehicles n total)
-    → (out : List ℕ) → out ≡ with_reasons s (λ row. get_or why row 0) (outcome_in stops' ends' vehicles' left total).aside (plan_of s (outcome_in stops' ends' vehicles' left total) true)
-    → out ≡ limited_plan s plan greatest
-unfolding limited_plan
-read_out s plan stops ends vehicles n greatest r why fits copied total all stops' ends' vehicles' left ok f out w =
-    let o = outcome_in stops' ends' vehicles' left total in
-    let told = copied_reason s plan (read_plan s plan).aside in
-    let same : o ≡ limit_routes s greatest (read_plan s plan) = f ∙ rw all (ap (limit_routes s greatest) r.outcome) in
-    w
-    ∙ same_reasons s (λ row. get_or why row 0) told o.aside (plan_of s o true)
-    (every_of (λ (row : ℕ). get_or why row 0 ≡ told row) 0 o.aside (λ k h. copied (get_or o.aside k 0) (omega (arith, fits, aside_row s stops' ends' vehicles' left total ok k h))))
-    ∙ ap (λ (p : Outcome). with_reasons s told p.aside (plan_of s p true)) same
-
--- the reasons kept, of the stops set aside as the tables have them
-pub aside_copied : (s plan stops ends vehicles : List ℕ) (n : ℕ) → ReadRight s plan stops ends vehicles n → (start total : ℕ) → start ≡ start_in ends n → total ≡ stop_count s
-    → (why : List ℕ) → Copied s plan (take (total - start) (drop start stops)) why → Copied s plan (read_plan s plan).aside why
-unfolding outcome_in
-aside_copied s plan stops ends vehicles n r start total from all why c row h = c row h ∙ rw (from, all) (ap (λ (o : Outcome). copied_reason s plan o.aside row) r.outcome)
+      pub limit_done : (greatest : ℕ) (out : List ℕ) → out ≡ plan_of s (limit_routes s greatest (outcome_in stops ends vehicles n (stop_count s))) true → LimitDone s plan greatest lent 0 out
+      unfolding limited_plan
+      limit_done greatest out w = let none : limit_refusal s plan (length lent) ≡ 0 = sym door_limit ∙ let_in.free in record { number = sym none; bytes = rw (none, w, let_in.read.outcome) }

@@ -4,8 +4,6 @@ use Rattle.sheet.specs.Fields.{most_rows}
 use Rattle.sheet.specs.Refusal.{lengths_right}
 use Rattle.plan.specs.Plan.{plan_of}
 use Rattle.plan.specs.Read.{read_plan}
-use Rattle.plan_reasons.specs.Reasons.{with_reasons}
-use Rattle.plan_reasons.specs.Copying.{copied_reason, AllDropped}
 use Rattle.plan_door.specs.Door.{door_refusal, unless_refused}
 use Rattle.fleet.specs.Limit.{limit_routes}
 
@@ -13,21 +11,17 @@ use Rattle.fleet.specs.Limit.{limit_routes}
 unfoldable pub limit_refusal : List ℕ → List ℕ → ℕ → ℕ
 limit_refusal s plan room = door_refusal s plan (lengths_right s room) true
 
--- the plan out, its figures by `build_route` and its cost by `price`; always priced. "The limiter gives 8 to every stop it drops and copies the reason of earlier ones"
+-- the plan out, its figures by `build_route` and its cost by `price`; always priced
 unfoldable pub limited_plan : List ℕ → List ℕ → ℕ → List ℕ
-limited_plan s plan greatest =
-    let o = limit_routes s greatest (read_plan s plan) in
-    with_reasons s (copied_reason s plan (read_plan s plan).aside) o.aside (plan_of s o true)
+limited_plan s plan greatest = plan_of s (limit_routes s greatest (read_plan s plan)) true
 
 -- tables with room for every row
-pub record LimitTables (stops ends vehicles marks trial why : List ℕ) : Type 0 where
+pub record LimitTables (stops ends vehicles marks trial : List ℕ) : Type 0 where
   pub stopped : most_rows ≤ length stops
   pub ended : most_rows ≤ length ends
   pub driven : most_rows ≤ length vehicles
   pub marked : most_rows ≤ length marks
   pub tried : most_rows ≤ length trial
-  pub reasoned : most_rows ≤ length why
-  pub dropped : AllDropped why
 
 -- a refusal, or the plan out
 pub record LimitDone (s plan : List ℕ) (greatest : ℕ) (lent : List ℕ) (r : ℕ) (out : List ℕ) : Type 0 where

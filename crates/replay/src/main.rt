@@ -19,7 +19,6 @@ fn replay_record() -> bool {
         2 => replay_plans::replay_limit(),
         3 => kinds::replay_import(),
         4 => replay_plans::replay_bill(),
-        5 => replay_deals::replay_deal(),
         other => line::stop_at_unknown(other),
     }
 }

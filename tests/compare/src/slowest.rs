@@ -174,13 +174,11 @@ fn kept(mut slowest: Call, file: &Path) -> io::Result<ExitCode> {
     let seconds = least(&mut [&mut slowest], LAST)[0];
     let Call { sheet, limit, bytes, plan_in, plan } = slowest;
     let began = processor_time();
-    let made = match &limit {
-        None => reference::plan_by_rust(METHODS, &bytes),
+    let right = match &limit {
+        None => reference::plan(METHODS, &bytes),
         Some(limit) => reference::limit(&bytes, &plan_in, limit.greatest),
     };
-    let rust = processor_time() - began;
-    let right = if limit.is_some() { made } else { reference::plan(METHODS, &bytes) };
-    let same = right == Ok(plan);
+    let (same, rust) = (right == Ok(plan), processor_time() - began);
     println!(
         "slowest: {}, {} rows, {} depots: {:.3} ms, the Rust {:.3} ms; {}",
         limit.as_ref().map_or(format!("method {}", sheet.method), Limit::told),

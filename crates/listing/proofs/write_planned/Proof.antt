@@ -4,7 +4,6 @@ use Rattle.sheet.specs.Laws.Accepted.{accepted}
 use Rattle.planner.specs.Laws.Promised.{number_is, bytes_are}
 use Rattle.listing.specs.Laws.Answer.{answer_listed, answer_refused}
 use borrow.Author.Rules.{rules}
-use Rattle.plan_door.specs.Laws.Told.{taken_right}
 use Rattle.listing.proofs.write_planned.Statement.{statement}
 use Rattle.listing.proofs.write_planned.Tie as tie
 
@@ -27,7 +26,7 @@ write-listing-requires : tie.Need-write-listing-requires
 write-listing-requires c κs = let a = c.before.before.before.before.before.before.before.before.before.before.args in
     let p = c.before.before.before.before.before.plan-rounds in
     let ok = accepted a.sheet.now _ (sym (p.ensures.0.number ∙ number_is a.sheet.now _) ∙ c.before.before.if1.false) in
-    (record { sized = ok.0.sized; rows = c.before.before.before.before.before.before.before.before.before.before.requires.1; long = p.auto.1.0 ∙ ok.1; right = taken_right _ _ (p.ensures.1.0 c.before.before.if1.false).right }, c.before.before.before.before.before.before.before.before.before.before.requires.0)
+    (record { sized = ok.0.sized; rows = c.before.before.before.before.before.before.before.before.before.before.requires.1; long = p.auto.1.0 ∙ ok.1; right = (p.ensures.1.0 c.before.before.if1.false).right }, c.before.before.before.before.before.before.before.before.before.before.requires.0)
 
 same-length-3 : tie.Need-same-length-3
 same-length-3 c = search rules

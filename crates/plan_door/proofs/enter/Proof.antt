@@ -1,8 +1,6 @@
 -- `plan_door::enter` meets its contract. Assumes nothing.
-use mathlib.Core.Path.{sym, ◌∙◌}
+use Rattle.plan_door.proofs.Opening.{door_refused, door_reads, door_wrong, door_right, read_wrong, read_right}
 use borrow.Author.Rules.{rules}
-use borrow.Author.Tests.{not-true, not-false}
-use Rattle.plan_door.proofs.Opening.{door_refused, door_planned, door_reads, door_wrong, door_unreasoned, door_right, read_wrong, read_right}
 use Rattle.plan_door.proofs.enter.Statement.{statement}
 use Rattle.plan_door.proofs.enter.Tie as tie
 
@@ -33,9 +31,6 @@ same-length-3 c = search rules
 returns_2 : tie.Need-returns-2
 returns_2 c = door_wrong _ _ _ _ _ c.before.before.before.before.before.before.before.before.before.before.before.before.before.unread-refusal.ensures c.before.before.before.before.before.before.before.before.before.before.before.before.if1.false (read_wrong _ _ _ _ _ _ c.before.before.before.before.before.before.before.before.read-plan.ensures c.enum_told.given.1)
 
-reasons-taken-requires : tie.Need-reasons-taken-requires
-reasons-taken-requires c κs = ((_, read_right _ _ _ _ _ _ _ c.before.before.before.before.before.before.before.before.before.before.before.read-plan.ensures c.before.before.before.rounds.given.1), door_planned _ c.before.before.before.before.before.before.before.before.before.before.before.before.before.before.before.before.before.before.before.before.before.before.args.plan.now _ _ _ c.before.before.before.before.before.before.before.before.before.before.before.before.before.before.before.before.unread-refusal.ensures c.before.before.before.before.before.before.before.before.before.before.before.before.before.before.before.if1.false)
-
 same-length-4 : tie.Need-same-length-4
 same-length-4 c = search rules
 
@@ -46,19 +41,7 @@ same-length-6 : tie.Need-same-length-6
 same-length-6 c = search rules
 
 returns-3 : tie.Need-returns-3
-returns-3 c = door_unreasoned _ _ _ _ _ c.before.before.before.before.before.before.before.before.before.before.before.before.before.before.before.before.before.before.unread-refusal.ensures c.before.before.before.before.before.before.before.before.before.before.before.before.before.before.before.before.before.if1.false _ _ _ _ (read_right _ _ _ _ _ _ _ c.before.before.before.before.before.before.before.before.before.before.before.before.before.read-plan.ensures c.before.before.before.before.before.rounds.given.1) (sym c.before.reasons-taken.ensures ∙ not-true _ c.if2.true)
-
-same-length-7 : tie.Need-same-length-7
-same-length-7 c = search rules
-
-same-length-8 : tie.Need-same-length-8
-same-length-8 c = search rules
-
-same-length-9 : tie.Need-same-length-9
-same-length-9 c = search rules
-
-returns-4 : tie.Need-returns-4
-returns-4 c = door_right _ _ _ _ _ c.before.before.before.before.before.before.before.before.before.before.before.before.before.before.before.before.before.before.unread-refusal.ensures c.before.before.before.before.before.before.before.before.before.before.before.before.before.before.before.before.before.if1.false _ _ _ _ (read_right _ _ _ _ _ _ _ c.before.before.before.before.before.before.before.before.before.before.before.before.before.read-plan.ensures c.before.before.before.before.before.rounds.given.1) (sym c.before.reasons-taken.ensures ∙ not-false _ c.if2.false)
+returns-3 c = door_right _ _ _ _ _ c.before.before.before.before.before.before.before.before.before.before.before.before.before.before.unread-refusal.ensures c.before.before.before.before.before.before.before.before.before.before.before.before.before.if1.false _ _ _ _ (read_right _ _ _ _ _ _ _ c.before.before.before.before.before.before.before.before.before.read-plan.ensures c.before.rounds.given.1)
 
 pub enter_spec : {M : Type 1} → statement M
 enter_spec =
@@ -73,12 +56,7 @@ enter_spec =
     same_length_2
     same-length-3
     returns_2
-    reasons-taken-requires
     same-length-4
     same-length-5
     same-length-6
-    returns-3
-    same-length-7
-    same-length-8
-    same-length-9
-    returns-4)
+    returns-3)

@@ -1,18 +1,17 @@
 -- What is so of a sheet and a plan that the door lets in, and when the further buffer does not count. Assumes nothing.
-use Rattle.std.specs.Prelude.{◌≡◌, Bool, not, ◌&&◌, ◌||◌, List, eqb, length}
+use Rattle.std.specs.Prelude.{◌≡◌, Bool, not, ◌&&◌, ◌||◌, List, length}
 use Rattle.std.proofs.Math.Path.{refl}
-use Rattle.std.proofs.Common.{sym, arith, true≢false, leb-true, eqb-true}
-use Prim.Native.Nat.{ℕ, zero, suc, ◌≤◌}
+use Rattle.std.proofs.Common.{sym, arith, true≢false, leb-true}
+use Prim.Native.Nat.{ℕ, zero, suc}
 use Rattle.std.proofs.Math.Bool.{true, false}
-use Rattle.sheet.specs.Fields.{sheet_length, plan_length}
+use Rattle.sheet.specs.Fields.{plan_length}
 use Rattle.sheet.specs.Depots.{depots_of}
 use Rattle.sheet.specs.Refusal.{header_right, counts_right, method_right, lengths_right, unless, contents, refusal_of}
 use Rattle.sheet.specs.Accepted.{Accepted}
 use Rattle.sheet.specs.Laws.Accepted.{accepted}
 use Rattle.sheet.specs.Laws.Stops.{depots_some}
-use Rattle.plan.specs.Read.{read_plan, plan_right}
-use Rattle.plan_reasons.specs.Reasons.{reasons_right}
-use Rattle.plan_door.specs.Door.{or_else, one_depot, unread_refusal, plan_taken, door_refusal}
+use Rattle.plan.specs.Read.{plan_right}
+use Rattle.plan_door.specs.Door.{or_else, one_depot, unread_refusal, door_refusal}
 
 -- the further buffer is looked at only beside a sheet and a plan of their lengths
 pub door_room : (s plan : List ℕ) (a b one : Bool) → (lengths_right s (length plan) ≡ true → a ≡ b) → door_refusal s plan a one ≡ door_refusal s plan b one
@@ -20,24 +19,10 @@ unfolding door_refusal unread_refusal
 door_room s plan a b one = go (lengths_right s (length plan))
   where
     go : (d : Bool) → (d ≡ true → a ≡ b)
-        → or_else (unless (header_right s) 1 (unless (counts_right s) 2 (unless (method_right s) 3 (unless (d && a) 4 (or_else (contents s) (unless (not one || one_depot s) 9 0)))))) (unless (plan_taken s plan) 10 0)
-        ≡ or_else (unless (header_right s) 1 (unless (counts_right s) 2 (unless (method_right s) 3 (unless (d && b) 4 (or_else (contents s) (unless (not one || one_depot s) 9 0)))))) (unless (plan_taken s plan) 10 0)
+        → or_else (unless (header_right s) 1 (unless (counts_right s) 2 (unless (method_right s) 3 (unless (d && a) 4 (or_else (contents s) (unless (not one || one_depot s) 9 0)))))) (unless (plan_right s plan) 10 0)
+        ≡ or_else (unless (header_right s) 1 (unless (counts_right s) 2 (unless (method_right s) 3 (unless (d && b) 4 (or_else (contents s) (unless (not one || one_depot s) 9 0)))))) (unless (plan_right s plan) 10 0)
     go true h = rw (h refl)
     go false h = refl
-
--- a plan of its length has a count of rounds
-counted : (s : List ℕ) (m : ℕ) → lengths_right s m ≡ true → 2 ≤ m
-unfolding lengths_right
-counted s m e = go (eqb (length s) (sheet_length s)) (eqb m (plan_length s)) refl e
-  where
-    go : (a b : Bool) → eqb m (plan_length s) ≡ b → a && b ≡ true → 2 ≤ m
-    go false b f g = absurd (true≢false (sym g))
-    go true false f g = absurd (true≢false (sym g))
-    go true true f g = omega (arith, eqb-true m (plan_length s) f)
-
--- so a further buffer whose length goes by that count is looked at only where there is one
-pub door_counted : (s plan : List ℕ) (a b one : Bool) → (2 ≤ length plan → a ≡ b) → door_refusal s plan a one ≡ door_refusal s plan b one
-door_counted s plan a b one h = door_room s plan a b one (λ e. h (counted s (length plan) e))
 
 -- nothing is told
 pub record Open (s : List ℕ) (m : ℕ) (room one : Bool) : Type 0 where
@@ -61,7 +46,7 @@ unread_open s m room one t = let o = go (header_right s) (counts_right s) (metho
     go true true true true true zero true t = (refl, (refl, refl))
 
 -- the other way: so much is enough
-pub open_door : (s plan : List ℕ) (one : Bool) → refusal_of s (length plan) ≡ 0 → (not one || one_depot s) ≡ true → plan_taken s plan ≡ true → door_refusal s plan true one ≡ 0
+pub open_door : (s plan : List ℕ) (one : Bool) → refusal_of s (length plan) ≡ 0 → (not one || one_depot s) ≡ true → plan_right s plan ≡ true → door_refusal s plan true one ≡ 0
 unfolding door_refusal unread_refusal refusal_of
 open_door s plan one t d p = rw p (go (header_right s) (counts_right s) (method_right s) (lengths_right s (length plan)) (contents s) t)
   where
@@ -79,7 +64,7 @@ module _ (s plan : List ℕ) (room one : Bool) (free : door_refusal s plan room 
   unfolding door_refusal
   door_unread = go (unread_refusal s (length plan) room one) free
     where
-      go : (n : ℕ) → or_else n (unless (plan_taken s plan) 10 0) ≡ 0 → n ≡ 0
+      go : (n : ℕ) → or_else n (unless (plan_right s plan) 10 0) ≡ 0 → n ≡ 0
       go zero t = refl
       go (suc n) t = t
 
@@ -92,27 +77,13 @@ module _ (s plan : List ℕ) (room one : Bool) (free : door_refusal s plan room 
   pub door_accepted : Accepted s × (length plan ≡ plan_length s)
   door_accepted = accepted s (length plan) door_open.sheet
 
-  pub door_taken : plan_taken s plan ≡ true
+  pub door_plan : plan_right s plan ≡ true
   unfolding door_refusal
-  door_taken = go (plan_taken s plan) (rw door_unread at free)
+  door_plan = go (plan_right s plan) (rw door_unread at free)
     where
       go : (b : Bool) → unless b 10 0 ≡ 0 → b ≡ true
       go true t = refl
       go false t = absurd (omega arith)
-
-  door_both : (plan_right s plan ≡ true) × (reasons_right s plan (read_plan s plan).aside ≡ true)
-  unfolding plan_taken
-  door_both = go (plan_right s plan) (reasons_right s plan (read_plan s plan).aside) door_taken
-    where
-      go : (a b : Bool) → a && b ≡ true → (a ≡ true) × (b ≡ true)
-      go true b e = (refl, e)
-      go false b e = absurd (true≢false (sym e))
-
-  pub door_plan : plan_right s plan ≡ true
-  door_plan = door_both.0
-
-  pub door_reasons : reasons_right s plan (read_plan s plan).aside ≡ true
-  door_reasons = door_both.1
 
   pub door_one : one ≡ true → depots_of s ≡ 1
   door_one e = go one e door_open.depots

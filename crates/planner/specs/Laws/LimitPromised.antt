@@ -1,13 +1,9 @@
 -- The limiter's plan out keeps what is promised: every stop once, few rounds, and each as it stood or feasible. Assumes nothing.
-use Rattle.std.specs.Prelude.{◌≡◌, ℕ, ◌≤◌, ◌<◌, List, T, leb, length, get_or, Bool, ◌&&◌}
-use Rattle.std.proofs.Math.Path.{refl}
-use Rattle.std.proofs.Common.{sym, ◌∙◌, subst, true≢false}
-use native.Mathlib.Omega.{arith}
+use Rattle.std.specs.Prelude.{◌≡◌, ℕ, ◌≤◌, ◌<◌, List, T, leb, length, get_or}
+use Rattle.std.proofs.Common.{◌∙◌, arith}
 use Rattle.std.proofs.Math.Dec.{leb→le}
 use Rattle.std.specs.Float.Ieee.Fits.{and_l, and_r}
-use Rattle.std.proofs.Math.Bool.{true, false, cond}
-use borrow.Author.Tests.{le-leb, lt-ltb, ltb-true}
-use Rattle.lists.specs.Count.{count, is_in}
+use borrow.Author.Tests.{le-leb, lt-ltb}
 use Rattle.lists.specs.Every.{Every}
 use Rattle.sheet.specs.Fields.{rows_of}
 use Rattle.sheet.specs.Depots.{depots_of}
@@ -15,11 +11,7 @@ use Rattle.sheet.specs.Accepted.{Accepted}
 use Rattle.constructive.specs.Right.{outcome_right}
 use Rattle.plan.specs.Plan.{plan_of}
 use Rattle.plan.specs.Read.{read_plan, rounds_at, plan_right}
-use Rattle.plan_reasons.specs.Reasons.{reason_at, reasons_right}
-use Rattle.plan_reasons.specs.Copying.{copied_reason}
-use Rattle.plan_reasons.specs.Laws.Reasons.{right_low}
-use Rattle.plan_door.specs.Door.{plan_taken}
-use Rattle.plan_door.specs.Laws.Told.{taken_right, told_back, told_taken}
+use Rattle.plan.specs.Laws.RoundTrip.{read_written, written_right}
 use Rattle.plan_figures.specs.Laws.Rounds.{rounds_long}
 use Rattle.fleet.specs.Limit.{limit_routes}
 use Rattle.fleet.specs.Laws.RoundCount.{limit_few, limit_no_more}
@@ -31,23 +23,7 @@ use Rattle.planner_limiting.specs.Limiting.{limited_plan}
 use Rattle.planner.specs.Answer.{Standing}
 use Rattle.planner.specs.Limited.{LeftAside}
 
-module _ (s plan : List ℕ) (greatest : ℕ) (fine : Accepted s) (small : (i : ℕ) → get_or s i 0 < 256) (taken : plan_taken s plan ≡ true) where
-  right : T (plan_right s plan)
-  right = taken_right s plan (subst T (sym taken) tt)
-
-  -- no reason is above 8
-  low : (row : ℕ) → copied_reason s plan (read_plan s plan).aside row ≤ 8
-  unfolding copied_reason plan_taken
-  low row = go (is_in row (read_plan s plan).aside) refl
-    where
-      go : (b : Bool) → is_in row (read_plan s plan).aside ≡ b → cond b (reason_at plan (rows_of s) row) 8 ≤ 8
-      go true e = right_low s plan (read_plan s plan).aside (both (plan_right s plan) (reasons_right s plan (read_plan s plan).aside) taken) row (ltb-true 0 (count row (read_plan s plan).aside) e)
-        where
-          both : (a b : Bool) → a && b ≡ true → b ≡ true
-          both true b e = e
-          both false b e = absurd (true≢false (sym e))
-      go false e = omega arith
-
+module _ (s plan : List ℕ) (greatest : ℕ) (fine : Accepted s) (small : (i : ℕ) → get_or s i 0 < 256) (right : T (plan_right s plan)) where
   before_right : T (outcome_right s (read_plan s plan))
   unfolding plan_right
   before_right = and_r (leb (rounds_at plan) (rows_of s)) (outcome_right s (read_plan s plan)) right
@@ -65,13 +41,13 @@ module _ (s plan : List ℕ) (greatest : ℕ) (fine : Accepted s) (small : (i : 
   -- reading the plan out gives its outcome back
   limited_back : read_plan s (limited_plan s plan greatest) ≡ limit_routes s greatest (read_plan s plan)
   unfolding limited_plan plan_of
-  limited_back = told_back s (limit_routes s greatest (read_plan s plan)) _ fine small after_few after_right (copied_reason s plan (read_plan s plan).aside)
+  limited_back = read_written s (limit_routes s greatest (read_plan s plan)) _ fine small after_few after_right
 
   pub limited_stands : Standing s (limited_plan s plan greatest)
   unfolding limited_plan plan_of
   limited_stands = record {
     each = λ i l h. rw limited_back (outcome_once s (limit_routes s greatest (read_plan s plan)) after_right i ∙ rw (le-leb (depots_of s) i l, lt-ltb i (rows_of s) h));
-    right = told_taken s (limit_routes s greatest (read_plan s plan)) _ fine small after_few after_right (copied_reason s plan (read_plan s plan).aside) low;
+    right = written_right s (limit_routes s greatest (read_plan s plan)) _ fine small after_few after_right;
   }
 
   pub limited_few : length (read_plan s (limited_plan s plan greatest)).rounds ≤ greatest

@@ -60,12 +60,12 @@ unfolding rows_of vehicles_of method_of times_of row_marks id_field depot_field 
 rest_missed f = (f refl whole_sheets.rest_at_nine.whole (λ e. omega (arith, e))).0.schedule
 
 -- ---- **alone**: both stops can make a round alone
-pub all_aside : Alone (sheet_a 1) 0 (both_aside 0) → ⊥
+pub all_aside : Alone (sheet_a 1) 0 both_aside → ⊥
 unfolding rows_of vehicles_of method_of times_of row_marks id_field depot_field vehicle_marks marked leading depots_of demand_of vehicle_of distance_of time_of rounds_at aside_at id_at first_stop_at next_at chain_from index_from rounds_from read_plan stop_n walk_n travel_n some_place lawful load_n keeps_capacity makes_round filtered fleet_of number bytes f64_at of_bits
 all_aside f = true≢false (f refl whole_sheets.of_sheet_a.whole refl refl).0
 
 -- "one reporting "no schedule" before walking": each stop needs a rest, and has one before it
-pub no_schedule_lem : Alone (sheet_at 1 twelve) 0 (both_aside 0) → ⊥
+pub no_schedule_lem : Alone (sheet_at 1 twelve) 0 both_aside → ⊥
 unfolding rows_of vehicles_of method_of times_of row_marks id_field depot_field vehicle_marks marked leading depots_of demand_of vehicle_of distance_of time_of rounds_at aside_at id_at first_stop_at next_at chain_from index_from rounds_from read_plan stop_n walk_n travel_n some_place lawful load_n keeps_capacity makes_round filtered fleet_of number bytes f64_at of_bits
 no_schedule_lem f = true≢false (f refl whole_sheets.rest_at_twelve.whole refl refl).0
 

@@ -61,10 +61,10 @@ joined_late f =
     (λ p. p.feasible) (f refl).0
 
 -- **aside**: stop 1 was set aside and is on a round; both are, in descending order
-pub taken_back : LimitAside (sheet_a 1) (two_alone 0) 0 one_two → ⊥
+pub taken_back : LimitAside (sheet_a 1) two_alone 0 one_two → ⊥
 unfolding rows_of rounds_at aside_at next_at chain_from rounds_from read_plan count number bytes
 taken_back f = let e = (f refl).stay 1 (omega arith) in omega (arith, e)
 
-pub aside_descending : LimitAside (sheet_a 1) (both_aside 0) 0 aside_two_one → ⊥
+pub aside_descending : LimitAside (sheet_a 1) both_aside 0 aside_two_one → ⊥
 unfolding rows_of rounds_at aside_at next_at chain_from rounds_from read_plan number bytes
 aside_descending f = let h = (f refl).ascending.0.0 in omega (arith, h)

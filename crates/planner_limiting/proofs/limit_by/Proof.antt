@@ -1,7 +1,6 @@
 -- `planner_limiting::limit_by` meets its contract. Assumes nothing.
-use native.Mathlib.Omega.{arith}
-use Rattle.planner_limiting.proofs.PlanOut.{limit_refused, limit_may, limit_reads, limit_planned, limit_fits, limit_few, limit_done}
 use borrow.Author.Rules.{rules}
+use Rattle.planner_limiting.proofs.PlanOut.{limit_refused, limit_may, limit_fits, limit_done}
 use Rattle.planner_limiting.proofs.limit_by.Statement.{statement}
 use Rattle.planner_limiting.proofs.limit_by.Tie as tie
 
@@ -15,10 +14,7 @@ enum-known-entry-2 : tie.Need-enum-known-entry-2
 enum-known-entry-2 c = search rules
 
 limit-read-requires : tie.Need-limit-read-requires
-limit-read-requires c κs = (
-  limit_may _ _ c.before.before.before.before.before.before.before.before.before.before.before.before.before.before.before.before.before.before.before.before.before.before.before.before.before.before.before.before.before.args.plan-out.now _ _ _ c.before.before.before.before.before.before.before.before.before.before.before.before.before.before.before.before.enter.result c.before.before.before.before.before.before.before.before.before.before.before.before.before.before.before.before.enter.ensures _ c.before.before.before.before.before.before.before.before.entry2.given.1 _ _ c.before.before.before.before.before.before.before.before.before.before.before.before.before.before.before.before.before.before.before.before.before.before.before.before.before.before.before.before.before.requires.marked c.before.before.before.before.before.before.before.before.before.before.before.before.before.before.before.before.before.before.before.before.before.before.before.before.before.before.before.before.before.requires.tried,
-  (limit_reads _ _ c.before.before.before.before.before.before.before.before.before.before.before.before.before.before.before.before.before.before.before.before.before.before.before.before.before.before.before.before.before.args.plan-out.now _ _ _ c.before.before.before.before.before.before.before.before.before.before.before.before.before.before.before.before.enter.result c.before.before.before.before.before.before.before.before.before.before.before.before.before.before.before.before.enter.ensures _ c.before.before.before.before.before.before.before.before.entry2.given.1, ((limit_planned _ _ c.before.before.before.before.before.before.before.before.before.before.before.before.before.before.before.before.before.before.before.before.before.before.before.before.before.before.before.before.before.args.plan-out.now _ _ _ c.before.before.before.before.before.before.before.before.before.before.before.before.before.before.before.before.enter.result c.before.before.before.before.before.before.before.before.before.before.before.before.before.before.before.before.enter.ensures _ c.before.before.before.before.before.before.before.before.entry2.given.1, limit_fits _ _ c.before.before.before.before.before.before.before.before.before.before.before.before.before.before.before.before.before.before.before.before.before.before.before.before.before.before.before.before.before.args.plan-out.now _ _ _ c.before.before.before.before.before.before.before.before.before.before.before.before.before.before.before.before.enter.result c.before.before.before.before.before.before.before.before.before.before.before.before.before.before.before.before.enter.ensures _ c.before.before.before.before.before.before.before.before.entry2.given.1), (omega (arith, limit_few _ _ c.before.before.before.before.before.before.before.before.before.before.before.before.before.before.before.before.before.before.before.before.before.before.before.before.before.before.before.before.before.args.plan-out.now _ _ _ c.before.before.before.before.before.before.before.before.before.before.before.before.before.before.before.before.enter.result c.before.before.before.before.before.before.before.before.before.before.before.before.before.before.before.before.enter.ensures _ c.before.before.before.before.before.before.before.before.entry2.given.1, c.before.before.before.before.before.before.before.before.before.before.before.before.before.before.before.before.before.before.before.before.before.before.before.before.before.before.before.before.before.requires.reasoned), c.before.before.before.before.before.before.before.before.before.before.before.before.before.before.before.before.before.before.before.before.before.before.before.before.before.before.before.before.before.requires.dropped))),
-)
+limit-read-requires c κs = (limit_may _ _ c.before.before.before.before.before.before.before.before.before.before.before.before.before.before.before.before.before.before.before.before.before.before.before.before.before.before.before.args.plan-out.now _ _ _ c.before.before.before.before.before.before.before.before.before.before.before.before.before.before.before.enter.result c.before.before.before.before.before.before.before.before.before.before.before.before.before.before.before.enter.ensures _ c.before.before.before.before.before.before.before.entry2.given.1 _ _ c.before.before.before.before.before.before.before.before.before.before.before.before.before.before.before.before.before.before.before.before.before.before.before.before.before.before.before.requires.marked c.before.before.before.before.before.before.before.before.before.before.before.before.before.before.before.before.before.before.before.before.before.before.before.before.before.before.before.requires.tried, limit_fits _ _ c.before.before.before.before.before.before.before.before.before.before.before.before.before.before.before.before.before.before.before.before.before.before.before.before.before.before.before.args.plan-out.now _ _ _ c.before.before.before.before.before.before.before.before.before.before.before.before.before.before.before.enter.result c.before.before.before.before.before.before.before.before.before.before.before.before.before.before.before.enter.ensures _ c.before.before.before.before.before.before.before.entry2.given.1)
 
 same_length : tie.Need-same-length
 same_length c = search rules
@@ -30,7 +26,7 @@ same-length-3 : tie.Need-same-length-3
 same-length-3 c = search rules
 
 returns : tie.Need-returns
-returns c = limit_refused _ _ c.before.before.before.before.before.before.before.before.before.before.before.before.before.before.before.before.before.before.before.before.before.before.args.plan-out.now _ _ _ c.before.before.before.before.before.before.before.before.before.enter.result c.before.before.before.before.before.before.before.before.before.enter.ensures _ _ c.before.entry.given.1
+returns c = limit_refused _ _ _ _ _ _ _ c.before.before.before.before.before.before.before.before.before.enter.ensures _ _ c.before.entry.given.1
 
 same-length-4 : tie.Need-same-length-4
 same-length-4 c = search rules
@@ -50,11 +46,8 @@ same-length-8 c = search rules
 same-length-9 : tie.Need-same-length-9
 same-length-9 c = search rules
 
-same-length-10 : tie.Need-same-length-10
-same-length-10 c = search rules
-
 returns_2 : tie.Need-returns-2
-returns_2 c = limit_done _ _ c.before.before.before.before.before.before.before.before.before.before.before.before.before.before.before.before.before.before.before.before.before.before.before.before.before.before.before.before.before.before.before.before.before.before.before.before.before.before.before.before.before.before.before.before.args.plan-out.now _ _ _ c.before.before.before.before.before.before.before.before.before.before.before.before.before.before.before.before.before.before.before.before.before.before.before.before.before.before.before.before.before.before.before.enter.result c.before.before.before.before.before.before.before.before.before.before.before.before.before.before.before.before.before.before.before.before.before.before.before.before.before.before.before.before.before.before.before.enter.ensures _ c.before.before.before.before.before.before.before.before.before.before.before.before.before.before.before.before.before.before.before.before.before.before.before.entry2.given.1 _ _ c.before.before.before.before.before.before.before.before.before.before.before.before.before.before.limit-read.ensures
+returns_2 c = limit_done _ _ _ _ _ _ _ c.before.before.before.before.before.before.before.before.before.before.before.before.before.before.before.before.before.before.before.before.before.before.before.before.before.before.before.before.enter.ensures _ c.before.before.before.before.before.before.before.before.before.before.before.before.before.before.before.before.before.before.before.before.entry2.given.1 _ _ c.before.before.before.before.before.before.before.before.before.before.before.before.limit-read.ensures
 
 pub limit-by-spec : {M : Type 1} → statement M
 limit-by-spec =
@@ -74,5 +67,4 @@ limit-by-spec =
     same-length-7
     same-length-8
     same-length-9
-    same-length-10
     returns_2)

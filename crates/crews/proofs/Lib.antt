@@ -1,4 +1,0 @@
-pub mod Least
-pub mod Numbering
-pub mod Ranking
-pub mod Dealing

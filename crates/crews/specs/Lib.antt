@@ -1,5 +1,0 @@
-pub mod Deal
-pub mod Fair
-pub mod Asked
-pub mod Dealing
-pub mod Laws

@@ -1,3 +1,0 @@
-pub mod Giving
-pub mod Judging
-pub mod Copying

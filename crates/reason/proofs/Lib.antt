@@ -1,3 +1,0 @@
-pub mod Alone
-pub mod Trying
-pub mod Making

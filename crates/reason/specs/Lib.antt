@@ -1,3 +1,0 @@
-pub mod Reason
-pub mod Asked
-pub mod Laws

@@ -1,5 +1,0 @@
-pub mod Aside
-pub mod Lone
-pub mod Seven
-pub mod Plain
-pub mod Unlawful

@@ -1,0 +1,221 @@
+//! Calls for a bill, by flavour: plans that are planned and limited, plans dealt at random and fitted
+//! to begun units, damaged plans, and whatever else is turned back.
+//!
+//! A call depends on the seed, its number and the plans of its makers alone, so that each can be made
+//! again.
+
+use crate::bill_fits::{enlarge, fit_round, fit_units, overcharge, tariff};
+use crate::billing::{bill_len, Tariff};
+use crate::damage::{Base, Values};
+use crate::fit::Round;
+use crate::flavours::{any_sheet, drawn_at_home, drawn_with_due, MOST_LENT};
+use crate::generate::sheet_of;
+use crate::limit_calls::{close_depots, dealt, lone};
+use crate::limiting::rounds;
+use crate::plan::{chains, encode_chains, plan_len, Chains};
+use crate::plan_damage::{damage_plan, fill_unread, link_depot, DAMAGES};
+use crate::random::Random;
+use crate::reference::Problem;
+use crate::refusal::{refusal, METHODS, MOST_ROWS};
+use crate::sheet::{Sheet, DEPOT, HEADER};
+
+/// One call for a bill.
+#[derive(Clone)]
+pub struct Call {
+    pub flavour: usize,
+    pub sheet: Vec<u8>,
+    pub plan: Vec<u8>,
+    pub tariff: Tariff,
+    pub bill_len: usize,
+}
+
+/// Who plans a sheet, and who brings a plan within a number of rounds.
+pub struct Makers {
+    pub plan: fn(&[u8]) -> Vec<u8>,
+    pub limit: fn(&[u8], &[u8], u32) -> Vec<u8>,
+}
+
+/// Each with its share. The damages of a plan come first; the tiny plans are not drawn but counted
+/// through.
+pub const FLAVOURS: [(&str, usize); 18] = [
+    (DAMAGES[0], 3),
+    (DAMAGES[1], 3),
+    (DAMAGES[2], 3),
+    (DAMAGES[3], 3),
+    (DAMAGES[4], 3),
+    (DAMAGES[5], 3),
+    (DAMAGES[6], 3),
+    (DAMAGES[7], 3),
+    (DAMAGES[8], 3),
+    ("damaged: a link to a depot", 5),
+    ("planned", 40),
+    ("limited", 24),
+    ("dealt, fitted", 40),
+    ("dealt, fitted to units", 60),
+    ("amounts", 12),
+    ("lengths", 14),
+    ("refused", 24),
+    ("tiny", 0),
+];
+const DEPOT_LINK: usize = 9;
+pub const PLANNED: usize = 10;
+const LIMITED: usize = 11;
+const FITTED: usize = 12;
+const UNITS: usize = 13;
+const AMOUNTS: usize = 14;
+const LENGTHS: usize = 15;
+const REFUSED: usize = 16;
+pub const TINY: usize = 17;
+
+/// One sheet in so many has as many rows as there may be.
+const LARGE: usize = 500;
+/// Numbers of rounds whose bill's length, in 16 bits, is 0.
+const WRAPPED: [u16; 2] = [u16::MAX, 8191];
+
+/// The call of a number.
+pub fn call(seed: u64, number: usize, makers: &Makers) -> Call {
+    let random = &mut Random::numbered(seed, number);
+    let flavour = random.by_share(FLAVOURS.iter().map(|(_, share)| *share));
+    let mut sheet = sheet(flavour, random);
+    let (mut bytes, plan) = match flavour {
+        PLANNED => made((makers.plan)(&sheet.encode()), &sheet),
+        LIMITED => {
+            let given = dealt(&sheet, random);
+            let count = given.rounds.len();
+            let greatest = if random.one_in(2) { count } else { random.below(count + 1) };
+            let given = encode_chains(sheet.rows.len(), &given);
+            made((makers.limit)(&sheet.encode(), &given, greatest as u32), &sheet)
+        }
+        _ => dealt_bytes(flavour, &mut sheet, random),
+    };
+    let tariff = tariff(&sheet, &with_stops(&sheet, &plan), random);
+    match flavour {
+        DEPOT_LINK => link_depot(&mut bytes, &sheet, &plan, random),
+        REFUSED if random.one_in(3) => {
+            damage_plan(&mut bytes, &sheet, &plan, random.below(DAMAGES.len()), random);
+        }
+        damage if damage < DAMAGES.len() => {
+            damage_plan(&mut bytes, &sheet, &plan, damage, random);
+        }
+        _ => (),
+    }
+    let bill_len = bill_len(&bytes);
+    let mut call = Call { flavour, sheet: sheet.encode(), plan: bytes, tariff, bill_len };
+    call.turn_wrong(sheet, random);
+    call
+}
+
+/// A sheet that is not refused.
+fn sheet(flavour: usize, random: &mut Random) -> Sheet {
+    let mut drawn = || match random.below(4) {
+        _ if random.one_in(LARGE) => sheet_of(random, MOST_ROWS, 3),
+        0 => Sheet::decode(&drawn_with_due(random.bits(), 0).sheet),
+        1 => Sheet::decode(&drawn_at_home(random.bits(), 0).sheet),
+        _ => any_sheet(METHODS, random),
+    };
+    let is_accepted = |sheet: &Sheet| refusal(&sheet.encode(), plan_len(sheet.rows.len())) == 0;
+    let mut sheet = drawn();
+    while !is_accepted(&sheet) {
+        sheet = drawn();
+    }
+    enlarge(&mut sheet, random);
+    match flavour {
+        DEPOT_LINK => sheet.rows.iter_mut().take(2).for_each(|row| row.marks |= DEPOT),
+        LIMITED => close_depots(&mut sheet),
+        _ => (),
+    }
+    sheet
+}
+
+fn made(plan: Vec<u8>, sheet: &Sheet) -> (Vec<u8>, Chains) {
+    let chains = chains(&plan, sheet).expect("a plan has each stop once");
+    (plan, chains)
+}
+
+/// A plan that no one made, to some rounds of which the sheet is fitted.
+fn dealt_bytes(flavour: usize, sheet: &mut Sheet, random: &mut Random) -> (Vec<u8>, Chains) {
+    let plan = if random.one_in(4) { lone(sheet, random) } else { dealt(sheet, random) };
+    let rounds = with_stops(sheet, &plan);
+    let fit = if flavour == UNITS { fit_units } else { fit_round };
+    if matches!(flavour, FITTED | UNITS) && !rounds.is_empty() {
+        for _ in 0..1 + random.below(3) {
+            fit(sheet, &rounds[random.below(rounds.len())], random);
+        }
+    }
+    let mut bytes = encode_chains(sheet.rows.len(), &plan);
+    if random.one_in(2) {
+        fill_unread(&mut bytes, &plan, sheet.rows.len(), random);
+    }
+    (bytes, plan)
+}
+
+/// The rounds that are not empty.
+fn with_stops(sheet: &Sheet, plan: &Chains) -> Vec<Round> {
+    let mut rounds = rounds(&Problem::held(sheet), plan);
+    rounds.retain(|round| !round.stops.is_empty());
+    rounds
+}
+
+impl Call {
+    /// Makes wrong what a flavour is about; a length or an amount at times in the others that are
+    /// refused too, where the first refusal has to answer.
+    fn turn_wrong(&mut self, sheet: Sheet, random: &mut Random) {
+        let at_times = matches!(self.flavour, ..PLANNED | AMOUNTS | LENGTHS | REFUSED);
+        let rows = sheet.rows.len();
+        if self.flavour == REFUSED {
+            self.refuse(sheet, random);
+        }
+        if self.flavour == LENGTHS {
+            self.stretch(rows, random);
+        } else if at_times && random.one_in(5) {
+            self.stretch_bill(rows, random);
+        }
+        if self.flavour == AMOUNTS || (at_times && random.one_in(5)) {
+            overcharge(&mut self.tariff, random);
+        }
+    }
+
+    /// A sheet with damages, with a wrong header or without a vehicle.
+    fn refuse(&mut self, mut sheet: Sheet, random: &mut Random) {
+        match random.below(8) {
+            0 => {
+                sheet.vehicles.clear();
+                self.sheet = sheet.encode();
+            }
+            1 => self.sheet[random.pick(&[0, 2, 4, 4, 5, HEADER - 1])] = u8::MAX,
+            _ => {
+                let case = Base::new(&sheet).damaged(&Values::all(), random);
+                self.sheet = case.sheet;
+                self.plan.resize(case.plan_len % MOST_LENT, 0);
+            }
+        }
+    }
+
+    /// Lengths that are wrong, most often the bill's alone.
+    fn stretch(&mut self, rows: usize, random: &mut Random) {
+        let which = random.below(8);
+        if which == 0 {
+            self.plan[..2].copy_from_slice(&random.pick(&WRAPPED).to_le_bytes());
+            self.bill_len = 0;
+            return;
+        }
+        if which == 1 || which == 2 {
+            let len = self.plan.len();
+            self.plan.resize(random.pick(&[0, 1, 2, len - 1, len + 1, len - 16, len + 80]), 0);
+        }
+        if which == 2 || which == 3 {
+            let len = self.sheet.len();
+            self.sheet.resize(random.pick(&[len - 1, len + 1, len - 8, len + 8, len / 2]), 0);
+        }
+        if which > 3 {
+            self.stretch_bill(rows, random);
+        }
+    }
+
+    fn stretch_bill(&mut self, rows: usize, random: &mut Random) {
+        let (len, of_rows) = (self.bill_len, 8 * (rows + 1));
+        let beside = [len - 8, len - 1, len + 1, len + 8];
+        let other = [0, 1, len / 2, 2 * len, of_rows, of_rows, self.plan.len()];
+        self.bill_len = if random.one_in(2) { random.pick(&beside) } else { random.pick(&other) };
+    }
+}
