@@ -1,5 +1,7 @@
 // Savings (Clarke and Wright 1964): each stop starts alone, and rounds are joined end to end, greatest saving first.
 // O(n^2 log n) to sort the savings of n stops; where windows or limits are asked, a join is walked, O(n^3) at most.
+#![tactic(auto)]
+
 ghost use Rattle.std.specs.Prelude.{◌≡◌, ℕ, ◌-◌, ◌≤◌, ◌<◌};
 ghost use Rattle.lists.specs.Count.{count};
 ghost use Rattle.sheet.specs.Fields.{vehicles_of};

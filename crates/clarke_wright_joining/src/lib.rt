@@ -1,4 +1,6 @@
 // Two rounds joined: which way, whether they may, and the slots after it.
+#![tactic(auto)]
+
 ghost use Rattle.std.specs.Prelude.{◌≡◌, ◌≤◌, ◌<◌, length};
 ghost use Rattle.sheet.specs.Fields.{rows_of, most_rows};
 ghost use Rattle.evaluation.specs.Routed.{Routed};
@@ -10,7 +12,7 @@ use constructive::terms::Terms;
 
 // Two rounds stay apart, or the first slot takes the stops of the second; then whether its own are reversed, and whether those
 // that it takes are.
-#[derive(Drop)]
+#[derive(Clone, Copy)]
 pub enum Way {
     Apart,
     Join(usize, usize, bool, bool),

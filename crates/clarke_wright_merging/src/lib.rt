@@ -1,4 +1,6 @@
 // The merges: what a saving makes of the rounds, and the savings one after another.
+#![tactic(auto)]
+
 ghost use Rattle.std.specs.Prelude.{◌≡◌, ◌≤◌, ◌<◌, length};
 ghost use Rattle.sheet.specs.Fields.{rows_of, most_rows};
 ghost use Rattle.clarke_wright_savings.specs.Savings.{merge_of, after_merge};

@@ -1,4 +1,6 @@
 // A plan by way of tables that are lent: the members' savings ranked, their rounds started, merged and laid down.
+#![tactic(auto)]
+
 ghost use Rattle.std.specs.Prelude.{◌≡◌, ℕ, ◌-◌, ◌*◌, ◌≤◌, ◌<◌, length, take};
 ghost use Rattle.lists.specs.Count.{count};
 ghost use Rattle.sheet.specs.Fields.{vehicles_of, most_rows};

@@ -1,4 +1,6 @@
 // The savings, as they are generated and in the order in which they are tried.
+#![tactic(auto)]
+
 pub mod terms;
 
 ghost use Rattle.std.specs.Prelude.{◌≡◌, [], ◌∷◌, ◌+◌, ◌*◌, ◌≤◌, ◌<◌, length, take};

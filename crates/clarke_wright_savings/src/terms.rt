@@ -9,7 +9,7 @@ use constructive::terms::Terms;
 use sheet::matrix;
 
 // The terms of a constructor with one vehicle, and whether legs have a direction.
-#[derive(Drop)]
+#[derive(Clone, Copy)]
 pub struct Directed {
     pub common: Terms,
     pub directed: bool,

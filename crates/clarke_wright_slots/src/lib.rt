@@ -1,5 +1,7 @@
 // The rounds so far, each in a slot: the stops of slot k stand in `cells` from 101 times k on, `lens` says how many they are,
 // `loads` what they ask of a vehicle, and `slots` has the slot of each row.
+#![tactic(auto)]
+
 pub mod laying;
 pub mod starting;
 

@@ -5,7 +5,7 @@ ghost use Rattle.wire.specs.Bytes.{write};
 ghost use Rattle.constructive.specs.Outcome.{start_in};
 
 // How far the tables are filled: so many rounds, with so many stops in all.
-#[derive(Drop)]
+#[derive(Clone, Copy)]
 pub struct Filled {
     pub rounds: usize,
     pub routed: usize,

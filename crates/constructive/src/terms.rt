@@ -12,7 +12,7 @@ use sheet::vehicle;
 
 // The vehicle by its index; whether rounds are checked, and by the soft rules; the vehicle's capacity, its fixed cost in
 // distance and its limits.
-#[derive(Drop)]
+#[derive(Clone, Copy)]
 pub struct Terms {
     pub depot: usize,
     pub vehicle: u16,

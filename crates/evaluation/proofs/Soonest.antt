@@ -1,13 +1,13 @@
 -- Of a rest on the way and a rest at home one keeps the limits exactly if the one that ends sooner does: both rounds drive the same legs. Assumes nothing.
 use mathlib.Core.Path.{◌≡◌, refl, sym, ap, ◌∙◌, subst}
-use Prim.Native.Nat.{ℕ, ◌+◌, ◌*◌, ◌≤◌}
+use Prim.Native.Nat.{ℕ, ◌+◌, ◌*◌}
 use native.Mathlib.Omega.{arith}
 use mathlib.Core.Bool.{Bool, true, false, not, ◌&&◌, ◌||◌, cond, true≢false, beq}
 use mathlib.Core.List.{List}
 use lib.Dec.{T, ltb, eqb}
 use lib.ListN.{length}
 use lib.Ieee.{Float, nan, inf, fin, up, down, below, level, lt, eq, le, is_nan}
-use borrow.Author.Tests.{ltb-false, le-ltb, eq-eqb, eqb-true, not-true, not-false}
+use borrow.Author.Tests.{ltb-false, le-ltb, eq-eqb, eqb-true}
 use Rattle.sorting.specs.Laws.Descending.{lt_asym, lt_through}
 use Rattle.sorting.specs.Laws.Least.{same_not_less}
 use Rattle.sheet.specs.Values.{distance_of, time_of}
@@ -31,7 +31,7 @@ use Rattle.evaluation.specs.Walk.{start_at, walked_over, home_from, scheduled_of
 use Rattle.evaluation.specs.Verdict.{Verdict, no_schedule, held_to, home_start, mends, rested_home, mended_by, or_home, is_feasible}
 use Rattle.evaluation.specs.Feasible.{route_feasible}
 use Rattle.evaluation.specs.Soonest.{outlasts, sooner_of, soonest_of}
-use Rattle.evaluation.specs.Laws.Walk.{plain_from, plain_walk}
+use Rattle.evaluation.specs.Laws.Walk.{plain_walk}
 use Rattle.evaluation.specs.Laws.Verdict.{held_passes, unmarked_home}
 use Rattle.evaluation.proofs.ByRest.{by_home, either_passes, mended_passes}
 

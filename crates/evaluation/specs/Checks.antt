@@ -1,4 +1,4 @@
--- docs/SCOPE.md#the-walk_of-a-round. "A window on a depot row switches checking on, with a penalty also the soft rules below, and otherwise does nothing." Since request One its due is a limit too (Limits.antt).
+-- docs/SCOPE.md#the-walk-of-a-round. "A window on a depot row switches checking on, with a penalty also the soft rules below, and otherwise does nothing." Since request One its due is a limit too (Limits.antt).
 -- "Each depot is planned on its own rows alone: symmetry, windows and penalties are read from those only."
 use Rattle.std.specs.Prelude.{ℕ, Bool, true, false, not, ◌||◌, List, [], ◌∷◌}
 use Rattle.sheet.specs.Values.{stop_of}

@@ -1,4 +1,4 @@
--- docs/SCOPE.md#the-walk_of-a-round. What is asked of a round: whether it is lawful, its figures, and what it costs.
+-- docs/SCOPE.md#the-walk-of-a-round. What is asked of a round: whether it is lawful, its figures, and what it costs.
 use Rattle.std.specs.Prelude.{ℕ, Bool, true, false, List, Float}
 use Rattle.std.specs.Float.{inf}
 use Rattle.evaluation_clock.specs.declared.clock.Schedule.{Schedule}

@@ -1,8 +1,7 @@
--- docs/SCOPE.md#the-walk_of-a-round. What a vehicle and its depot ask of a round besides the capacity.
+-- docs/SCOPE.md#the-walk-of-a-round. What a vehicle and its depot ask of a round besides the capacity.
 use Rattle.std.specs.Prelude.{ℕ, Bool, true, false, ◌&&◌, cond, List, Float}
 use Rattle.std.specs.Float.Ieee.{lt, le}
 use Rattle.sheet.specs.Values.{stop_of, vehicle_of, rests_home_at}
-use Rattle.sheet.specs.declared.customer.Window.{Window}
 use Rattle.sheet.specs.declared.customer.Gate.{Gate}
 use Rattle.sheet.specs.declared.customer.Gate.TheVariants.{Open, Hard, Soft}
 use Rattle.sheet.specs.declared.vehicle.Limit.{Limit}

@@ -4,7 +4,6 @@ use Rattle.std.specs.Prelude.{ℕ, ◌+◌, Bool, true, not, ◌&&◌, cond, Lis
 use Rattle.std.specs.Float.Ieee.{le}
 use Rattle.sheet.specs.declared.vehicle.VehicleBreak.{VehicleBreak}
 use Rattle.sheet.specs.declared.vehicle.Rest.TheVariants.{NoRest as restless, Required}
-use Rattle.evaluation_clock.specs.declared.clock.Schedule.{Schedule}
 use Rattle.evaluation_clock.specs.declared.clock.Scheduled.{Scheduled}
 use Rattle.evaluation_clock.specs.declared.clock.Scheduled.TheVariants.{Found, NotFound}
 use Rattle.evaluation_clock.specs.Sums.{◌⊕◌}

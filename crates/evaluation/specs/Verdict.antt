@@ -1,4 +1,4 @@
--- docs/SCOPE.md#the-walk_of-a-round. "A schedule is lawful if no hard window is missed, the rest stands so or is not needed, and both maxima are kept." Here alone a schedule and
+-- docs/SCOPE.md#the-walk-of-a-round. "A schedule is lawful if no hard window is missed, the rest stands so or is not needed, and both maxima are kept." Here alone a schedule and
 -- the limits are joined.
 use Rattle.std.specs.Prelude.{ℕ, Bool, true, false, ◌&&◌, cond, List, Float}
 use Rattle.std.specs.Float.Ieee.{le}

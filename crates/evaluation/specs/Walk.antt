@@ -1,4 +1,4 @@
--- docs/SCOPE.md#the-walk_of-a-round. The walk of a round from its depot and back, stop by stop, with a rest and without one.
+-- docs/SCOPE.md#the-walk-of-a-round. The walk of a round from its depot and back, stop by stop, with a rest and without one.
 use Rattle.std.specs.Prelude.{ℕ, Float}
 use mathlib.Core.List.{List, foldl}
 use Rattle.sheet.specs.Values.{nought, distance_of, time_of}

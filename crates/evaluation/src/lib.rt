@@ -1,4 +1,6 @@
 // What a round is worth: its times, its lateness and its rest, and whether its vehicle allows it.
+#![tactic(auto)]
+
 pub mod checks;
 pub mod home;
 pub mod keeping;
@@ -15,7 +17,7 @@ use evaluation_clock::clock::{Schedule, Scheduled};
 use limits::RouteLimits;
 use sheet::vehicle::{Rest, VehicleBreak};
 
-#[derive(Drop)]
+#[derive(Clone, Copy)]
 pub enum RouteEval {
     Allowed(Schedule),
     NotAllowed,

@@ -8,7 +8,7 @@ use sheet::customer::Gate;
 use sheet::vehicle::{Limit, Rest, Vehicle};
 use sheet::{customer, vehicle};
 
-#[derive(Drop)]
+#[derive(Clone, Copy)]
 pub struct RouteLimits {
     pub max_distance: Limit,
     pub max_duration: Limit,

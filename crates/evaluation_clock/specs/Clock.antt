@@ -1,4 +1,4 @@
--- docs/SCOPE.md#the-walk_of-a-round. The clock of a round: "a value handed back". One label has the rest still to take, the other has it taken.
+-- docs/SCOPE.md#the-walk-of-a-round. The clock of a round: "a value handed back". One label has the rest still to take, the other has it taken.
 use Rattle.std.specs.Prelude.{ℕ, ◌+◌, Bool, true, false, ◌&&◌, ◌||◌, cond, List, Float}
 use Rattle.std.specs.Float.Ieee.{lt, eq, le}
 use Rattle.sheet.specs.Values.{stop_of, time_of}

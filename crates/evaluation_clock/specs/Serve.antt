@@ -1,4 +1,4 @@
--- docs/SCOPE.md#the-walk_of-a-round. One stop of a walk, operation by operation as the Rust's `serve`.
+-- docs/SCOPE.md#the-walk-of-a-round. One stop of a walk, operation by operation as the Rust's `serve`.
 use Rattle.std.specs.Prelude.{ℕ, cond, Float}
 use Rattle.std.specs.Float.Ieee.{lt}
 use Rattle.sheet.specs.Values.{nought}

@@ -1,4 +1,4 @@
--- docs/SCOPE.md#the-walk_of-a-round. An arrival at a window. These three stay narrow: besides the proof of the function that each defines, only the laws of specs/Bounds unfold them.
+-- docs/SCOPE.md#the-walk-of-a-round. An arrival at a window. These three stay narrow: besides the proof of the function that each defines, only the laws of specs/Bounds unfold them.
 use Rattle.std.specs.Prelude.{Bool, cond, Float}
 use Rattle.std.specs.Float.Ieee.{lt}
 use Rattle.sheet.specs.Values.{nought}

@@ -13,7 +13,7 @@ use sheet::vehicle::VehicleBreak;
 use sheet::{customer, matrix};
 
 // What a round comes to, depot to depot.
-#[derive(Drop)]
+#[derive(Clone, Copy)]
 pub struct Schedule {
     pub distance: f64,
     pub duration: f64,
@@ -22,13 +22,13 @@ pub struct Schedule {
     pub rest: RestAnswer,
 }
 
-#[derive(Drop)]
+#[derive(Clone, Copy)]
 pub enum Scheduled {
     Found(Schedule),
     NotFound,
 }
 
-#[derive(Drop)]
+#[derive(Clone, Copy)]
 pub struct BreakClock {
     pub rest: VehicleBreak,
     pub before: Served,
@@ -37,7 +37,7 @@ pub struct BreakClock {
     pub place: u16,
 }
 
-#[derive(Drop)]
+#[derive(Clone, Copy)]
 pub struct Pushed {
     pub clock: BreakClock,
     pub alive: bool,

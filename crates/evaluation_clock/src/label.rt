@@ -8,13 +8,13 @@ use sheet::customer::{Gate, Stop, Window};
 use sheet::vehicle::VehicleBreak;
 
 // Where the rest stands: before the stop counted so, from 1, with its start.
-#[derive(Drop)]
+#[derive(Clone, Copy)]
 pub enum RestAnswer {
     NoRest,
     Before(u16, f64),
 }
 
-#[derive(Drop)]
+#[derive(Clone, Copy)]
 pub struct Label {
     pub time: f64,
     pub lateness: f64,
@@ -22,7 +22,7 @@ pub struct Label {
     pub rest: RestAnswer,
 }
 
-#[derive(Drop)]
+#[derive(Clone, Copy)]
 pub enum Served {
     Done(Label),
     Refused,

@@ -1,4 +1,6 @@
 // A round walked up to some place without a rest: what all rounds with the same first stops have in common.
+#![tactic(auto)]
+
 ghost use Rattle.std.specs.Prelude.{◌≡◌, false, ℕ, ◌≤◌, ◌<◌, length};
 ghost use Rattle.sheet.specs.Fields.{rows_of, most_rows};
 ghost use Rattle.evaluation.specs.Routed.{Routed};
@@ -18,7 +20,7 @@ use sheet::{customer, matrix};
 const STRIDE: usize = 4;
 
 // The vehicle at `prev` with its first stops done. Once a hard window is missed, only their number counts.
-#[derive(Drop)]
+#[derive(Clone, Copy)]
 pub struct Prefix {
     pub stops: usize,
     pub prev: usize,

@@ -1,4 +1,6 @@
 // A round's record: what each stop's visit and the whole round come to, and what a plan costs.
+#![tactic(auto)]
+
 ghost use Rattle.std.specs.Prelude.{◌≡◌, ◌+◌, ◌*◌, ◌≤◌, ◌<◌};
 ghost use Rattle.sheet.specs.Accepted.{Accepted};
 ghost use Rattle.sheet.specs.Fields.{rows_of};
@@ -18,7 +20,7 @@ use sheet::vehicle::{Rest, Vehicle, VehicleBreak};
 use sheet::{customer, matrix};
 
 // The round so far: its last visit, and what it has come to. `load` is after that visit.
-#[derive(Drop)]
+#[derive(Clone, Copy)]
 pub struct Progress {
     pub arrival: f64,
     pub departure: f64,
@@ -31,7 +33,7 @@ pub struct Progress {
 }
 
 // What a whole round comes to.
-#[derive(Drop)]
+#[derive(Clone, Copy)]
 pub struct Record {
     pub load: u32,
     pub distance: f64,
@@ -42,7 +44,7 @@ pub struct Record {
 }
 
 // The rest of a round: where it stands, and how long it is.
-#[derive(Drop)]
+#[derive(Clone, Copy)]
 pub struct Placed {
     pub answer: RestAnswer,
     pub duration: f64,

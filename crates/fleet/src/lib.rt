@@ -1,12 +1,14 @@
 // The limiter's choices: the cheapest of all insertions of the stops that a dropped round leaves. The definitions and
 // theorems of the limiter are this crate's specs.
+#![tactic(auto)]
+
 ghost use Rattle.std.specs.Prelude.{◌≡◌};
 ghost use Rattle.fleet.specs.Cheapest.{cheaper, pick_with};
 
 use insertion::choice::Choice;
 
 // The stop by its place among those pending, the round, the place in the round, and what it costs.
-#[derive(Drop)]
+#[derive(Clone, Copy)]
 pub enum Pick {
     Nothing,
     Put(usize, usize, usize, f64),

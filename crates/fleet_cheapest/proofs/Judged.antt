@@ -23,7 +23,7 @@ use Rattle.constructive.specs.declared.terms.Terms.{Terms}
 use Rattle.constructive.proofs.Loading.{load_few}
 use Rattle.constructive.specs.Rounds.{passes}
 use Rattle.insertion.specs.declared.choice.Choice.{Choice}
-use Rattle.insertion.specs.Place.{judged, judge, try_places}
+use Rattle.insertion.specs.Place.{judged, judge, better_place, try_places}
 use Rattle.insertion.specs.Laws.Judging.{hard_judge}
 use Rattle.insertion.specs.Trial.{Joinable, soft_cost, alone_cost, prices_of}
 use Rattle.insertion.specs.declared.place.Prices.{Prices}
@@ -110,7 +110,7 @@ module _ (s : List ℕ) (w : Windows) (v : ℕ) (route : List ℕ) (row : ℕ) (
     places_so : (i : ℕ) (c : Choice) (n k : ℕ) → k + n ≤ suc (length route) → try_places s (terms_at s w v) route i row c n k ≡ places_from s w.soft v route row i c n k
     unfolding try_places places_from
     places_so i c zero k h = refl
-    places_so i c (suc n) k h = rw (judge_so k (omega arith)) (places_so i _ n (k + 1) (omega arith))
+    places_so i c (suc n) k h = rw (judge_so k (omega arith)) (places_so i (better_place c i k (judge_at s w.soft v route row k)) n (k + 1) (omega arith))
 
   -- ---- a round as it stands
   -- its load with the stop is no more than a u32 holds

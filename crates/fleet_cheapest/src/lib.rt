@@ -1,4 +1,6 @@
 // The cheapest insertion of the stops pending, over every round and place.
+#![tactic(auto)]
+
 mod places;
 
 ghost use Rattle.std.specs.Prelude.{◌≡◌, false, ◌+◌, ◌<◌, length};
@@ -20,7 +22,7 @@ use insertion::{choice, place, trial};
 use sheet::{customer, vehicle};
 
 // Whether some row has a window, and whether one has a window with a penalty.
-#[derive(Drop)]
+#[derive(Clone, Copy)]
 pub struct Windows {
     pub any: bool,
     pub soft: bool,

@@ -38,7 +38,7 @@ pub fn try_free(
 }
 
 // The best so far, and the walk up to a place that is not behind those left.
-#[derive(Drop)]
+#[derive(Clone, Copy)]
 struct Walked {
     tried: Tried,
     walk: Prefix,

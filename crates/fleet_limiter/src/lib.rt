@@ -1,5 +1,7 @@
 // The limiter (Bräysy and Gendreau 2005): the round of least load is dropped, its stops put back, cheapest first.
 // For each round of p stops dropped O(p^2 n) places; where windows or limits are asked, one that may win is walked.
+#![tactic(auto)]
+
 ghost use Rattle.std.specs.Prelude.{◌≡◌, List, ℕ, ◌-◌, ◌<◌, length};
 ghost use Rattle.sheet.specs.Fields.{most_rows};
 ghost use Rattle.evaluation.specs.Routed.{Routed};

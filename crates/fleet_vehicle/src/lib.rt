@@ -1,4 +1,6 @@
 // The vehicle with an id, in a list of vehicles that is lent.
+#![tactic(auto)]
+
 ghost use Rattle.std.specs.Prelude.{◌≡◌, ◌<◌, length};
 ghost use Rattle.fleet_vehicle.specs.Find.{fleet_vehicle};
 

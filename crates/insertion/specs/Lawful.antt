@@ -1,4 +1,4 @@
--- docs/SCOPE.md#the-walk_of-a-round. Document 01: "A place for a stop is lawful if the load stays within capacity and `route_feasible` passes the round with the stop in it." So on every
+-- docs/SCOPE.md#the-walk-of-a-round. Document 01: "A place for a stop is lawful if the load stays within capacity and `route_feasible` passes the round with the stop in it." So on every
 -- sheet, by the walk's f64 figures; a lawful round over natural numbers is a definition by itself.
 use Rattle.std.specs.Prelude.{◌≡◌, ℕ, ◌+◌, ◌≤◌, Bool, false, ◌&&◌, List, leb, length}
 use Rattle.lists.specs.Moved.{inserted}

@@ -3,7 +3,7 @@ ghost use Rattle.std.specs.Prelude.{◌≡◌};
 ghost use Rattle.insertion.specs.Place.{costs, wins, better_place};
 
 // The stop by its place among those unrouted, its place in the round, and what it costs.
-#[derive(Drop)]
+#[derive(Clone, Copy)]
 pub enum Choice {
     Nowhere,
     Best(usize, usize, f64),

@@ -10,14 +10,14 @@ use constructive::terms::Terms;
 use sheet::matrix;
 
 // The best so far, and where the stop stands in the round on trial.
-#[derive(Drop)]
+#[derive(Clone, Copy)]
 pub struct Tried {
     pub choice: Choice,
     pub at: usize,
 }
 
 // With soft windows: what the round costs without the stop, and what the stop must stay below.
-#[derive(Drop)]
+#[derive(Clone, Copy)]
 pub struct Prices {
     pub round: f64,
     pub alone: f64,

@@ -1,1 +1,3 @@
+#![tactic(auto)]
+
 // A lawful round, as a definition over natural numbers. The crate's substance is its specs.

@@ -1,4 +1,6 @@
 // The listing of a plan, put into a buffer. Each function that puts text answers where it ends.
+#![tactic(auto)]
+
 ghost use Rattle.std.specs.Prelude.{◌≡◌, ◌≤◌, ◌<◌, length};
 ghost use Rattle.lists.specs.Once.{Stops};
 ghost use Rattle.sheet.specs.Fields.{rows_of};

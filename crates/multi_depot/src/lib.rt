@@ -1,5 +1,7 @@
 // Several depots, cluster first: each stop goes to the nearest that has a vehicle, and if turned down to the next. And the
 // outcome of a sheet, with one depot or with several.
+#![tactic(auto)]
+
 ghost use Rattle.std.specs.Prelude.{◌-◌, ◌≤◌, length};
 ghost use Rattle.sheet.specs.Depots.{depots_of};
 ghost use Rattle.sheet.specs.Fields.{rows_of};

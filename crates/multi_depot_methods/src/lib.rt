@@ -1,4 +1,6 @@
 // A depot's members given to the constructor that the method's number names, with the depot's vehicles.
+#![tactic(auto)]
+
 ghost use Rattle.std.specs.Prelude.{◌≡◌, true, false, ℕ, ◌-◌, ◌≤◌, ◌<◌, length};
 ghost use Rattle.lists.specs.Count.{count};
 ghost use Rattle.sheet.specs.Fields.{vehicles_of, method_of};

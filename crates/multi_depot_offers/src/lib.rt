@@ -1,4 +1,6 @@
 // Rounds of offers: where each row goes at first, and where it goes once it is turned down.
+#![tactic(auto)]
+
 ghost use Rattle.std.specs.Prelude.{◌≡◌, false, ℕ, ◌≤◌, ◌<◌, length, get_or, replicate};
 ghost use Rattle.constructive.specs.Members.{part};
 ghost use Rattle.constructive.specs.Marks.{Marks, marked_by};

@@ -1,4 +1,6 @@
 // Each round of offers moves a stop on and plans the changed depots again: n (d - 1) rounds at most for n stops and d depots.
+#![tactic(auto)]
+
 ghost use Rattle.std.specs.Prelude.{◌≡◌, false, ◌≤◌, ◌<◌, length};
 ghost use Rattle.sheet.specs.Depots.{depots_of};
 ghost use Rattle.sheet.specs.Fields.{rows_of};

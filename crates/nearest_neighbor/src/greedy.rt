@@ -24,7 +24,7 @@ use sheet::vehicle::{Rest, Vehicle};
 use sheet::{customer, matrix, vehicle};
 
 // Which of the two; with windows, whether some window has a penalty.
-#[derive(Drop)]
+#[derive(Clone, Copy)]
 pub enum Heuristic {
     Nearest,
     NearestTw(bool),

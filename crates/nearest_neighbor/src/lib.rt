@@ -1,5 +1,7 @@
 // The nearest neighbours (with windows: Solomon 1987): each vehicle in turn drives on to the best stop left.
 // Every choice looks at each stop left once: O(n^2 + n v) for n stops and v vehicles, with a rest or without one.
+#![tactic(auto)]
+
 pub mod greedy;
 
 ghost use Rattle.std.specs.Prelude.{◌≡◌};

@@ -3,7 +3,7 @@ ghost use Rattle.std.specs.Prelude.{◌≡◌};
 ghost use Rattle.nearest_neighbor_choice.specs.Choice.{wins_of};
 
 // Its place among the stops left, and its key.
-#[derive(Drop)]
+#[derive(Clone, Copy)]
 pub enum StopChoice {
     NoStop,
     Best(usize, f64),

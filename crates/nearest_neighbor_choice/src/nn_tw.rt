@@ -132,7 +132,7 @@ fn is_too_dear(
 }
 
 // What the key of a stop is made of.
-#[derive(Drop)]
+#[derive(Clone, Copy)]
 pub struct Candidate {
     pub arrival: f64,
     pub late: f64,

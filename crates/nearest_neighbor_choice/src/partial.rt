@@ -10,13 +10,13 @@ use sheet::customer;
 use sheet::vehicle::{Rest, Vehicle};
 
 // The clock after the round so far, where the vehicle has a rest to place.
-#[derive(Drop)]
+#[derive(Clone, Copy)]
 pub enum PartialClock {
     NoClock,
     Kept(BreakClock),
 }
 
-#[derive(Drop)]
+#[derive(Clone, Copy)]
 pub struct Partial {
     pub current: usize,
     pub served: usize,

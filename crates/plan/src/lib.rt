@@ -1,4 +1,6 @@
 // The plan's bytes, written from an outcome's tables.
+#![tactic(auto)]
+
 ghost use Rattle.std.specs.Prelude.{◌≡◌, ◌+◌, ◌≤◌, ◌<◌, length, drop};
 ghost use Rattle.wire.specs.Bytes.{write};
 ghost use Rattle.sheet.specs.Accepted.{Sized};

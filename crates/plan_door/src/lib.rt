@@ -1,5 +1,7 @@
 // The front door of every function that takes a sheet and a plan: what is refused, in the order of the refusals, and the plan
 // read into tables.
+#![tactic(auto)]
+
 ghost use Rattle.std.specs.Prelude.{◌≡◌, ◌&&◌, ◌≤◌, ltb};
 ghost use Rattle.plan_door.specs.Door.{unread_refusal, DoorTables, EntryAs};
 
@@ -7,7 +9,7 @@ use plan_reader::Reading;
 use sheet::customer;
 
 // A refusal, or so many rounds in the tables.
-#[derive(Drop)]
+#[derive(Clone, Copy)]
 pub enum Entry {
     Refused(u32),
     Rounds(usize),

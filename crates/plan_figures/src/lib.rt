@@ -1,4 +1,6 @@
 // A plan read, and each of its rounds walked anew to its figures.
+#![tactic(auto)]
+
 ghost use Rattle.std.specs.Prelude.{◌≡◌};
 ghost use Rattle.constructive.specs.Outcome.{rounds_in};
 ghost use Rattle.constructive.specs.Tables.{RoundOf, RoundTables};

@@ -1,4 +1,6 @@
 // The plan's reader: what stands in its bytes, as an outcome's tables.
+#![tactic(auto)]
+
 ghost use Rattle.std.specs.Prelude.{◌≡◌, ℕ, ◌+◌, ◌<◌, ◌≤◌, ◌++◌, T, length, take, get_or};
 ghost use Rattle.sheet.specs.Accepted.{Sized};
 ghost use Rattle.sheet.specs.Depots.{depots_of};
@@ -12,14 +14,14 @@ ghost use Rattle.plan_reader.specs.Chains.{FollowedAs, RoundsRead, RoundsAs, Cha
 use sheet::customer;
 
 // What reading finds: a number of rounds in the tables, or a plan that refusal 10 is told of.
-#[derive(Drop)]
+#[derive(Clone, Copy)]
 pub enum Reading {
     Right(usize),
     Wrong,
 }
 
 // Where a chain ends in the table of stops, or that it breaks.
-#[derive(Drop)]
+#[derive(Clone, Copy)]
 enum Chain {
     Ended(usize),
     Broken,

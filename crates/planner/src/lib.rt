@@ -1,4 +1,6 @@
-// What a host calls.
+// What a host calls, by way of the exports of `planner_c`.
+#![tactic(auto)]
+
 ghost use Rattle.std.specs.Prelude.{◌≡◌, length};
 ghost use Rattle.sheet.specs.Fields.{plan_length};
 ghost use Rattle.sheet.specs.Accepted.{Sized, Accepted};
@@ -12,8 +14,7 @@ ghost use Rattle.planner.specs.Limited.{LimitAnswered, LimitOnce, LimitFew, Limi
 use tariff::Rates;
 
 // Whether a sheet would be planned into a buffer of `plan_len` bytes: 0, or the number of the refusal.
-#[unsafe(no_mangle)]
-pub extern "C" fn check_sheet(sheet: &[u8], plan_len: usize) -> u32
+pub fn check_sheet(sheet: &[u8], plan_len: usize) -> u32
     ensures { result ≡ refusal_of sheet.now plan_len }
 {
     sheet_refusal::refusal(sheet, plan_len)
@@ -84,8 +85,7 @@ fn fill(sheet: &[u8], plan: &mut [u8])
 }
 
 // Plans a sheet's rounds: 0 and the plan, or the number of the refusal and every byte of `plan` as it was.
-#[unsafe(no_mangle)]
-pub extern "C" fn plan_rounds(sheet: &[u8], plan: &mut [u8]) -> u32
+pub fn plan_rounds(sheet: &[u8], plan: &mut [u8]) -> u32
     ensures answered { Answered sheet.now plan.old result plan.new }
     ensures once { Once sheet.now result plan.new }
     ensures feasibly { Feasibly sheet.now result plan.new }
@@ -103,13 +103,7 @@ pub extern "C" fn plan_rounds(sheet: &[u8], plan: &mut [u8]) -> u32
 
 // Brings a plan down to at most `greatest` rounds: 0 and the plan out, or the number of the refusal and every byte of
 // `plan_out` as it was.
-#[unsafe(no_mangle)]
-pub extern "C" fn limit_rounds(
-    sheet: &[u8],
-    plan_in: &[u8],
-    greatest: u32,
-    plan_out: &mut [u8],
-) -> u32
+pub fn limit_rounds(sheet: &[u8], plan_in: &[u8], greatest: u32, plan_out: &mut [u8]) -> u32
     ensures limit_answered { LimitAnswered sheet.now plan_in.now greatest plan_out.old result plan_out.new }
     ensures limit_once { LimitOnce sheet.now result plan_out.new }
     ensures limit_few { LimitFew sheet.now greatest result plan_out.new }
@@ -121,8 +115,7 @@ pub extern "C" fn limit_rounds(
 
 // Imports one of Solomon's texts: the sheet's length, and the sheet at the start of `sheet`, or the refusal's number below
 // zero and every byte of `sheet` as it was.
-#[unsafe(no_mangle)]
-pub extern "C" fn import_solomon(text: &[u8], sheet: &mut [u8]) -> i32
+pub fn import_solomon(text: &[u8], sheet: &mut [u8]) -> i32
     ensures import_answered { ImportAnswered text.now sheet.old result sheet.new }
     ensures import_accepted { ImportAccepted result sheet.new }
 {
@@ -130,8 +123,7 @@ pub extern "C" fn import_solomon(text: &[u8], sheet: &mut [u8]) -> i32
 }
 
 // Bills a plan's rounds: 0 and the bill, or the number of the refusal and every byte of `bill` as it was.
-#[unsafe(no_mangle)]
-pub extern "C" fn bill_rounds(
+pub fn bill_rounds(
     sheet: &[u8],
     plan: &[u8],
     distance_rate: u32,

@@ -1,4 +1,6 @@
 // The limiter's plan out: the plan in is read into tables, rounds are dropped there, and the plan out is written from them.
+#![tactic(auto)]
+
 ghost use Rattle.std.specs.Prelude.{◌≡◌, ◌-◌, true, length};
 ghost use Rattle.sheet.specs.Fields.{rows_of, plan_length};
 ghost use Rattle.sheet.specs.Depots.{depots_of};

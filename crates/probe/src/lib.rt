@@ -1,4 +1,6 @@
 // A test surface: what the evaluation says of rounds, for comparison and for benchmarks. No part of what a host calls.
+#![tactic(auto)]
+
 mod asked;
 mod figure;
 mod rounds;

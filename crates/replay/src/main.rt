@@ -2,32 +2,38 @@
 // record is a byte that says its kind, then what the kind's function reads (kinds.rt and the crate
 // `replay_plans`). One that is cut short, or has more bytes than there is room for, ends the run
 // with `cut`, and one of another kind with `unknown kind` and its byte.
+#![tactic(auto)]
+
 mod kinds;
 
-use libc::STDIN_FILENO;
-use replay_io::line;
+use replay_io::{line, record};
+use std::io;
+use std::io::{Read, Write};
 
 // Replays one record, and answers whether to go on.
-fn replay_record() -> bool {
+fn replay_record<R: Read, W: Write>(input: &mut R, out: &mut W) -> bool {
     let mut kind = [0u8; 1];
-    if io::read_full(STDIN_FILENO, &mut kind) == 0 {
+    if record::read_full(input, &mut kind) == 0 {
         return false;
     }
     match kind[0] {
-        0 => kinds::replay_refusal(),
-        1 => replay_plans::replay_plan(),
-        2 => replay_plans::replay_limit(),
-        3 => kinds::replay_import(),
-        4 => replay_plans::replay_bill(),
-        other => line::stop_at_unknown(other),
+        0 => kinds::replay_refusal(input, out),
+        1 => replay_plans::replay_plan(input, out),
+        2 => replay_plans::replay_limit(input, out),
+        3 => kinds::replay_import(input, out),
+        4 => replay_plans::replay_bill(input, out),
+        other => line::stop_at_unknown(out, other),
     }
 }
 
-// A proved loop has to end, and nothing says that the input does. So the loop counts its turns
-// down, from a number that no run uses up.
-fn main() {
-    let mut turns = u64::MAX;
-    while turns > 0 && replay_record() {
-        turns -= 1;
+// A proved loop has to end, and nothing says that the input does. So the loop counts its turns, up
+// to a number that no run comes to.
+fn main(rt: HostRuntime) {
+    let mut input = rt.stdin();
+    let mut out = io::writer(&rt);
+    for _ in 0..u64::MAX {
+        if !replay_record(&mut input, &mut out) {
+            break;
+        }
     }
 }

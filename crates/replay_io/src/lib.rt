@@ -1,3 +1,5 @@
-// What a replay reads and writes: the parts of a record on standard input, and the lines on standard output.
+// What a replay reads and writes: the parts of a record, and the lines for the answers.
+#![tactic(auto)]
+
 pub mod line;
 pub mod record;

@@ -7,21 +7,21 @@ ghost use Rattle.sheet.specs.Finite.{RowNumbers};
 ghost use Rattle.sheet.specs.Values.{gate_at, demand_of, stop_of};
 
 // When service may begin: an early vehicle waits for `ready`.
-#[derive(Drop)]
+#[derive(Clone, Copy)]
 pub struct Window {
     pub ready: f64,
     pub due: f64,
 }
 
 // What a stop asks of an arrival: nothing, none after `due`, or a penalty for each unit of time after it.
-#[derive(Drop)]
+#[derive(Clone, Copy)]
 pub enum Gate {
     Open,
     Hard(Window),
     Soft(Window, f64),
 }
 
-#[derive(Drop)]
+#[derive(Clone, Copy)]
 pub struct Stop {
     pub x: i32,
     pub y: i32,

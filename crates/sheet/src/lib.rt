@@ -1,4 +1,6 @@
 // The sheet: what its bytes hold. A field is read from the lent bytes when it is needed; nothing is decoded ahead.
+#![tactic(auto)]
+
 ghost use Rattle.std.specs.Prelude.{◌≡◌, ◌<◌, ◌≤◌, length};
 ghost use Rattle.sheet.specs.Fields.{rows_of, vehicles_of, method_of, times_of, marked, header_size};
 

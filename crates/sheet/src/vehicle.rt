@@ -7,27 +7,27 @@ ghost use Rattle.sheet.specs.Finite.{VehicleNumbers};
 ghost use Rattle.sheet.specs.Values.{limit_at, rest_after, vehicle_of, rests_home_at, fixed_in_distance};
 
 // A maximum that is there or not.
-#[derive(Drop)]
+#[derive(Clone, Copy)]
 pub enum Limit {
     Unlimited,
     Max(f64),
 }
 
 // A rest of `duration` that starts from `earliest` to `latest`.
-#[derive(Drop)]
+#[derive(Clone, Copy)]
 pub struct VehicleBreak {
     pub earliest: f64,
     pub latest: f64,
     pub duration: f64,
 }
 
-#[derive(Drop)]
+#[derive(Clone, Copy)]
 pub enum Rest {
     NoRest,
     Required(VehicleBreak),
 }
 
-#[derive(Drop)]
+#[derive(Clone, Copy)]
 pub struct Vehicle {
     pub id: u32,
     pub depot: u32,

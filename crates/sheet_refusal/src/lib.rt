@@ -1,4 +1,6 @@
 // Why a sheet is turned back: document 01's refusals 1 to 8, in its order.
+#![tactic(auto)]
+
 mod field;
 mod record;
 mod table;

@@ -1,4 +1,6 @@
 // The sheet's bytes, written from the values of its fields.
+#![tactic(auto)]
+
 ghost use Rattle.std.specs.Prelude.{◌≡◌, ◌+◌, ◌≤◌, ◌<◌, not, ◌++◌, T, length};
 ghost use Rattle.std.specs.Float.Ieee.{is_nan};
 ghost use Rattle.wire.specs.Bytes.{bytes, write};
@@ -7,7 +9,7 @@ ghost use Rattle.sheet_writer.specs.Sheet.{unsigned, float_bytes, header_record,
 ghost use Rattle.sheet_writer.specs.Numbered.{RowNumbered, VehicleNumbered};
 
 // A row as its record holds it.
-#[derive(Drop)]
+#[derive(Clone, Copy)]
 pub struct RowFields {
     pub x: i32,
     pub y: i32,
@@ -20,7 +22,7 @@ pub struct RowFields {
 }
 
 // A vehicle as its record holds it.
-#[derive(Drop)]
+#[derive(Clone, Copy)]
 pub struct VehicleFields {
     pub id: u32,
     pub depot: u32,

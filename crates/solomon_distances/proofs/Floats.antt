@@ -7,7 +7,7 @@ use mathlib.Core.List.{List, [], ◌∷◌, ◌++◌}
 use lib.Dec.{T}
 use lib.ListN.{length, get_or, take, drop}
 use lib.Seq.{length-take-le}
-use lib.Ieee.{Float, fin, binary64, fits, is_nan, of_bits}
+use lib.Ieee.{Float, fin, inf, nan, binary64, fits, is_nan, of_bits}
 use lib.Ieee.Bits.{nan_bits_is}
 use Rattle.wire.specs.Bytes.{write, u64_at, f64_at, is_number}
 use Rattle.sheet_writer.specs.Sheet.{float_bytes, records_bytes}
@@ -39,6 +39,8 @@ root_number n x r = go x r.plain
   where
     go : (x : Float) → T (unsigned_finite x) → T (not (is_nan x))
     go (fin s m e) p = tt
+    go nan p = elim p [ ]
+    go (inf _) p = elim p [ ]
 
 pub root_read : (n : ℕ) (s : List ℕ) (at : ℕ) → ClosestRoot n (f64_at s at) → T (is_number s at)
 unfolding f64_at is_number

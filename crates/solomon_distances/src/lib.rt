@@ -1,4 +1,6 @@
 // The distances of rows that stand in a sheet, from their coordinates.
+#![tactic(auto)]
+
 ghost use Rattle.std.specs.Prelude.{◌≡◌, ◌+◌, ◌*◌, ◌<◌, ◌≤◌, nat_abs, ◌-ℤ◌};
 ghost use Rattle.square_root.specs.ClosestRoot.{ClosestRoot};
 ghost use Rattle.solomon_distances.specs.Distances.{squared_between, DistancesRoom, DistancesWritten};

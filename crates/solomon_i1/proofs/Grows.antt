@@ -22,7 +22,7 @@ use Rattle.insertion.specs.Trial.{Unwalked, Joinable}
 use Rattle.insertion.proofs.Sliding.{brought}
 use Rattle.solomon_i1_judging.specs.Choice.{best_of}
 use Rattle.solomon_i1_judging.specs.Laws.Chosen.{Chosen, best_chosen}
-use Rattle.solomon_i1.specs.Insertion.{Growth, growing, grown, grown_by, grow, grow_on, route_in, left_in, round_from}
+use Rattle.solomon_i1.specs.Insertion.{Growth, growing, grown_by, grow, grow_on, route_in, left_in, round_from}
 use Rattle.solomon_i1.specs.Laws.Grown.{stays}
 use Rattle.solomon_i1.specs.Tabled.{growth_stops}
 

@@ -1,5 +1,7 @@
 // Insertion (Solomon 1987): the farthest stop opens a round, and the cheapest insertion joins it until none is left.
 // O(n^3) places of n stops in all; where windows or limits are asked, a place that may win is walked, O(n^4) at most.
+#![tactic(auto)]
+
 mod growing;
 mod seed;
 

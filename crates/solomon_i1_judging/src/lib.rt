@@ -1,4 +1,6 @@
 // The best insertion of the stops unrouted: each stop that the round can load, at each place.
+#![tactic(auto)]
+
 ghost use Rattle.std.specs.Prelude.{◌≡◌, false, [], ◌∷◌, ℕ, suc, ◌+◌, ◌≤◌, ◌<◌, length, get_or};
 ghost use Rattle.sheet.specs.Fields.{rows_of};
 ghost use Rattle.evaluation.specs.Routed.{Routed};
@@ -18,7 +20,7 @@ use insertion::{choice, place, trial};
 use sheet::customer;
 
 // A round's load, and with soft windows its cost.
-#[derive(Drop)]
+#[derive(Clone, Copy)]
 pub struct Figures {
     pub load: u32,
     pub cost: f64,

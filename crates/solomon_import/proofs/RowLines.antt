@@ -1,7 +1,7 @@
 -- The loop over a text's row lines (`rows::row_lines`). Assumes nothing.
-use mathlib.Core.Path.{◌≡◌, refl, sym, ap, ◌∙◌, subst}
+use mathlib.Core.Path.{◌≡◌, refl, sym, ap, ◌∙◌}
 use Prim.Native.Nat.{ℕ, ◌+◌, ◌≤◌, ◌<◌}
-use native.Mathlib.Nat.{zero-add, add_assoc}
+use native.Mathlib.Nat.{zero-add}
 use native.Mathlib.Omega.{arith}
 use mathlib.Core.Bool.{Bool, true, false, ◌&&◌, and_assoc, and-true, false≢true}
 use mathlib.Core.List.{List, [], ◌∷◌, map}
@@ -10,7 +10,6 @@ use lib.ListN.{length, drop}
 use lib.Seq.{drop-length}
 use Rattle.solomon_text.specs.Lines.{lines_of, first_line, after_first, has_digit, digit_lines}
 use Rattle.solomon_text.specs.Laws.Lines.{digit_line_first, no_digit_line}
-use Rattle.solomon_import.specs.declared.rows.RowLines.{RowLines}
 use Rattle.solomon_import.specs.Instance.{is_row_line, are_row_lines, customer_of}
 use Rattle.solomon_import.specs.Import.{customer_range, customers_range}
 use Rattle.solomon_import.specs.Reading.{lines_from, RowLinesFound}

@@ -1,7 +1,7 @@
 -- The loop that writes a text's rows (`writing::write_rows`). Assumes nothing.
 use mathlib.Core.Path.{◌≡◌, refl, sym, ap, ◌∙◌, subst}
-use Prim.Native.Nat.{ℕ, zero, suc, ◌+◌, ◌*◌, ◌≤◌, ◌<◌}
-use native.Mathlib.Nat.{zero-add, add-zero, add_assoc, mul-zero}
+use Prim.Native.Nat.{ℕ, ◌+◌, ◌*◌, ◌≤◌, ◌<◌}
+use native.Mathlib.Nat.{add-zero}
 use native.Mathlib.Numerals.{add-one}
 use native.Mathlib.Omega.{arith}
 use mathlib.Core.List.{List, [], ◌∷◌, ◌++◌, map, append_assoc, append-nil}
@@ -17,7 +17,7 @@ use Rattle.sheet_writer.specs.Laws.Read.{length_row}
 use Rattle.sheet_writer.specs.declared.RowFields.{RowFields}
 use Rattle.solomon_text.specs.Lines.{lines_of, first_line, after_first, has_digit, digit_lines}
 use Rattle.solomon_text.specs.Laws.Lines.{digit_line_first, no_digit_line}
-use Rattle.solomon_import.specs.Instance.{Customer, customer_of}
+use Rattle.solomon_import.specs.Instance.{customer_of}
 use Rattle.solomon_import.specs.Import.{customer_range, customers_range, marks_at, row_fields_of, rows_fields_from}
 use Rattle.solomon_import.specs.Reading.{lines_from}
 use Rattle.solomon_import.specs.Laws.Ranged.{first_ranged, rest_ranged}

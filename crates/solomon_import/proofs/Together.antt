@@ -1,9 +1,9 @@
 -- Header, rows, vehicle and distances, written one after another, are the sheet (`writing::write_sheet`). Assumes nothing.
 use mathlib.Core.Path.{◌≡◌, refl, sym, ap, ◌∙◌, subst}
-use Prim.Native.Nat.{ℕ, zero, suc, ◌+◌, ◌*◌, ◌≤◌, ◌<◌}
-use native.Mathlib.Nat.{zero-add, add_assoc}
+use Prim.Native.Nat.{ℕ, ◌+◌, ◌*◌, ◌≤◌, ◌<◌}
+use native.Mathlib.Nat.{zero-add}
 use native.Mathlib.Omega.{arith}
-use mathlib.Core.List.{List, [], ◌∷◌, ◌++◌, map, append_assoc, append-nil}
+use mathlib.Core.List.{List, ◌++◌, map, append_assoc, append-nil}
 use lib.Dec.{T}
 use lib.IntN.{ℤ}
 use lib.ListN.{length, get_or, length-append, length-map}
@@ -22,7 +22,7 @@ use Rattle.sheet_writer.specs.Laws.Sheet.{row_halfway, length_float}
 use Rattle.square_root.specs.ClosestRoot.{ClosestRoot}
 use Rattle.solomon_distances.specs.Distances.{squared_between, DistancesRoom, DistancesWritten}
 use Rattle.solomon_import.specs.Instance.{Customer, customer_of, customers_of, capacity_of}
-use Rattle.solomon_import.specs.Import.{customers_range, import_length, marks_at, row_fields_of, rows_fields_from, vehicle_fields_of, import_fields, squared_distance, no_customer, customer_at, DistancesOf, SheetWritten}
+use Rattle.solomon_import.specs.Import.{customers_range, import_length, marks_at, row_fields_of, rows_fields_from, vehicle_fields_of, import_fields, squared_distance, no_customer, customer_at, SheetWritten}
 use Rattle.solomon_text.specs.Lines.{after_first, number_lines}
 use Rattle.solomon_import.specs.Reading.{lines_from}
 use Rattle.solomon_import.specs.Writing.{records_of}

@@ -1,5 +1,5 @@
 -- docs/SCOPE.md#the-importer. Document 02, Three: what the importer answers a text with. Number and bytes are read from the text and the buffer alone.
-use Rattle.std.specs.Prelude.{◌≡◌, ℕ, zero, suc, ◌+◌, ◌*◌, ◌^◌, ◌<◌, Bool, true, false, ◌&&◌, List, [], ◌∷◌, leb, ℤ, pos, negsuc, nat_abs, ◌-ℤ◌, length, get_or, take, Float}
+use Rattle.std.specs.Prelude.{◌≡◌, ℕ, zero, suc, ◌+◌, ◌*◌, ◌^◌, ◌<◌, Bool, true, ◌&&◌, List, [], ◌∷◌, leb, ℤ, pos, negsuc, nat_abs, ◌-ℤ◌, length, get_or, take, Float}
 use Rattle.wire.specs.Bytes.{write}
 use Rattle.numbers.specs.Range.{whole}
 use Rattle.solomon_text.specs.Numbers.{is_up_to}

@@ -1,5 +1,5 @@
 -- What is read of a text before anything is written.
-use Rattle.std.specs.Prelude.{◌≡◌, ℕ, ◌≤◌, Bool, true, ◌&&◌, List, map, leb, ltb, length, drop}
+use Rattle.std.specs.Prelude.{◌≡◌, ℕ, Bool, true, ◌&&◌, List, map, leb, ltb, length, drop}
 use Rattle.sheet.specs.Fields.{most_rows}
 use Rattle.sheet.specs.Refusal.{unless}
 use Rattle.solomon_text.specs.Lines.{lines_of, digit_lines}

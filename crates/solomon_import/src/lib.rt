@@ -1,4 +1,6 @@
 // From one of Solomon's texts to a sheet.
+#![tactic(auto)]
+
 mod reading;
 mod rows;
 mod writing;

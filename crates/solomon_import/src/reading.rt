@@ -11,7 +11,7 @@ use crate::rows::RowLines;
 use solomon_text::{lines, words};
 
 // The refusal, 0 if there is none, and then how many rows the text has.
-#[derive(Drop)]
+#[derive(Clone, Copy)]
 pub struct TextReading {
     pub refusal: u32,
     pub rows: usize,

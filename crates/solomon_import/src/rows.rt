@@ -9,7 +9,7 @@ ghost use Rattle.solomon_import.specs.Reading.{lines_from, RowLinesFound};
 use solomon_text::{lines, words};
 
 // What is found of the row lines: where they are not in form, the other two say nothing.
-#[derive(Drop)]
+#[derive(Clone, Copy)]
 pub struct RowLines {
     pub right: bool,
     pub count: usize,

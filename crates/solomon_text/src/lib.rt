@@ -1,4 +1,6 @@
 // Solomon's text (1987): its lines, their words and the whole numbers that these are.
+#![tactic(auto)]
+
 ghost use Rattle.std.specs.Prelude.{◌≡◌};
 ghost use Rattle.solomon_text.specs.Lines.{is_digit};
 

@@ -4,7 +4,7 @@ ghost use Rattle.solomon_text.specs.Numbers.{has_minus, without_minus, is_whole_
 ghost use Rattle.solomon_text.specs.Kept.{Kept, KeptNumber};
 
 // A size from 10^19 on is kept as some number from there on: no number that it is compared with is as large.
-#[derive(Drop)]
+#[derive(Clone, Copy)]
 pub struct WholeNumber {
     pub negative: bool,
     pub size: u64,

@@ -17,6 +17,13 @@ use Rattle.numbers.specs.Laws.Upto.{exact}
 div_positive : (x y : Float) → T (positive x) → T (positive y) → div binary64 x y ≡ round binary64 false (num x * den y) (num y * den x)
 unfolding div
 div_positive (fin false m e) (fin false (suc n) d) p q = rw (eqb-suc-zero n)
+div_positive lib.Ieee.nan y p q = elim p [ ]
+div_positive (lib.Ieee.inf _) y p q = elim p [ ]
+div_positive (fin false m e) lib.Ieee.nan p q = elim q [ ]
+div_positive (fin false m e) (lib.Ieee.inf _) p q = elim q [ ]
+div_positive (fin false m e) (fin false Prim.Native.Nat.zero d) p q = elim q [ ]
+div_positive (fin false m e) (fin mathlib.Core.Bool.true _ d) p q = elim q [ ]
+div_positive (fin mathlib.Core.Bool.true m e) y p q = elim p [ ]
 
 -- the quotient of two whole numbers is their fraction, rounded
 div_whole : (x y : Float) (a b : ℕ) → 0 < a → 0 < b → HasValue x false a 1 → HasValue y false b 1 → div binary64 x y ≡ round binary64 false a b

@@ -1,4 +1,6 @@
 // The square root of a whole number, rounded to the nearest f64.
+#![tactic(auto)]
+
 ghost use Rattle.std.specs.Prelude.{◌+◌, ◌*◌, ◌^◌, ◌≤◌, ◌<◌};
 ghost use Rattle.square_root.specs.ClosestRoot.{ClosestRoot};
 

@@ -5,7 +5,7 @@ ghost use Rattle.sheet.specs.Accepted.{Accepted};
 ghost use Rattle.sweep.specs.Angle.{direction_of, Short, part_of, turns_left, below, sweeps_before};
 
 // From the depot to a stop.
-#[derive(Drop)]
+#[derive(Clone, Copy)]
 pub struct Direction {
     pub dx: i64,
     pub dy: i64,

@@ -1,5 +1,7 @@
 // The sweep (Gillett and Miller 1974): stops by their angle from the depot, packed into rounds in that order.
 // O(n log n) to sort n stops; where windows or limits are asked, a round is walked at each stop, O(n^2) at most.
+#![tactic(auto)]
+
 mod angle;
 mod by_angle;
 mod rounds;

@@ -17,7 +17,7 @@ use sheet::customer;
 
 // How far the tables are filled with the rounds closed; where the round that is being filled ends, and its load; where the
 // stops not met yet end.
-#[derive(Drop)]
+#[derive(Clone, Copy)]
 pub struct Packing {
     pub filled: Filled,
     pub end: usize,

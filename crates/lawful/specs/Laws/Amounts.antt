@@ -14,7 +14,7 @@ use Rattle.sheet.specs.Values.{distance_of, time_of}
 use Rattle.sheet.specs.Laws.Finite.{row_finite, vehicle_finite, entries_split, distance_bounded, time_bounded}
 use Rattle.lawful.specs.Whole.{is_whole, nat_of, Whole, Is}
 use Rattle.lawful.specs.Laws.Whole.{whole_is, whole_upto}
-use Rattle.lawful.specs.Lawful.{time_n, distance_n, is_windowed, ready_n, due_n, service_n, home_of, earliest_n, latest_n, rest_n}
+use Rattle.lawful.specs.Lawful.{time_n, distance_n, is_windowed, ready_n, due_n, service_n, earliest_n, latest_n, rest_n}
 
 pub record Amount (n : ℕ) (x : Float) : Type 0 where
   pub is : Is n x

@@ -113,7 +113,7 @@ module _ (s : List ℕ) (v : ℕ) where
   pub walk_monotone : (w u : Walk) (prev : ℕ) (is : List ℕ) → NoLater w u → NoLater (walk_n s v 0 w prev is) (walk_n s v 0 u prev is)
   unfolding walk_n
   walk_monotone w u prev [] h = home_monotone prev w u h
-  walk_monotone w u prev (i ∷ is) h = walk_monotone _ _ i is (stop_monotone false prev i w u h)
+  walk_monotone w u prev (i ∷ is) h = walk_monotone (stop_n false s v prev i w) (stop_n false s v prev i u) i is (stop_monotone false prev i w u h)
 
   pub walk_failed : (place prev : ℕ) (is : List ℕ) → walk_n s v place failed prev is ≡ failed
   unfolding walk_n stop_n

@@ -17,6 +17,9 @@ use Rattle.square_root.specs.Laws.Closest.{value_plain}
 -- ---- a clear sign is a pattern in the lower half
 value_signed : (x : Float) (a c : ℕ) → HasValue x true a c → T (unsigned_finite x) → ⊥
 value_signed (fin false m e) a c h p = true≢false (sym h.0)
+value_signed nan a c h p = elim h [ ]
+value_signed (inf _) a c h p = elim h [ ]
+value_signed (fin true m e) a c h p = elim p [ ]
 
 fields_signed : (x t : ℕ) → T (unsigned_finite (of_fields binary64 true x t)) → ⊥
 unfolding of_fields
@@ -46,6 +49,8 @@ in_range_plain x max f p = rw (lt-ltb (to_bits binary64 x) 0x8000_0000_0000_0000
 upto_size : (x : Float) (a n : ℕ) → HasValue x false a 1 → Upto n x → a ≤ n
 upto_size (fin false m e) a n h u = le_of_mul-le-mul_right {k = down e} (le_trans (le_of_eq (sym h.1 ∙ mul-one (m * up e))) u) (down_pos e)
 upto_size (fin true m e) a n h u = absurd u
+upto_size nan a n h u = elim h [ ]
+upto_size (inf _) a n h u = elim h [ ]
 
 module _ (n k : ℕ) (N : n ≤ 2 ^ 53) (K : k ≤ 2 ^ 53) where
   whole_size : T (le (whole n) (whole k)) → n ≤ k

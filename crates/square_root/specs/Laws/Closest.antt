@@ -19,13 +19,28 @@ use Rattle.square_root.specs.Laws.Squares.{square_lt}
 pub lt_fractions : (x y : Float) → T (unsigned_finite x) → T (unsigned_finite y) → T (lt x y) → num x * den y < num y * den x
 unfolding lt
 lt_fractions (fin false m e) (fin false n d) p q h = ltb→lt (m * up e * down d) (n * up d * down e) h
+lt_fractions lib.Ieee.nan y p q h = elim p [ ]
+lt_fractions (lib.Ieee.inf _) y p q h = elim p [ ]
+lt_fractions (fin false m e) lib.Ieee.nan p q h = elim q [ ]
+lt_fractions (fin false m e) (lib.Ieee.inf _) p q h = elim q [ ]
+lt_fractions (fin false m e) (fin true n d) p q h = elim q [ ]
+lt_fractions (fin true m e) y p q h = elim p [ ]
 
 fractions_lt : (x y : Float) → T (unsigned_finite x) → T (unsigned_finite y) → num x * den y < num y * den x → T (lt x y)
 unfolding lt
 fractions_lt (fin false m e) (fin false n d) p q h = lt→ltb (m * up e * down d) (n * up d * down e) h
+fractions_lt lib.Ieee.nan y p q h = elim p [ ]
+fractions_lt (lib.Ieee.inf _) y p q h = elim p [ ]
+fractions_lt (fin false m e) lib.Ieee.nan p q h = elim q [ ]
+fractions_lt (fin false m e) (lib.Ieee.inf _) p q h = elim q [ ]
+fractions_lt (fin false m e) (fin true n d) p q h = elim q [ ]
+fractions_lt (fin true m e) y p q h = elim p [ ]
 
 own_fraction : (x : Float) → T (unsigned_finite x) → HasValue x false (num x) (den x)
 own_fraction (fin false m e) p = (refl, refl)
+own_fraction lib.Ieee.nan p = elim p [ ]
+own_fraction (lib.Ieee.inf _) p = elim p [ ]
+own_fraction (fin true m e) p = elim p [ ]
 
 fractions_le : (x y : Float) → T (unsigned_finite x) → T (unsigned_finite y) → num x * den y ≤ num y * den x → T (le x y)
 fractions_le x y p q h = le_of_values x y (num x) (den x) (num y) (den y) (den_pos x) (den_pos y) (own_fraction x p) (own_fraction y q) h
@@ -33,6 +48,8 @@ fractions_le x y p q h = le_of_values x y (num x) (den x) (num y) (den y) (den_p
 pub value_plain : (x : Float) (a c : ℕ) → HasValue x false a c → T (unsigned_finite x)
 value_plain (fin true m e) a c h = absurd (true≢false h.0)
 value_plain (fin false m e) a c h = tt
+value_plain lib.Ieee.nan a c h = elim h [ ]
+value_plain (lib.Ieee.inf _) a c h = elim h [ ]
 
 -- two f64 of one value have one pattern, so they are one
 same_value : (x y : Float) → T (fits binary64 x) → T (fits binary64 y) → T (unsigned_finite x) → T (unsigned_finite y) → num x * den y ≡ num y * den x → x ≡ y
@@ -51,6 +68,12 @@ same_value (fin false m e) (fin false n d) f g p q h =
         ∙ ap (λ (t : ℕ). t / (c * d)) (mul_right_comm a (2 ^ 1074) d ∙ ap (λ (t : ℕ). t * 2 ^ 1074) h ∙ mul_right_comm b c (2 ^ 1074))
         ∙ ap (λ (t : ℕ). b * 2 ^ 1074 * c / t) (mul_comm c d)
         ∙ mul-div-mul_right (b * 2 ^ 1074) d C
+same_value lib.Ieee.nan y f g p q h = elim p [ ]
+same_value (lib.Ieee.inf _) y f g p q h = elim p [ ]
+same_value (fin false m e) lib.Ieee.nan f g p q h = elim q [ ]
+same_value (fin false m e) (lib.Ieee.inf _) f g p q h = elim q [ ]
+same_value (fin false m e) (fin true n d) f g p q h = elim q [ ]
+same_value (fin true m e) y f g p q h = elim p [ ]
 
 -- ---- the root grows with n
 module _ (n k : ℕ) (x y : Float) (h : n ≤ k) (r : ClosestRoot n x) (s : ClosestRoot k y) where

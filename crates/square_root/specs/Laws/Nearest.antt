@@ -56,6 +56,9 @@ apart_at m k e (negsuc a) M K = go (dec_le (suc a) e)
 apart : (y : Float) (m e : ℕ) → T (unsigned_finite y) → T (fits binary64 y) → 2 ^ 52 ≤ m → Apart m (den y) (num y * 2 ^ e)
 apart (fin false zero z) m e p f M = apart_at m 0 e z M (lit< tt)
 apart (fin false (suc k) z) m e p f M = apart_at m (suc k) e z M (held k z f).few
+apart lib.Ieee.nan m e p f M = elim p [ ]
+apart (lib.Ieee.inf _) m e p f M = elim p [ ]
+apart (fin mathlib.Core.Bool.true _ z) m e p f M = elim p [ ]
 
 -- ---- over natural numbers: y / d is another number in units of 1 / 2 ^ e, and N is √n * 2 ^ e squared
 apart_above : (m d y N : ℕ) → 0 < d → 4 * N < (2 * m + 1) * (2 * m + 1) → Apart m d y → m * d < y → 4 * N * (d * d) < (m * d + y) * (m * d + y)

@@ -1,0 +1,83 @@
+-- `clarke_wright_slots::laying::lay_slots` meets its contract. Assumes nothing.
+use Prim.Native.Nat.{◌-◌}
+use native.Mathlib.Omega.{arith}
+use Rattle.clarke_wright_slots.proofs.Rounds.{begins, slot_room, fits, copy_room, passes_on, close_room, closes, stops_long, ends_long, vehicles_long, ends_count, ends_laid}
+use Rattle.clarke_wright_slots.proofs.laying.lay_slots.Goals as goal
+
+pub loop-k-init : goal.loop-k-init
+loop-k-init c = begins c.args.count c.args.cells.now c.args.lens.now c.args.vehicle c.args.stops.now c.args.ends.now c.args.vehicles.now c.args.filled c.requires
+
+pub offset_bounds-lens-k : goal.offset_bounds-lens-k
+offset_bounds-lens-k c = omega (arith, c.loop-k.invariant.room.most)
+
+pub bounds-lens-k : goal.bounds-lens-k
+bounds-lens-k c = omega (arith, c.loop-k.invariant.room.measured)
+
+pub overflow_cast-n : goal.overflow_cast-n
+overflow_cast-n c = omega (arith, c.loop-k.invariant.room.long c.loop-k.k c.loop-k-test.true)
+
+pub overflow_step-k : goal.overflow_step-k
+overflow_step-k c = omega (arith, c.loop-k.invariant.room.most)
+
+pub loop-k-smaller-then-n-eq0 : goal.loop-k-smaller-then-n-eq0
+loop-k-smaller-then-n-eq0 c = omega (arith, c.loop-k-test.true)
+
+pub loop-k-preserved-then-n-eq0 : goal.loop-k-preserved-then-n-eq0
+loop-k-preserved-then-n-eq0 c = passes_on c.loop-k.invariant c.loop-k-test.true c.if-n-eq0.true
+
+pub overflow_mul-at : goal.overflow_mul-at
+overflow_mul-at c = omega (arith, c.loop-k.invariant.room.most)
+
+pub overflow_add-at : goal.overflow_add-at
+overflow_add-at c = omega (arith, c.loop-k.invariant.room.most, c.loop-k.invariant.room.long c.loop-k.k c.loop-k-test.true)
+
+pub offset_bounds-cells-at : goal.offset_bounds-cells-at
+offset_bounds-cells-at c = omega (arith, c.loop-k.invariant.room.most)
+
+pub slice_bounds-copy-count : goal.slice_bounds-copy-count
+slice_bounds-copy-count c = omega arith
+
+pub slice_bounds-copy-end : goal.slice_bounds-copy-end
+slice_bounds-copy-end c = slot_room c.loop-k.invariant c.loop-k-test.true
+
+pub offset_bounds-stops-start : goal.offset_bounds-stops-start
+offset_bounds-stops-start c = omega (arith, (fits c.loop-k.invariant c.loop-k-test.true).0)
+
+pub slice_bounds-copy-count-in-loop-k : goal.slice_bounds-copy-count-in-loop-k
+slice_bounds-copy-count-in-loop-k c = omega (arith, (fits c.loop-k.invariant c.loop-k-test.true).1)
+
+pub slice_bounds-copy-start-in-loop-k : goal.slice_bounds-copy-start-in-loop-k
+slice_bounds-copy-start-in-loop-k c = omega (arith, (fits c.loop-k.invariant c.loop-k-test.true).1)
+
+pub copy-requires : goal.copy-requires
+copy-requires c = copy_room c.loop-k.invariant c.loop-k-test.true
+
+pub overflow_add-start : goal.overflow_add-start
+overflow_add-start c = omega (arith, (fits c.loop-k.invariant c.loop-k-test.true).0)
+
+pub close_round-done-requires : goal.close_round-done-requires
+close_round-done-requires c = let both = close_room c.loop-k.invariant c.loop-k-test.true c.if-n-eq0.false in record { rounds_in_bounds = both.0; end_le_most_rows = both.1 }
+
+pub overflow_step-k-in-loop-k : goal.overflow_step-k-in-loop-k
+overflow_step-k-in-loop-k c = omega (arith, c.loop-k.invariant.room.most)
+
+pub loop-k-smaller : goal.loop-k-smaller
+loop-k-smaller c = omega (arith, c.loop-k-test.true)
+
+pub loop-k-preserved : goal.loop-k-preserved
+loop-k-preserved c = closes c.loop-k.invariant c.loop-k-test.true c.if-n-eq0.false c.copy.new.to _ _ _ c.copy.ensures c.close_round-done.ensures.value c.close_round-done.ensures.ends_after.0 c.close_round-done.ensures.ends_after.1
+
+pub shape_of-stops : goal.shape_of-stops
+shape_of-stops c = stops_long c.loop-k.invariant
+
+pub shape_of-ends : goal.shape_of-ends
+shape_of-ends c = ends_long c.loop-k.invariant
+
+pub shape_of-vehicles : goal.shape_of-vehicles
+shape_of-vehicles c = vehicles_long c.loop-k.invariant
+
+pub returns-clause-value : goal.returns-clause-value
+returns-clause-value c = ends_count c.loop-k.invariant c.loop-k-test.false
+
+pub returns-clause-stored : goal.returns-clause-stored
+returns-clause-stored c = ends_laid c.loop-k.invariant c.loop-k-test.false

@@ -1,0 +1,11 @@
+-- `evaluation::home::mends` meets its contract. Assumes nothing.
+use Rattle.evaluation.specs.Verdict.{mends}
+use Rattle.evaluation.proofs.home.mends.Goals as goal
+
+pub returns-then-begun-rest : goal.returns-then-begun-rest
+unfolding mends
+returns-then-begun-rest c = rw (← c.start-begun.ensures, c.if-begun-rest.true) c.allow.ensures
+
+pub returns : goal.returns
+unfolding mends
+returns c = rw (← c.start-begun.ensures, c.if-begun-rest.false)

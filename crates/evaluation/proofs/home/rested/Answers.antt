@@ -1,0 +1,5 @@
+-- `evaluation::home::rested` meets its contract. Assumes nothing.
+use Rattle.evaluation.proofs.home.rested.Goals as goal
+
+pub returns : goal.returns
+returns c = rw (← c.start-begun.ensures)

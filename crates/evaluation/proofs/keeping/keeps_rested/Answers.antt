@@ -1,0 +1,14 @@
+-- `evaluation::keeping::keeps_rested` meets its contract. Assumes nothing.
+use mathlib.Core.Path.{sym, ◌∙◌}
+use Rattle.evaluation_clock.specs.Clock.{taken_of, end_of}
+use Rattle.evaluation.specs.Verdict.{held_to}
+use Rattle.evaluation.specs.Laws.Verdict.{held_passes}
+use Rattle.evaluation.proofs.keeping.keeps_rested.Goals as goal
+
+pub returns-in-Done : goal.returns-in-Done
+unfolding taken_of end_of
+returns-in-Done c = rw (← c.step-carried.ensures, ← c.step_rested-here.ensures, ← c.earlier-taken.ensures, c.in-Done.is) (c.allow.ensures ∙ sym (held_passes _ _))
+
+pub returns-in-Refused : goal.returns-in-Refused
+unfolding held_to taken_of end_of
+returns-in-Refused c = rw (← c.step-carried.ensures, ← c.step_rested-here.ensures, ← c.earlier-taken.ensures, c.in-Refused.is)

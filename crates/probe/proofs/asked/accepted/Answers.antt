@@ -1,0 +1,20 @@
+-- `probe::asked::accepted` meets its contract. Assumes nothing.
+use mathlib.Core.Path.{sym}
+use Prim.Native.Nat.{ℕ}
+use native.Mathlib.Omega.{arith}
+use Rattle.probe.specs.Promises.{accepted_of}
+use Rattle.probe.proofs.Right.{rows_fit, too_short}
+use Rattle.probe.proofs.asked.accepted.Goals as goal
+
+pub returns-then-sheet-lt-HEADER_SIZE : goal.returns-then-sheet-lt-HEADER_SIZE
+returns-then-sheet-lt-HEADER_SIZE c = sym (too_short c.args.sheet.now c.if-sheet-lt-HEADER_SIZE.true)
+
+pub overflow_mul-rows : goal.overflow_mul-rows
+overflow_mul-rows c = omega (arith, rows_fit c.args.sheet.now (λ (i : ℕ). omega (arith, c.shared_slice_known-1.given i)))
+
+pub overflow_add-rows : goal.overflow_add-rows
+overflow_add-rows c = omega (arith, rows_fit c.args.sheet.now (λ (i : ℕ). omega (arith, c.shared_slice_known-1.given i)))
+
+pub returns : goal.returns
+unfolding accepted_of
+returns c = rw (c.refusal.ensures, c.rows.ensures)

@@ -1,0 +1,12 @@
+-- `sheet::vehicle::limit_at` meets its contract. Assumes nothing.
+use Rattle.sheet.specs.Values.{limit_at}
+use Rattle.sheet.specs.Fields.{vehicle_marks}
+use Rattle.sheet.proofs.vehicle.limit_at.Goals as goal
+
+pub returns-then-not-has_mark : goal.returns-then-not-has_mark
+unfolding limit_at vehicle_marks
+returns-then-not-has_mark c = rw (← c.u32_at.ensures, ← c.has_mark.ensures, c.if-not-has_mark.true)
+
+pub returns : goal.returns
+unfolding limit_at vehicle_marks
+returns c = rw (← c.u32_at.ensures, ← c.has_mark.ensures, c.if-not-has_mark.false, c.f64_at.ensures)
