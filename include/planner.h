@@ -1,6 +1,6 @@
 /*
  * The round planner, for C and C++ hosts: rounds are routes, depot to depot. Link
- * the archive libplanner.a that `rt staticlib planner` writes; it is for x86-64
+ * the archive libplanner.a that `tools/archive planner` writes; it is for x86-64
  * Linux. planner_fields.h beside this file reads and writes every field by name.
  *
  * A ROUND leaves its vehicle's depot at time 0, serves its stops in order and goes
