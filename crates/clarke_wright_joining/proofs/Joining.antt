@@ -1,4 +1,5 @@
 -- The join of two slots. Assumes nothing.
+use Rattle.std.specs.Prelude.{Some, None}
 use mathlib.Core.Path.{◌≡◌, refl, sym, ap, ◌∙◌, subst}
 use Prim.Native.Nat.{ℕ, zero, suc, ◌+◌, ◌*◌, ◌-◌, ◌≤◌, ◌<◌, zero-le}
 use native.Mathlib.Omega.{arith}
@@ -19,8 +20,7 @@ use Rattle.clarke_wright_savings.specs.Laws.Joined.{JoinedStops}
 use Rattle.clarke_wright_slots.specs.Slots.{slot_at, slots_in, routed_stops, Roomy, Slotted, end_to_end, SlotTaken}
 use Rattle.clarke_wright_slots.specs.Laws.Slots.{length_slots, slots_at, route_few, roomy_within}
 use Rattle.clarke_wright_slots.proofs.Slotting.{took_over}
-use Rattle.clarke_wright_joining.specs.declared.Way.{Way}
-use Rattle.clarke_wright_joining.specs.declared.Way.TheVariants.{Apart, Join}
+use Rattle.clarke_wright_joining.specs.Way.{Way}
 use Rattle.clarke_wright_joining.specs.Ways.{meant, WaySlots}
 use Rattle.clarke_wright_joining.proofs.Ways.{turned_stops}
 
@@ -100,7 +100,7 @@ module _ (s : List ℕ) (n : ℕ) (cells lens loads slots : List ℕ) (g : Slott
   }
 
   -- ---- a way that joins two slots
-  module _ (way : Way) (into from : ℕ) (back forth : Bool) (y : WaySlots routes way) (w : way ≡ Join into from back forth) where
+  module _ (way : Way) (into from : ℕ) (back forth : Bool) (y : WaySlots routes way) (w : way ≡ Some (into, from, back, forth)) where
     two : Slots routes into from
     two = subst (WaySlots routes) w y
 
@@ -183,5 +183,5 @@ module _ (s : List ℕ) (n : ℕ) (cells lens loads slots : List ℕ) (g : Slott
             (r.0, r.1 ∙ sym (ap (after_merge routes) (passing_so ∙ ap (λ (x : Bool). only_if x (joined into from stops)) u)))
 
 -- a way that joins nothing
-pub way_apart : (s : List ℕ) (t : Terms) (routes : List (List ℕ)) (way : Way) → way ≡ Apart → routes ≡ after_merge routes (passing s t routes (meant routes way))
+pub way_apart : (s : List ℕ) (t : Terms) (routes : List (List ℕ)) (way : Way) → way ≡ None → routes ≡ after_merge routes (passing s t routes (meant routes way))
 way_apart s t routes way e = sym (ap (after_merge routes) (ap (λ (w : Way). passing s t routes (meant routes w)) e ∙ apart_stays s t routes))

@@ -1,4 +1,5 @@
 -- The ways of joining two rounds, as the definition of a merge and as the code have them. Assumes nothing.
+use Rattle.std.specs.Prelude.{Some, None}
 use mathlib.Core.Path.{◌≡◌, refl, sym, ap, ◌∙◌}
 use Prim.Native.Nat.{ℕ, ◌+◌, ◌-◌, ◌<◌}
 use native.Mathlib.Omega.{arith}
@@ -18,7 +19,6 @@ use Rattle.clarke_wright_savings.specs.Savings.{route_at, first_is, last_is, apa
 use Rattle.clarke_wright_savings.specs.Routes.{Slots}
 use Rattle.clarke_wright_savings.specs.Laws.Joined.{JoinedStops, count_reverse, load_reverse, every_reverse}
 use Rattle.clarke_wright_slots.specs.Slots.{or_reversed, end_to_end}
-use Rattle.clarke_wright_joining.specs.declared.Way.TheVariants.{Apart, Join}
 use Rattle.clarke_wright_joining.specs.Ways.{meant, way_of, WaySlots}
 
 -- ---- a round's first and last stop
@@ -54,7 +54,7 @@ module _ (routes : List (List ℕ)) (a b : ℕ) where
     where
       go : (along one_way against last first : Bool)
           → cond along (joined a b (ri ++ rj)) (cond one_way apart (cond against (joined b a (rj ++ ri)) (cond last (joined a b (ri ++ reverse rj)) (cond first (joined a b (reverse ri ++ rj)) apart))))
-          ≡ meant routes (cond along (Join a b false false) (cond one_way Apart (cond against (Join b a false false) (cond last (Join a b false true) (cond first (Join a b true false) Apart)))))
+          ≡ meant routes (cond along (Some (a, b, false, false)) (cond one_way None (cond against (Some (b, a, false, false)) (cond last (Some (a, b, false, true)) (cond first (Some (a, b, true, false)) None)))))
       go true one_way against last first = refl
       go false true against last first = refl
       go false false true last first = refl
@@ -67,7 +67,7 @@ module _ (routes : List (List ℕ)) (a b : ℕ) where
   way_slots directed iFirst iLast jFirst jLast k = go (iLast && jFirst) directed (jLast && iFirst) (iLast && jLast) (iFirst && jFirst)
     where
       go : (along one_way against last first : Bool)
-          → WaySlots routes (cond along (Join a b false false) (cond one_way Apart (cond against (Join b a false false) (cond last (Join a b false true) (cond first (Join a b true false) Apart)))))
+          → WaySlots routes (cond along (Some (a, b, false, false)) (cond one_way None (cond against (Some (b, a, false, false)) (cond last (Some (a, b, false, true)) (cond first (Some (a, b, true, false)) None)))))
       go true one_way against last first = k
       go false true against last first = tt
       go false false true last first = record { differ = λ e. k.differ (sym e); into = k.from; from = k.into }

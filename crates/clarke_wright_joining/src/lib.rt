@@ -12,11 +12,7 @@ use constructive::terms::Terms;
 
 // Two rounds stay apart, or the first slot takes the stops of the second; then whether its own are reversed, and whether those
 // that it takes are.
-#[derive(Clone, Copy)]
-pub enum Way {
-    Apart,
-    Join(usize, usize, bool, bool),
-}
+pub type Way = Option<(usize, usize, bool, bool)>;
 
 // The way for i in slot `a` and j in slot `b`, each first or last there.
 fn way_of(
@@ -31,21 +27,21 @@ fn way_of(
     ensures { result ≡ way_of directed i_first i_last j_first j_last a b }
 {
     if i_last && j_first {
-        return Way::Join(a, b, false, false);
+        return Some((a, b, false, false));
     }
     if directed {
-        return Way::Apart;
+        return None;
     }
     if j_last && i_first {
-        return Way::Join(b, a, false, false);
+        return Some((b, a, false, false));
     }
     if i_last && j_last {
-        return Way::Join(a, b, false, true);
+        return Some((a, b, false, true));
     }
     if i_first && j_first {
-        return Way::Join(a, b, true, false);
+        return Some((a, b, true, false));
     }
-    Way::Apart
+    None
 }
 
 // The way for two stops on different rounds.
@@ -118,7 +114,7 @@ pub fn merge_by(
     ensures slotted_2 { Slotted sheet.now count cells.new lens.new loads.new slots.new }
     ensures lens_after { slots_in count cells.new lens.new ≡ after_merge (slots_in count cells.old lens.old) (passing sheet.now terms (slots_in count cells.old lens.old) (meant (slots_in count cells.old lens.old) way)) }
 {
-    let Way::Join(into, from, back, forth) = way else {
+    let Some((into, from, back, forth)) = way else {
         return;
     };
     let at = sheet::MOST_ROWS * into;

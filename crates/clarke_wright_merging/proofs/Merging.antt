@@ -18,7 +18,7 @@ use Rattle.clarke_wright_savings.specs.Savings.{route_at, slot_of, first_is, las
 use Rattle.clarke_wright_savings.specs.Routes.{Slots}
 use Rattle.clarke_wright_slots.specs.Slots.{slots_in, Slotted}
 use Rattle.clarke_wright_slots.specs.Laws.Slots.{length_slots, slots_past}
-use Rattle.clarke_wright_joining.specs.declared.Way.{Way}
+use Rattle.clarke_wright_joining.specs.Way.{Way}
 use Rattle.clarke_wright_joining.specs.Ways.{meant, way_of, WaySlots}
 use Rattle.clarke_wright_joining.proofs.Ways.{joining_meant, way_slots}
 use Rattle.clarke_wright_joining.proofs.Joining.{only_apart, apart_stays, cut, Fitting, cut_route, loads_fit, fit}

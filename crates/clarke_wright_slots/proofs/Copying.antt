@@ -1,4 +1,4 @@
--- A round copied over the front of a table, as it is or last stop first. Assumes nothing.
+-- A round copied over the front of a table, last stop first, and two rounds end to end. Assumes nothing.
 use mathlib.Core.Path.{◌≡◌, refl, sym, ap, ◌∙◌}
 use Prim.Native.Nat.{ℕ, suc, ◌+◌, ◌-◌, ◌≤◌, ◌<◌}
 use native.Mathlib.Nat.{add-zero}
@@ -9,48 +9,13 @@ use mathlib.Core.List.{List, [], ◌∷◌, ◌++◌, reverse, reverse_aux, appe
 use lib.ListN.{length, get_or, set, take, drop, length-append, length-drop, length-reverse, take-append-drop, drop_of_length-le}
 use lib.Seq.{length-take-le, take_all, take-suc, take-length, drop-drop, set_at}
 use Rattle.wire.specs.Bytes.{write}
-use Rattle.wire.specs.Laws.Bytes.{length_write, take_write, write_write, write_byte}
+use Rattle.wire.specs.Laws.Bytes.{length_write, take_write, write_write}
 use Rattle.clarke_wright_slots.specs.Slots.{or_reversed, end_to_end}
 
 -- to write no number changes nothing
 write_none : (s : List ℕ) (at : ℕ) → s ≡ write s at []
 unfolding write
 write_none s at = sym (ap (λ (n : ℕ). take at s ++ drop n s) (add-zero at) ∙ take-append-drop at s)
-
--- ---- first stop first
-pub record Copying (route to₀ to : List ℕ) (i end : ℕ) : Type 0 where
-  pub room : length route ≤ length to₀
-  pub last : end ≡ length route
-  pub within : i ≤ end
-  pub laid : to ≡ write to₀ 0 (take i route)
-
-pub copy_begins : (route to : List ℕ) → length route ≤ length to → Copying route to to 0 (length route)
-copy_begins route to h = record { room = h; last = refl; within = omega arith; laid = write_none to 0 }
-
-module _ (route to₀ to : List ℕ) (i end : ℕ) (g : Copying route to₀ to i end) where
-  front : length (take i route) ≡ i
-  front = length-take-le i route (omega (arith, g.last, g.within))
-
-  pub copy_long : length to ≡ length to₀
-  copy_long = ap length g.laid ∙ length_write to₀ 0 (take i route) (omega (arith, front, g.room, g.last, g.within))
-
-  pub copy_goes_on : i < end → Copying route to₀ (set to i (get_or route i 0)) (i + 1) end
-  copy_goes_on h =
-      let x = get_or route i 0 in
-      record {
-        room = g.room;
-        last = g.last;
-        within = omega arith;
-        laid =
-            write_byte to i x (omega (arith, copy_long, g.room, g.last))
-            ∙ ap (λ (l : List ℕ). write l i (x ∷ [])) g.laid
-            ∙ ap (λ (n : ℕ). write (write to₀ 0 (take i route)) n (x ∷ [])) (let e : i ≡ 0 + length (take i route) = omega (arith, front) in e)
-            ∙ write_write to₀ 0 (take i route) (omega (arith, front, g.room, g.last)) (x ∷ []) (omega (arith, front, g.room, g.last))
-            ∙ ap (write to₀ 0) (sym (take-suc route i 0 (omega (arith, g.last))) ∙ ap (λ (n : ℕ). take n route) (sym (add-one i)));
-      }
-
-  pub copy_ends : end ≤ i → to ≡ write to₀ 0 route
-  copy_ends h = let e : i ≡ length route = omega (arith, g.last, g.within) in g.laid ∙ ap (write to₀ 0) (ap (λ (n : ℕ). take n route) e ∙ take-length route)
 
 -- ---- last stop first
 -- a write that begins one place earlier
@@ -110,7 +75,7 @@ module _ (route to₀ : List ℕ) (n : ℕ) (to : List ℕ) (i : ℕ) (g : Copyi
 
 -- ---- a part that was lent
 -- what was written over the front of the rest of a list, said of the whole
-pub write_rest : (s : List ℕ) (at : ℕ) (xs part : List ℕ) → at + length xs ≤ length s → part ≡ write (take (length s - at) (drop at s)) 0 xs → take at s ++ (part ++ drop (length s - at) (drop at s)) ≡ write s at xs
+write_rest : (s : List ℕ) (at : ℕ) (xs part : List ℕ) → at + length xs ≤ length s → part ≡ write (take (length s - at) (drop at s)) 0 xs → take at s ++ (part ++ drop (length s - at) (drop at s)) ≡ write s at xs
 unfolding write
 write_rest s at xs part room e =
     let rest : take (length s - at) (drop at s) ≡ drop at s = take_all (length s - at) (drop at s) (omega (arith, length-drop at s)) in

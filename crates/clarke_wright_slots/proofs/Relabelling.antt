@@ -15,30 +15,26 @@ use Rattle.lists.specs.Laws.Once.{count_append}
 abbrev pub labelled : List ℕ → List ℕ → ℕ → ℕ → ℕ
 labelled slots route slot x = cond (ltb 0 (count x route)) slot (get_or slots x 0)
 
-pub record Relabelling (slots₀ route : List ℕ) (slot : ℕ) (slots : List ℕ) (i end : ℕ) : Type 0 where
+pub record Relabelling (slots₀ route : List ℕ) (slot : ℕ) (slots : List ℕ) (i : ℕ) : Type 0 where
   pub rows : (k : ℕ) → k < length route → get_or route k 0 < length slots₀
-  pub last : end ≡ length route
-  pub within : i ≤ end
   pub long : length slots ≡ length slots₀
   pub known : (x : ℕ) → x < length slots₀ → get_or slots x 0 ≡ labelled slots₀ (take i route) slot x
 
-pub begins : (slots route : List ℕ) (slot : ℕ) → ((k : ℕ) → k < length route → get_or route k 0 < length slots) → Relabelling slots route slot slots 0 (length route)
+pub begins : (slots route : List ℕ) (slot : ℕ) → ((k : ℕ) → k < length route → get_or route k 0 < length slots) → Relabelling slots route slot slots 0
 unfolding count
-begins slots route slot h = record { rows = h; last = refl; within = omega arith; long = refl; known = λ x l. refl }
+begins slots route slot h = record { rows = h; long = refl; known = λ x l. refl }
 
-module _ (slots₀ route : List ℕ) (slot : ℕ) (slots : List ℕ) (i end : ℕ) (g : Relabelling slots₀ route slot slots i end) where
-  pub row_known : i < end → get_or route i 0 < length slots
-  row_known h = omega (arith, g.rows i (omega (arith, g.last)), g.long)
+module _ (slots₀ route : List ℕ) (slot : ℕ) (slots : List ℕ) (i : ℕ) (g : Relabelling slots₀ route slot slots i) where
+  pub row_known : i < length route → get_or route i 0 < length slots
+  row_known h = omega (arith, g.rows i h, g.long)
 
-  count_more : i < end → (x : ℕ) → count x (take (i + 1) route) ≡ count x (take i route) + one (eqb x (get_or route i 0))
+  count_more : i < length route → (x : ℕ) → count x (take (i + 1) route) ≡ count x (take i route) + one (eqb x (get_or route i 0))
   unfolding count
-  count_more h x = ap (count x) (ap (λ (n : ℕ). take n route) (add-one i) ∙ take-suc route i 0 (omega (arith, g.last))) ∙ count_append x (take i route) (get_or route i 0 ∷ []) ∙ omega arith
+  count_more h x = ap (count x) (ap (λ (n : ℕ). take n route) (add-one i) ∙ take-suc route i 0 h) ∙ count_append x (take i route) (get_or route i 0 ∷ []) ∙ omega arith
 
-  pub goes_on : i < end → Relabelling slots₀ route slot (set slots (get_or route i 0) slot) (i + 1) end
+  pub goes_on : i < length route → Relabelling slots₀ route slot (set slots (get_or route i 0) slot) (i + 1)
   goes_on h = record {
     rows = g.rows;
-    last = g.last;
-    within = omega arith;
     long = length-set slots (get_or route i 0) slot ∙ g.long;
     known = λ x l. go x l (eqb x (get_or route i 0)) refl;
   }
@@ -51,5 +47,5 @@ module _ (slots₀ route : List ℕ) (slot : ℕ) (slots : List ℕ) (i end : �
           let same : count x (take (i + 1) route) ≡ count x (take i route) = omega (arith, count_more h x, ap one e) in
           rw same (get_or-set_other slots (get_or route i 0) x slot 0 (eqb-false x (get_or route i 0) e) ∙ g.known x l)
 
-  pub ends : end ≤ i → (x : ℕ) → x < length slots₀ → get_or slots x 0 ≡ labelled slots₀ route slot x
-  ends h x l = let e : i ≡ length route = omega (arith, g.last, g.within) in g.known x l ∙ ap (λ (r : List ℕ). labelled slots₀ r slot x) (ap (λ (n : ℕ). take n route) e ∙ take-length route)
+  pub ends : length route ≤ i → i ≤ length route → (x : ℕ) → x < length slots₀ → get_or slots x 0 ≡ labelled slots₀ route slot x
+  ends h k x l = let e : i ≡ length route = omega arith in g.known x l ∙ ap (λ (r : List ℕ). labelled slots₀ r slot x) (ap (λ (n : ℕ). take n route) e ∙ take-length route)

@@ -4,11 +4,11 @@ use Prim.Native.Nat.{ℕ, zero, suc, ◌+◌, ◌*◌, ◌-◌, ◌≤◌, ◌<�
 use native.Mathlib.Nat.{add-zero}
 use native.Mathlib.Omega.{arith}
 use mathlib.Core.List.{List, [], ◌∷◌, ◌++◌, append-nil}
-use lib.ListN.{length, get_or, take, drop, length-drop, drop_of_length-le}
-use lib.Seq.{length-take-le, take_all, drop-drop}
+use lib.ListN.{length, get_or, take, drop, length-drop}
+use lib.Seq.{length-take-le}
 use Rattle.wire.specs.Bytes.{write}
 use Rattle.wire.specs.Laws.Bytes.{length_write, write_write}
-use Rattle.wire.specs.Laws.Overwrite.{write_same}
+use Rattle.wire.specs.Laws.Overwrite.{put_part, write_same}
 use Rattle.constructive.specs.declared.tables.Filled.{Filled}
 use Rattle.constructive.specs.Outcome.{Round, Outcome, chains}
 use Rattle.constructive.specs.Stored.{ends_from, vehicles_from, routed_in, filled_by, Stored}
@@ -17,20 +17,6 @@ use Rattle.constructive.specs.Laws.Stored.{chains_aside, chains_append, length_r
 use Rattle.clarke_wright_savings.specs.Savings.{rounds_of}
 use Rattle.clarke_wright_slots.specs.Slots.{slot_at, slots_from, slots_in, routed_stops, Laying}
 use Rattle.clarke_wright_slots.specs.Laws.Slots.{slots_more}
-
--- ---- a table whose end was lent
-pub lent_long : (s : List ℕ) (at : ℕ) → length (take (length s - at) (drop at s)) ≡ length s - at
-lent_long s at = length-take-le (length s - at) (drop at s) (omega (arith, length-drop at s))
-
--- what is written over its front
-put_back : (s : List ℕ) (at : ℕ) (xs ys : List ℕ) → at + length xs ≤ length s → ys ≡ write (take (length s - at) (drop at s)) 0 xs → take at s ++ (ys ++ drop (length s - at) (drop at s)) ≡ write s at xs
-unfolding write
-put_back s at xs ys h e =
-    let whole : take (length s - at) (drop at s) ≡ drop at s = take_all (length s - at) (drop at s) (omega (arith, length-drop at s)) in
-    let none : drop (length s - at) (drop at s) ≡ [] = drop_of_length-le (drop at s) {i = length s - at} (omega (arith, length-drop at s)) in
-    let e₀ : at + (0 + length xs) ≡ at + length xs = omega arith in
-    let rest : drop (0 + length xs) (drop at s) ≡ drop (at + length xs) s = drop-drop (0 + length xs) at s ∙ ap (λ (n : ℕ). drop n s) e₀ in
-    ap (λ (l : List ℕ). take at s ++ l) (ap (λ (l : List ℕ). ys ++ l) none ∙ append-nil ys ∙ e ∙ ap (λ (l : List ℕ). write l 0 xs) whole ∙ ap (λ (l : List ℕ). xs ++ l) rest)
 
 -- ---- rounds of two parts
 module _ (v : ℕ) where
@@ -173,8 +159,11 @@ module _ {n : ℕ} {cells lens : List ℕ} {v : ℕ} {stops₀ ends₀ vehicles�
         let at : 101 * k ≡ k * 101 = omega arith in
         ap (λ (i : ℕ). take i (drop (101 * k) cells)) m ∙ ap (λ (i : ℕ). take many (drop i cells)) at
 
-    pub copy_room : length (take (101 * k + many - 101 * k) (drop (101 * k) cells)) ≤ length (take (length stops - f.routed) (drop f.routed stops))
-    copy_room = omega (arith, ap length lent, long_route, fits.1, lent_long stops f.routed)
+    -- as much is lent of the stops
+    pub copy_room : length (take (f.routed + many - f.routed) (drop f.routed stops)) ≡ length (take (101 * k + many - 101 * k) (drop (101 * k) cells))
+    copy_room =
+        let n : length (take (f.routed + many - f.routed) (drop f.routed stops)) ≡ f.routed + many - f.routed = length-take-le (f.routed + many - f.routed) (drop f.routed stops) (omega (arith, length-drop f.routed stops, fits.1)) in
+        omega (arith, n, ap length lent, long_route)
 
     -- a slot without stops makes no round
     module _ (none : many ≡ 0) where
@@ -233,13 +222,12 @@ module _ {n : ℕ} {cells lens : List ℕ} {v : ℕ} {stops₀ ends₀ vehicles�
           }
 
       -- as the code copies it
-      pub closes : (copied ends' vehicles' : List ℕ) (f' : Filled) → copied ≡ write (take (length stops - f.routed) (drop f.routed stops)) 0 (take (101 * k + many - 101 * k) (drop (101 * k) cells))
+      pub closes : (copied ends' vehicles' : List ℕ) (f' : Filled) → copied ≡ take (101 * k + many - 101 * k) (drop (101 * k) cells)
           → f' ≡ record { rounds = f.rounds + 1; routed = f.routed + many } → ends' ≡ write ends f.rounds ((f.routed + many) ∷ []) → vehicles' ≡ write vehicles f.rounds (v ∷ [])
-          → Filling n cells lens v stops₀ ends₀ vehicles₀ f₀ (take f.routed stops ++ (copied ++ drop (length stops - f.routed) (drop f.routed stops))) ends' vehicles' f' (k + 1)
+          → Filling n cells lens v stops₀ ends₀ vehicles₀ f₀ (take f.routed stops ++ (copied ++ drop (f.routed + many - f.routed) (drop f.routed stops))) ends' vehicles' f' (k + 1)
       closes copied ends' vehicles' f' p u q r =
-          closed _ ends' vehicles' f'
-          (put_back stops f.routed route copied (omega (arith, long_route, fits.1)) (p ∙ ap (write (take (length stops - f.routed) (drop f.routed stops)) 0) lent))
-          u q r
+          let e : copied ≡ route = p ∙ lent in
+          closed _ ends' vehicles' f' (rw e (put_part stops f.routed (f.routed + many - f.routed) route (omega (arith, long_route)))) u q r
 
   -- ---- all slots are through
   module _ (over : n ≤ k) where
@@ -267,11 +255,11 @@ module _ (v : ℕ) (routes : List (List ℕ)) (aside : List ℕ) {stops₀ ends�
   pub aside_room : f.routed + length aside ≤ length stops
   aside_room = omega (arith, rounds_end, long_laid, ap length laid.stopped, length_write stops₀ f₀.routed (chains (rounds_of v routes) []) (omega (arith, long_laid)))
 
-  pub with_aside : (copied : List ℕ) → copied ≡ write (take (length stops - f.routed) (drop f.routed stops)) 0 aside
-      → Stored stops₀ ends₀ vehicles₀ f₀ (laid_so (rounds_of v routes) aside) (take f.routed stops ++ (copied ++ drop (length stops - f.routed) (drop f.routed stops))) ends vehicles
+  pub with_aside : (copied : List ℕ) → copied ≡ aside
+      → Stored stops₀ ends₀ vehicles₀ f₀ (laid_so (rounds_of v routes) aside) (take f.routed stops ++ (copied ++ drop (f.routed + length aside - f.routed) (drop f.routed stops))) ends vehicles
   with_aside copied p = record {
     stopped =
-        put_back stops f.routed aside copied aside_room p
+        rw p (put_part stops f.routed (f.routed + length aside - f.routed) aside (omega arith))
         ∙ ap (λ (m : ℕ). write stops m aside) routed_to
         ∙ ap (λ (l : List ℕ). write l (f₀.routed + length (chains (rounds_of v routes) [])) aside) laid.stopped
         ∙ write_write stops₀ f₀.routed (chains (rounds_of v routes) []) (omega (arith, long_laid)) aside (omega (arith, long_laid))

@@ -7,9 +7,8 @@ use mathlib.Core.List.{List, ◌++◌}
 use lib.Dec.{ltb}
 use lib.ListN.{length, get_or, set, take, drop, length-take}
 use Rattle.lists.specs.Count.{count}
-use Rattle.wire.specs.Bytes.{write}
+use Rattle.wire.specs.Laws.Overwrite.{put_part}
 use Rattle.clarke_wright_slots.specs.Slots.{slot_at, SlotTaken}
-use Rattle.clarke_wright_slots.proofs.Copying.{write_rest}
 
 -- a slot, from where it starts to where it ends
 abbrev pub slot_to : List ℕ → List ℕ → ℕ → List ℕ
@@ -23,12 +22,12 @@ pub rows_known : (cells lens slots : List ℕ) (from : ℕ) → 101 ≤ length s
 rows_known cells lens slots from room f k h = rw (to_slot cells lens from)
     (let l : k < get_or lens from 0 = omega (arith, ap length (to_slot cells lens from), length-take (get_or lens from 0) (drop (from * 101) cells), h) in omega (arith, f k l))
 
-pub taken : (cells lens loads slots : List ℕ) (into from : ℕ) (stops part slots' : List ℕ) → into * 101 + length stops ≤ length cells → part ≡ write (take (length cells - into * 101) (drop (into * 101) cells)) 0 stops
+pub taken : (cells lens loads slots : List ℕ) (into from : ℕ) (stops slots' : List ℕ) → into * 101 + length stops ≤ length cells
     → ((x : ℕ) → x < length slots → get_or slots' x 0 ≡ cond (ltb 0 (count x (slot_to cells lens from))) into (get_or slots x 0))
-    → SlotTaken cells lens loads slots into from stops (take (into * 101) cells ++ (part ++ drop (length cells - into * 101) (drop (into * 101) cells)))
+    → SlotTaken cells lens loads slots into from stops (take (into * 101) cells ++ (stops ++ drop (into * 101 + length stops - into * 101) (drop (into * 101) cells)))
     (set (set lens into (length stops)) from 0) (set (set loads into (get_or loads into 0 + get_or loads from 0)) from 0) slots'
-taken cells lens loads slots into from stops part slots' room e f = record {
-  celled = write_rest cells (into * 101) stops part room e;
+taken cells lens loads slots into from stops slots' room f = record {
+  celled = put_part cells (into * 101) (into * 101 + length stops - into * 101) stops (omega arith);
   measured = refl;
   loaded = refl;
   known = λ x h. f x h ∙ ap (λ (l : List ℕ). cond (ltb 0 (count x l)) into (get_or slots x 0)) (to_slot cells lens from);

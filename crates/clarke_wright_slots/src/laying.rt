@@ -30,7 +30,7 @@ fn lay_slots(
         }
         let at = sheet::MOST_ROWS * k;
         let start = done.routed;
-        crate::copy(&cells[at..at + n], &mut stops[start..]);
+        stops[start..start + n].copy_from_slice(&cells[at..at + n]);
         done = tables::close_round(ends, vehicles, done, vehicle, start + n);
     }
     done
@@ -55,6 +55,6 @@ pub fn lay(
 {
     let done = lay_slots(count, cells, lens, vehicle, stops, ends, vehicles, filled);
     let end = done.routed;
-    crate::copy(aside, &mut stops[end..]);
+    stops[end..end + aside.len()].copy_from_slice(aside);
     done
 }

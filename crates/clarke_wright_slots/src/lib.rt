@@ -11,17 +11,7 @@ ghost use Rattle.lists.specs.Count.{count};
 ghost use Rattle.wire.specs.Bytes.{write};
 ghost use Rattle.clarke_wright_slots.specs.Slots.{slot_at, Roomy, or_reversed, end_to_end, SlotTaken};
 
-// Copies a round over the front of a table.
-pub fn copy(route: &[u16], to: &mut [u16])
-    requires { length route.now ≤ length to.old }
-    ensures { to.new ≡ write to.old 0 route.now }
-{
-    for i in 0..route.len() {
-        to[i] = route[i];
-    }
-}
-
-// The same, last stop first.
+// Copies a round over the front of a table, last stop first. By a loop: `copy_from_slice` and `reverse` take twice the time.
 fn copy_back(route: &[u16], to: &mut [u16])
     requires { length route.now ≤ length to.old }
     ensures { to.new ≡ write to.old 0 (reverse route.now) }
@@ -40,7 +30,7 @@ fn copy_turned(route: &[u16], back: bool, to: &mut [u16])
         copy_back(route, to);
         return;
     }
-    copy(route, to);
+    to[..route.len()].copy_from_slice(route);
 }
 
 // Lays two rounds end to end, each as it is or reversed; answers how many stops they have.
@@ -60,9 +50,8 @@ fn relabel(slots: &mut [u16], route: &[u16], slot: u16)
     requires { (k : ℕ) → k < length route.now → get_or route.now k 0 < length slots.old }
     ensures { (x : ℕ) → x < length slots.old → get_or slots.new x 0 ≡ cond (ltb 0 (count x route.now)) slot (get_or slots.old x 0) }
 {
-    for i in 0..route.len() {
-        let row = route[i] as usize;
-        slots[row] = slot;
+    for &row in route {
+        slots[row as usize] = slot;
     }
 }
 
@@ -88,7 +77,7 @@ pub fn take_over(
     let start = from * sheet::MOST_ROWS;
     let gone = lens[from] as usize;
     relabel(slots, &cells[start..start + gone], into as u16);
-    copy(stops, &mut cells[at..]);
+    cells[at..at + stops.len()].copy_from_slice(stops);
     lens[into] = stops.len() as u16;
     lens[from] = 0;
     loads[into] = loads[into] + loads[from];

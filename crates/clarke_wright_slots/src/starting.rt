@@ -23,15 +23,6 @@ fn starts_alone(sheet: &[u8], terms: Terms, row: u16) -> bool
     evaluation::route_feasible(sheet, &lone, terms.depot, terms.limits)
 }
 
-// No row has a round yet.
-fn fill(slots: &mut [u16], value: u16)
-    ensures { slots.new ≡ replicate (length slots.old) value }
-{
-    for i in 0..slots.len() {
-        slots[i] = value;
-    }
-}
-
 // A slot with one stop.
 fn start_route(
     sheet: &[u8],
@@ -74,10 +65,10 @@ pub fn start(
     ensures lens_after { slots_in (length members.now) cells.new lens.new ≡ starts_of sheet.now terms members.now }
 {
     let count = members.len();
-    fill(slots, count as u16);
+    // No row has a round yet.
+    slots.fill(count as u16);
     let mut end: usize = 0;
-    for k in 0..count {
-        let row = members[k];
+    for (k, &row) in members.iter().enumerate() {
         if starts_alone(sheet, terms, row) {
             start_route(sheet, row, k, cells, lens, loads, slots);
             continue;
@@ -85,7 +76,7 @@ pub fn start(
         lens[k] = 0;
         loads[k] = 0;
         aside[end] = row;
-        end = end + 1;
+        end += 1;
     }
     end
 }

@@ -1,6 +1,6 @@
-pub mod Bringing
 pub mod Gathering
 pub mod InTables
 pub mod Loading
-pub mod Marking
+pub mod Bringing
 pub mod Sending
+pub mod Marking

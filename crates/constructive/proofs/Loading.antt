@@ -1,5 +1,5 @@
 -- The load of a round, summed stop by stop. Assumes nothing.
-use mathlib.Core.Path.{◌≡◌, refl, sym, ap, ◌∙◌}
+use mathlib.Core.Path.{◌≡◌, sym, ap, ◌∙◌}
 use Prim.Native.Nat.{ℕ, ◌+◌, ◌*◌, ◌≤◌, ◌<◌}
 use native.Mathlib.Numerals.{add-one}
 use native.Mathlib.Omega.{arith}
@@ -14,34 +14,26 @@ use Rattle.sheet.specs.Laws.Finite.{demand_bounded}
 use Rattle.evaluation.specs.Routed.{Routed}
 use Rattle.constructive.specs.Load.{load_of}
 
-pub record Loading (s route : List ℕ) (load i end : ℕ) : Type 0 where
-  pub last : end ≡ length route
-  pub within : i ≤ end
+pub record Loading (s route : List ℕ) (load i : ℕ) : Type 0 where
   pub few : load ≤ 1000000 * i
   pub same : load + load_of s (drop i route) ≡ load_of s route
 
-pub loading : (s route : List ℕ) → Loading s route 0 0 (length route)
-loading s route = record { last = refl; within = omega arith; few = omega arith; same = omega arith }
-
-module _ (s route : List ℕ) (load i end : ℕ) (g : Loading s route load i end) where
-  pub loads : (demand depot : ℕ) → Routed s depot route → i < end → demand ≡ demand_of s (get_or route i 0) → Loading s route (load + demand) (i + 1) end
+module _ (s route : List ℕ) (load i : ℕ) (g : Loading s route load i) where
+  pub loads : (demand depot : ℕ) → Routed s depot route → i < length route → demand ≡ demand_of s (get_or route i 0) → Loading s route (load + demand) (i + 1)
   unfolding load_of
   loads demand depot ok h e =
-      let k : i < length route = omega (arith, g.last) in
-      let rest : load_of s (drop i route) ≡ demand_of s (get_or route i 0) + load_of s (drop (i + 1) route) = ap (load_of s) (drop-cons route i 0 k) ∙ ap (λ (n : ℕ). demand_of s (get_or route i 0) + load_of s (drop n route)) (sym (add-one i)) in
+      let rest : load_of s (drop i route) ≡ demand_of s (get_or route i 0) + load_of s (drop (i + 1) route) = ap (load_of s) (drop-cons route i 0 h) ∙ ap (λ (n : ℕ). demand_of s (get_or route i 0) + load_of s (drop n route)) (sym (add-one i)) in
       record {
-        last = g.last;
-        within = omega arith;
-        few = omega (arith, g.few, demand_bounded s ok.sheet (get_or route i 0) (ok.row i k));
+        few = omega (arith, g.few, demand_bounded s ok.sheet (get_or route i 0) (ok.row i h));
         same = omega (arith, rest, g.same);
       }
 
-  pub loaded : end ≤ i → load ≡ load_of s route
+  pub loaded : length route ≤ i → i ≤ length route → load ≡ load_of s route
   unfolding load_of
-  loaded h =
-      let e : i ≡ length route = omega (arith, g.last, g.within) in
+  loaded h k =
+      let e : i ≡ length route = omega arith in
       let none : load_of s (drop i route) ≡ 0 = rw (e, drop-length route) in
-      omega (arith, none, g.same)
+      omega (arith, g.same, none)
 
 -- a bound on a load
 pub load_few : (s : List ℕ) → Accepted s → (route : List ℕ) → Every (λ (i : ℕ). i < rows_of s) route → load_of s route ≤ 1000000 * length route

@@ -11,8 +11,8 @@ pub fn load_of(sheet: &[u8], route: &[u16]) -> u32
     ensures { result ≡ load_of sheet.now route.now }
 {
     let mut load: u32 = 0;
-    for i in 0..route.len() {
-        load = load + customer::demand(sheet, route[i] as usize);
+    for &stop in route {
+        load += customer::demand(sheet, stop as usize);
     }
     load
 }

@@ -5,7 +5,7 @@ ghost use Rattle.constructive.specs.Members.{members_of, Gathers};
 
 use sheet::customer;
 
-// The stops at a depot, from `from` on; answers where they end.
+// The stops at a depot, from `from` on; answers where they end. A stop is the number of its row, so the loop is over numbers.
 pub fn members_of(sheet: &[u8], at: &[u16], depot: usize, stops: &mut [u16], from: usize) -> usize
     requires gathers { Gathers sheet.now at.now }
     requires depot_in_bounds { from + length (members_of sheet.now at.now depot) ≤ length stops.old }
@@ -18,7 +18,7 @@ pub fn members_of(sheet: &[u8], at: &[u16], depot: usize, stops: &mut [u16], fro
             continue;
         }
         stops[end] = stop as u16;
-        end = end + 1;
+        end += 1;
     }
     end
 }

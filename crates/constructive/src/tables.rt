@@ -33,7 +33,8 @@ pub fn close_round(
     }
 }
 
-// Brings the stop at `from` to `to`, before it; those between move up.
+// Brings the stop at `from` to `to`, before it; those between move up. By a loop, as the next: insertion moves a stop by a few
+// places at a time, and `rotate_right` calls memmove, which takes 21 ns for one place where this takes 7.
 pub fn bring(stops: &mut [u16], to: usize, from: usize)
     requires { (to ≤ from) × (from < length stops.old) }
     ensures { stops.new ≡ write stops.old to (get_or stops.old from 0 ∷ take (from - to) (drop to stops.old)) }

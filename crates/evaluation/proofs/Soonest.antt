@@ -1,4 +1,5 @@
 -- Of a rest on the way and a rest at home one keeps the limits exactly if the one that ends sooner does: both rounds drive the same legs. Assumes nothing.
+use Rattle.std.specs.Prelude.{Option, Some, None, Float}
 use mathlib.Core.Path.{◌≡◌, refl, sym, ap, ◌∙◌, subst}
 use Prim.Native.Nat.{ℕ, ◌+◌, ◌*◌}
 use native.Mathlib.Omega.{arith}
@@ -11,19 +12,10 @@ use borrow.Author.Tests.{ltb-false, le-ltb, eq-eqb, eqb-true}
 use Rattle.sorting.specs.Laws.Descending.{lt_asym, lt_through}
 use Rattle.sorting.specs.Laws.Least.{same_not_less}
 use Rattle.sheet.specs.Values.{distance_of, time_of}
-use Rattle.sheet.specs.declared.vehicle.Limit.{Limit}
-use Rattle.sheet.specs.declared.vehicle.Limit.TheVariants.{Unlimited, Max}
 use Rattle.sheet.specs.declared.vehicle.VehicleBreak.{VehicleBreak}
-use Rattle.sheet.specs.declared.vehicle.Rest.{Rest}
-use Rattle.sheet.specs.declared.vehicle.Rest.TheVariants.{NoRest as restless, Required}
 use Rattle.evaluation_clock.specs.declared.label.Label.{Label}
-use Rattle.evaluation_clock.specs.declared.label.Served.{Served}
-use Rattle.evaluation_clock.specs.declared.label.Served.TheVariants.{Done, Refused}
 use Rattle.evaluation_clock.specs.declared.clock.Schedule.{Schedule}
-use Rattle.evaluation_clock.specs.declared.clock.Scheduled.{Scheduled}
-use Rattle.evaluation_clock.specs.declared.clock.Scheduled.TheVariants.{Found, NotFound}
 use Rattle.evaluation_clock.specs.Sums.{◌⊕◌}
-use Rattle.evaluation_clock.specs.declared.label.RestAnswer.TheVariants.{NoRest}
 use Rattle.evaluation_clock.specs.Clock.{home_schedule, unrested, end_of, homeward, returned}
 use Rattle.evaluation.specs.declared.limits.RouteLimits.{RouteLimits}
 use Rattle.evaluation.specs.Limits.{within_of, allow_of}
@@ -128,17 +120,17 @@ itself : (x z : Float) → le x z ≡ true → le x x ≡ true
 itself x z h = not_below_le x x (le_number x z h).0 (le_number x z h).0 (same_not_less x)
 
 -- ---- a maximum, of an end y that comes before x, and of one that does not
-sooner_within : (max : Limit) (x y : Float) → (not (le x y) && le y y) ≡ true → within_of max x ≡ true → within_of max y ≡ true
-sooner_within Unlimited x y o h = refl
-sooner_within (Max end) x y o h = go (le x y) refl o
+sooner_within : (max : Option Float) (x y : Float) → (not (le x y) && le y y) ≡ true → within_of max x ≡ true → within_of max y ≡ true
+sooner_within None x y o h = refl
+sooner_within (Some end) x y o h = go (le x y) refl o
   where
     go : (t : Bool) → le x y ≡ t → (not t && le y y) ≡ true → le y end ≡ true
     go true e o = absurd (true≢false (sym o))
     go false e o = below_instead x y end e o h
 
-later_within : (max : Limit) (x y : Float) → (not (le x y) && le y y) ≡ false → within_of max y ≡ true → within_of max x ≡ true
-later_within Unlimited x y o h = refl
-later_within (Max end) x y o h = go (le x y) refl o
+later_within : (max : Option Float) (x y : Float) → (not (le x y) && le y y) ≡ false → within_of max y ≡ true → within_of max x ≡ true
+later_within None x y o h = refl
+later_within (Some end) x y o h = go (le x y) refl o
   where
     go : (t : Bool) → le x y ≡ t → (not t && le y y) ≡ false → le x end ≡ true
     go true e o = le_through x y end e h
@@ -166,23 +158,23 @@ module _ (limits : RouteLimits) (distance x y : Float) where
       rw w.0 (later_within limits.max_duration x y o w.1)
 
 -- ---- a schedule of the same distance, or none
-abbrev Driven : Float → Scheduled → Type 0
-Driven distance (Found k) = k.distance ≡ distance
-Driven distance NotFound = Unit
+abbrev Driven : Float → Option Schedule → Type 0
+Driven distance (Some k) = k.distance ≡ distance
+Driven distance None = Unit
 
-driven_end : (x : Served) (distance back : Float) → Driven distance (end_of x distance back)
+driven_end : (x : Option Label) (distance back : Float) → Driven distance (end_of x distance back)
 unfolding end_of
-driven_end (Done l) distance back = refl
-driven_end Refused distance back = tt
+driven_end (Some l) distance back = refl
+driven_end None distance back = tt
 
-driven_home : (r : Rest) (x y : Served) (distance back : Float) → Driven distance (returned r x y distance back)
+driven_home : (r : Option VehicleBreak) (x y : Option Label) (distance back : Float) → Driven distance (returned r x y distance back)
 unfolding returned unrested homeward
-driven_home restless (Done l) y distance back = refl
-driven_home restless Refused y distance back = tt
-driven_home (Required b) Refused y distance back = driven_end y distance back
-driven_home (Required b) (Done l) y distance back = go (le (l.time ⊕ back) b.earliest)
+driven_home None (Some l) y distance back = refl
+driven_home None None y distance back = tt
+driven_home (Some b) None y distance back = driven_end y distance back
+driven_home (Some b) (Some l) y distance back = go (le (l.time ⊕ back) b.earliest)
   where
-    go : (t : Bool) → Driven distance (cond t (Found (home_schedule l distance back NoRest)) (end_of y distance back))
+    go : (t : Bool) → Driven distance (cond t (Some (home_schedule l distance back None)) (end_of y distance back))
     go true = refl
     go false = driven_end y distance back
 
@@ -194,19 +186,19 @@ module _ (limits : RouteLimits) (b : VehicleBreak) (place : ℕ) (k : Schedule) 
   abbrev begins : Bool
   begins = le (home_start b k.duration) b.latest
 
-  either : (v : Verdict) → is_feasible (or_home limits (Required b) place (Found k) v) ≡ (is_feasible v || (begins && allow_of limits k.distance end))
+  either : (v : Verdict) → is_feasible (or_home limits (Some b) place (Some k) v) ≡ (is_feasible v || (begins && allow_of limits k.distance end))
   unfolding mends
   either v =
-      either_passes limits b place (Found k) v
-      ∙ ap (λ (t : Bool). is_feasible v || (t && is_feasible (mended_by limits b place (Found k) no_schedule))) marked
+      either_passes limits b place (Some k) v
+      ∙ ap (λ (t : Bool). is_feasible v || (t && is_feasible (mended_by limits b place (Some k) no_schedule))) marked
       ∙ ap (λ (t : Bool). is_feasible v || t) (mended_passes limits b place k)
 
   -- of none on the way
-  none_sooner : is_feasible (held_to limits (sooner_of b place (Found k) NotFound)) ≡ is_feasible (or_home limits (Required b) place (Found k) (held_to limits NotFound))
+  none_sooner : is_feasible (held_to limits (sooner_of b place (Some k) None)) ≡ is_feasible (or_home limits (Some b) place (Some k) (held_to limits None))
   unfolding sooner_of outlasts held_to
   none_sooner = go begins ∙ sym (either no_schedule)
     where
-      go : (t : Bool) → is_feasible (held_to limits (cond (t && true) (Found (rested_home b place k)) NotFound)) ≡ (t && allow_of limits k.distance end)
+      go : (t : Bool) → is_feasible (held_to limits (cond (t && true) (Some (rested_home b place k)) None)) ≡ (t && allow_of limits k.distance end)
       go true = held_passes limits (rested_home b place k)
       go false = refl
 
@@ -215,7 +207,7 @@ module _ (limits : RouteLimits) (b : VehicleBreak) (place : ℕ) (k : Schedule) 
     abbrev keeps : Float → Bool
     keeps duration = allow_of limits k.distance duration
 
-    on_way : is_feasible (held_to limits (Found j)) ≡ keeps j.duration
+    on_way : is_feasible (held_to limits (Some j)) ≡ keeps j.duration
     on_way = held_passes limits j ∙ ap (λ (d : Float). allow_of limits d j.duration) same
 
     early : (t : Bool) → t ≡ (t || false)
@@ -230,79 +222,79 @@ module _ (limits : RouteLimits) (b : VehicleBreak) (place : ℕ) (k : Schedule) 
     leaves true f = f refl
     leaves false f = refl
 
-    one_sooner : is_feasible (held_to limits (sooner_of b place (Found k) (Found j))) ≡ is_feasible (or_home limits (Required b) place (Found k) (held_to limits (Found j)))
+    one_sooner : is_feasible (held_to limits (sooner_of b place (Some k) (Some j))) ≡ is_feasible (or_home limits (Some b) place (Some k) (held_to limits (Some j)))
     unfolding sooner_of outlasts
-    one_sooner = go begins (not (le j.duration end) && le end end) refl ∙ ap (λ (t : Bool). t || (begins && keeps end)) (sym on_way) ∙ sym (either (held_to limits (Found j)))
+    one_sooner = go begins (not (le j.duration end) && le end end) refl ∙ ap (λ (t : Bool). t || (begins && keeps end)) (sym on_way) ∙ sym (either (held_to limits (Some j)))
       where
         go : (m o : Bool) → (not (le j.duration end) && le end end) ≡ o
-            → is_feasible (held_to limits (cond (m && o) (Found (rested_home b place k)) (Found j))) ≡ (keeps j.duration || (m && keeps end))
+            → is_feasible (held_to limits (cond (m && o) (Some (rested_home b place k)) (Some j))) ≡ (keeps j.duration || (m && keeps end))
         go false o f = on_way ∙ early (keeps j.duration)
         go true true f = held_passes limits (rested_home b place k) ∙ leaves (keeps j.duration) (sooner_allowed limits k.distance j.duration end f)
         go true false f = on_way ∙ stays (keeps j.duration) (either_way (keeps end) (keeps j.duration) (later_allowed limits k.distance j.duration end f))
 
-  sooner_keeps : (x : Scheduled) → Driven k.distance x → is_feasible (held_to limits (sooner_of b place (Found k) x)) ≡ is_feasible (or_home limits (Required b) place (Found k) (held_to limits x))
-  sooner_keeps NotFound d = none_sooner
-  sooner_keeps (Found j) d = one_sooner j d
+  sooner_keeps : (x : Option Schedule) → Driven k.distance x → is_feasible (held_to limits (sooner_of b place (Some k) x)) ≡ is_feasible (or_home limits (Some b) place (Some k) (held_to limits x))
+  sooner_keeps None d = none_sooner
+  sooner_keeps (Some j) d = one_sooner j d
 
 nowhere : (v t : Bool) → v ≡ (v || (t && false))
 nowhere true t = refl
 nowhere false true = refl
 nowhere false false = refl
 
-sooner_held : (limits : RouteLimits) (b : VehicleBreak) (place : ℕ) (distance : Float) (plain x : Scheduled) → limits.at_home ≡ true → Driven distance plain → Driven distance x
-    → is_feasible (held_to limits (sooner_of b place plain x)) ≡ is_feasible (or_home limits (Required b) place plain (held_to limits x))
+sooner_held : (limits : RouteLimits) (b : VehicleBreak) (place : ℕ) (distance : Float) (plain x : Option Schedule) → limits.at_home ≡ true → Driven distance plain → Driven distance x
+    → is_feasible (held_to limits (sooner_of b place plain x)) ≡ is_feasible (or_home limits (Some b) place plain (held_to limits x))
 unfolding sooner_of
-sooner_held limits b place distance NotFound x m p d = nowhere (is_feasible (held_to limits x)) limits.at_home ∙ sym (either_passes limits b place NotFound (held_to limits x))
-sooner_held limits b place distance (Found k) x m p d = sooner_keeps limits b place k m x (subst (λ (y : Float). Driven y x) (sym p) d)
+sooner_held limits b place distance None x m p d = nowhere (is_feasible (held_to limits x)) limits.at_home ∙ sym (either_passes limits b place None (held_to limits x))
+sooner_held limits b place distance (Some k) x m p d = sooner_keeps limits b place k m x (subst (λ (y : Float). Driven y x) (sym p) d)
 
 -- ---- a round
-module _ (s : List ℕ) (depot : ℕ) (limits : RouteLimits) (route : List ℕ) (b : VehicleBreak) (r : limits.rest ≡ Required b) where
-  abbrev plain : Scheduled
-  plain = scheduled_of s depot restless route
+module _ (s : List ℕ) (depot : ℕ) (limits : RouteLimits) (route : List ℕ) (b : VehicleBreak) (r : limits.rest ≡ Some b) where
+  abbrev plain : Option Schedule
+  plain = scheduled_of s depot None route
 
-  abbrev found : Scheduled
-  found = scheduled_of s depot (Required b) route
+  abbrev found : Option Schedule
+  found = scheduled_of s depot (Some b) route
 
   abbrev driven : Float
-  driven = let p = walked_over s (start_at (Required b) depot) route in p.distance ⊕ distance_of s p.clock.prev depot
+  driven = let p = walked_over s (start_at (Some b) depot) route in p.distance ⊕ distance_of s p.clock.prev depot
 
   plain_driven : Driven driven plain
   unfolding unrested returned
   plain_driven =
-      let p = walked_over s (start_at (Required b) depot) route in
-      subst (Driven driven) (plain_walk s depot (Required b) route) (driven_home restless p.clock.before p.clock.after driven (time_of s p.clock.prev depot))
+      let p = walked_over s (start_at (Some b) depot) route in
+      subst (Driven driven) (plain_walk s depot (Some b) route) (driven_home None p.clock.before p.clock.after driven (time_of s p.clock.prev depot))
 
   found_driven : Driven driven found
   unfolding scheduled_of home_from
   found_driven =
-      let p = walked_over s (start_at (Required b) depot) route in
+      let p = walked_over s (start_at (Some b) depot) route in
       driven_home p.clock.rest p.clock.before p.clock.after driven (time_of s p.clock.prev depot)
 
-  pub soonest_feasible : (x : Scheduled) → x ≡ soonest_of limits.at_home s depot b route → is_feasible (held_to limits x) ≡ route_feasible s depot limits route
+  pub soonest_feasible : (x : Option Schedule) → x ≡ soonest_of limits.at_home s depot b route → is_feasible (held_to limits x) ≡ route_feasible s depot limits route
   unfolding route_feasible
   soonest_feasible x e =
-      ap (λ (y : Scheduled). is_feasible (held_to limits y)) e
+      ap (λ (y : Option Schedule). is_feasible (held_to limits y)) e
       ∙ go limits.at_home refl
       ∙ ap is_feasible (by_home s depot limits route b found r refl plain refl)
     where
-      go : (t : Bool) → limits.at_home ≡ t → is_feasible (held_to limits (cond t (sooner_of b (1 + length route) plain found) found)) ≡ is_feasible (or_home limits (Required b) (1 + length route) plain (held_to limits found))
+      go : (t : Bool) → limits.at_home ≡ t → is_feasible (held_to limits (cond t (sooner_of b (1 + length route) plain found) found)) ≡ is_feasible (or_home limits (Some b) (1 + length route) plain (held_to limits found))
       go true m = sooner_held limits b (1 + length route) driven plain found m plain_driven found_driven
-      go false m = ap is_feasible (sym (unmarked_home limits (Required b) (1 + length route) plain (held_to limits found) m))
+      go false m = ap is_feasible (sym (unmarked_home limits (Some b) (1 + length route) plain (held_to limits found) m))
 
 -- ---- a clock brought home
-pub home_sooner : (b : VehicleBreak) (place : ℕ) (k h : Schedule) (x : Scheduled) (start : Float) (o : Bool) → start ≡ home_start b k.duration → le start b.latest ≡ true → o ≡ outlasts x (start ⊕ b.duration) → o ≡ true → h ≡ rested_home b place k
-    → Found h ≡ sooner_of b place (Found k) x
+pub home_sooner : (b : VehicleBreak) (place : ℕ) (k h : Schedule) (x : Option Schedule) (start : Float) (o : Bool) → start ≡ home_start b k.duration → le start b.latest ≡ true → o ≡ outlasts x (start ⊕ b.duration) → o ≡ true → h ≡ rested_home b place k
+    → Some h ≡ sooner_of b place (Some k) x
 unfolding sooner_of
 home_sooner b place k h x start o e m f t r =
     let p : le (home_start b k.duration) b.latest ≡ true = ap (λ (y : Float). le y b.latest) (sym e) ∙ m in
     let q : outlasts x (home_start b k.duration ⊕ b.duration) ≡ true = ap (λ (y : Float). outlasts x (y ⊕ b.duration)) (sym e) ∙ sym f ∙ t in
     rw (r, p, q) refl
 
-pub done_sooner : (b : VehicleBreak) (place : ℕ) (before : Served) (l : Label) (distance back time : Float) (k : Schedule) (x : Scheduled) → before ≡ Done l → back ≡ time → k ≡ home_schedule l distance back NoRest
-    → sooner_of b place (Found k) x ≡ sooner_of b place (unrested before distance time) x
+pub done_sooner : (b : VehicleBreak) (place : ℕ) (before : Option Label) (l : Label) (distance back time : Float) (k : Schedule) (x : Option Schedule) → before ≡ Some l → back ≡ time → k ≡ home_schedule l distance back None
+    → sooner_of b place (Some k) x ≡ sooner_of b place (unrested before distance time) x
 unfolding unrested
 done_sooner b place before l distance back time k x e t h = rw (e, h, t) refl
 
-pub refused_sooner : (b : VehicleBreak) (place : ℕ) (before : Served) (distance time : Float) (x : Scheduled) → before ≡ Refused → x ≡ sooner_of b place (unrested before distance time) x
+pub refused_sooner : (b : VehicleBreak) (place : ℕ) (before : Option Label) (distance time : Float) (x : Option Schedule) → before ≡ None → x ≡ sooner_of b place (unrested before distance time) x
 unfolding unrested sooner_of
 refused_sooner b place before distance time x e = rw e refl

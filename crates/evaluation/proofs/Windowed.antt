@@ -12,32 +12,30 @@ use Rattle.evaluation.specs.Routed.{Routed}
 use Rattle.evaluation.specs.Checks.{row_windowed, some_windowed, any_windowed}
 
 -- what holds at the head of the loop
-pub record Looking (soft : Bool) (s : List ℕ) (depot : ℕ) (members : List ℕ) (i end : ℕ) : Type 0 where
+pub record Looking (soft : Bool) (s : List ℕ) (depot : ℕ) (members : List ℕ) (i : ℕ) : Type 0 where
   pub routed : Routed s depot members
-  pub last : end ≡ length members
-  pub within : i ≤ end
+  pub within : i ≤ length members
   pub same : any_windowed soft s depot members ≡ some_windowed soft s (drop i members)
 
-module _ (soft : Bool) (s : List ℕ) (depot : ℕ) (members : List ℕ) (i end : ℕ) (g : Looking soft s depot members i end) where
+module _ (soft : Bool) (s : List ℕ) (depot : ℕ) (members : List ℕ) (i : ℕ) (g : Looking soft s depot members i) where
   abbrev row : ℕ
   row = get_or members i 0
 
-  pub in_range_lem : i < end → row < rows_of s
-  in_range_lem h = g.routed.row i (omega (arith, g.last))
+  pub in_range_lem : i < length members → row < rows_of s
+  in_range_lem h = g.routed.row i (omega arith)
 
-  pub goes_on : i < end → row_windowed soft s row ≡ false → Looking soft s depot members (i + 1) end
+  pub goes_on : i < length members → row_windowed soft s row ≡ false → Looking soft s depot members (i + 1)
   unfolding some_windowed
   goes_on h e = record {
     routed = g.routed;
-    last = g.last;
     within = omega arith;
-    same = let k : i < length members = omega (arith, g.last) in g.same ∙ rw (add-one, drop-cons members i 0, e);
+    same = let k : i < length members = omega arith in g.same ∙ rw (add-one, drop-cons members i 0, e);
   }
 
-  pub found : i < end → row_windowed soft s row ≡ true → any_windowed soft s depot members ≡ true
+  pub found : i < length members → row_windowed soft s row ≡ true → any_windowed soft s depot members ≡ true
   unfolding some_windowed
-  found h e = let k : i < length members = omega (arith, g.last) in g.same ∙ rw (drop-cons members i 0, e)
+  found h e = let k : i < length members = omega arith in g.same ∙ rw (drop-cons members i 0, e)
 
-  pub ends : end ≤ i → any_windowed soft s depot members ≡ false
+  pub ends : length members ≤ i → any_windowed soft s depot members ≡ false
   unfolding some_windowed
-  ends h = let e : i ≡ length members = omega (arith, g.last, g.within) in g.same ∙ rw (e, drop-length members)
+  ends h = let e : i ≡ length members = omega (arith, g.within) in g.same ∙ rw (e, drop-length members)

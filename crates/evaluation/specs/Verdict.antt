@@ -1,19 +1,12 @@
 -- docs/SCOPE.md#the-walk-of-a-round. "A schedule is lawful if no hard window is missed, the rest stands so or is not needed, and both maxima are kept." Here alone a schedule and
 -- the limits are joined.
-use Rattle.std.specs.Prelude.{ℕ, Bool, true, false, ◌&&◌, cond, List, Float}
+use Rattle.std.specs.Prelude.{ℕ, Bool, true, false, ◌&&◌, cond, List, Float, Option, Some, None}
 use Rattle.std.specs.Float.Ieee.{le}
 use Rattle.sheet.specs.Values.{distance_of, time_of}
-use Rattle.evaluation_clock.specs.declared.label.RestAnswer.{RestAnswer}
+use Rattle.evaluation_clock.specs.RestAnswer.{RestAnswer}
 use Rattle.sheet.specs.declared.vehicle.VehicleBreak.{VehicleBreak}
-use Rattle.sheet.specs.declared.vehicle.Rest.{Rest}
-use Rattle.sheet.specs.declared.vehicle.Rest.TheVariants.{NoRest as restless, Required}
-use Rattle.evaluation_clock.specs.declared.label.RestAnswer.TheVariants.{NoRest, Before}
 use Rattle.evaluation_clock.specs.declared.clock.Schedule.{Schedule}
-use Rattle.evaluation_clock.specs.declared.clock.Scheduled.{Scheduled}
-use Rattle.evaluation_clock.specs.declared.clock.Scheduled.TheVariants.{Found, NotFound}
 use Rattle.evaluation.specs.declared.limits.RouteLimits.{RouteLimits}
-use Rattle.evaluation.specs.declared.RouteEval.{RouteEval}
-use Rattle.evaluation.specs.declared.RouteEval.TheVariants.{Allowed, NotAllowed}
 use Rattle.evaluation_clock.specs.Sums.{◌⊕◌}
 use Rattle.evaluation.specs.Limits.{allow_of}
 use Rattle.evaluation_clock.specs.Serve.{later_of}
@@ -27,9 +20,9 @@ pub data Verdict : Type 0 where
   no_schedule : Verdict
 
 -- "and both maxima are kept"
-unfoldable pub held_to : RouteLimits → Scheduled → Verdict
-held_to limits (Found k) = cond (allow_of limits k.distance k.duration) (allowed k) (over_limit k)
-held_to limits NotFound = no_schedule
+unfoldable pub held_to : RouteLimits → Option Schedule → Verdict
+held_to limits (Some k) = cond (allow_of limits k.distance k.duration) (allowed k) (over_limit k)
+held_to limits None = no_schedule
 
 -- ---- a rest at the depot on return
 -- "a rest may start at the later of unrested return and earliest"
@@ -47,21 +40,21 @@ rested_home b place k = record {
   duration = home_start b k.duration ⊕ b.duration;
   lateness = k.lateness;
   lateness_cost = k.lateness_cost;
-  rest = Before place (home_start b k.duration);
+  rest = Some (place, (home_start b k.duration));
 }
 
 -- "if the unrested walk misses no hard window": what is told of the round otherwise is v
-abbrev pub mended_by : RouteLimits → VehicleBreak → ℕ → Scheduled → Verdict → Verdict
-mended_by limits b place NotFound v = v
-mended_by limits b place (Found k) v = cond (mends limits b k.distance k.duration) (allowed (rested_home b place k)) v
+abbrev pub mended_by : RouteLimits → VehicleBreak → ℕ → Option Schedule → Verdict → Verdict
+mended_by limits b place None v = v
+mended_by limits b place (Some k) v = cond (mends limits b k.distance k.duration) (allowed (rested_home b place k)) v
 
 -- "Vehicle mark 8 allows it."
-abbrev pub mended : RouteLimits → Rest → ℕ → Scheduled → Verdict → Verdict
-mended limits restless place plain v = v
-mended limits (Required b) place plain v = cond limits.at_home (mended_by limits b place plain v) v
+abbrev pub mended : RouteLimits → Option VehicleBreak → ℕ → Option Schedule → Verdict → Verdict
+mended limits None place plain v = v
+mended limits (Some b) place plain v = cond limits.at_home (mended_by limits b place plain v) v
 
 -- "If `route_feasible` turns a round down today": only then
-unfoldable pub or_home : RouteLimits → Rest → ℕ → Scheduled → Verdict → Verdict
+unfoldable pub or_home : RouteLimits → Option VehicleBreak → ℕ → Option Schedule → Verdict → Verdict
 or_home limits rest place plain (allowed k) = allowed k
 or_home limits rest place plain (over_limit k) = mended limits rest place plain (over_limit k)
 or_home limits rest place plain no_schedule = mended limits rest place plain no_schedule
@@ -86,13 +79,13 @@ is_feasible (over_limit k) = false
 is_feasible no_schedule = false
 
 -- the figures, where the limits allow them
-abbrev pub eval_of : Verdict → RouteEval
-eval_of (allowed k) = Allowed k
-eval_of (over_limit k) = NotAllowed
-eval_of no_schedule = NotAllowed
+abbrev pub eval_of : Verdict → Option Schedule
+eval_of (allowed k) = Some k
+eval_of (over_limit k) = None
+eval_of no_schedule = None
 
 -- where the schedule puts the rest; a round without a schedule has none
 abbrev pub placed_rest : Verdict → RestAnswer
 placed_rest (allowed k) = k.rest
 placed_rest (over_limit k) = k.rest
-placed_rest no_schedule = NoRest
+placed_rest no_schedule = None

@@ -15,9 +15,7 @@ fn row_windowed(sheet: &[u8], row: usize, soft: bool) -> bool
     requires row_bound { row < rows_of sheet.now }
     ensures { result ≡ row_windowed soft sheet.now row }
 {
-    let stop = customer::stop_at(sheet, row);
-    let gate = stop.gate;
-    match gate {
+    match customer::stop_at(sheet, row).gate {
         Gate::Open => false,
         Gate::Hard(_) => !soft,
         Gate::Soft(_, _) => true,
@@ -31,8 +29,8 @@ fn any_windowed(sheet: &[u8], depot: usize, members: &[u16], soft: bool) -> bool
     if row_windowed(sheet, depot, soft) {
         return true;
     }
-    for i in 0..members.len() {
-        if row_windowed(sheet, members[i] as usize, soft) {
+    for &row in members {
+        if row_windowed(sheet, row as usize, soft) {
             return true;
         }
     }
@@ -59,8 +57,5 @@ pub fn route_checks_needed(sheet: &[u8], depot: usize, members: &[u16], limits: 
     requires { Routed sheet.now depot members.now }
     ensures { result ≡ route_checks_needed sheet.now depot members.now limits }
 {
-    if has_time_windows(sheet, depot, members) {
-        return true;
-    }
-    !limits.is_unlimited()
+    has_time_windows(sheet, depot, members) || !limits.is_unlimited()
 }

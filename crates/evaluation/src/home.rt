@@ -1,17 +1,15 @@
 // A rest at the depot on return.
-ghost use Rattle.std.specs.Prelude.{◌≡◌, ◌<◌};
+ghost use Rattle.std.specs.Prelude.{◌≡◌, ◌<◌, Some};
 ghost use Rattle.sheet.specs.Fields.{rows_of};
 ghost use Rattle.sheet.specs.Values.{time_of};
 ghost use Rattle.evaluation_clock.specs.Clocked.{Clocked};
 ghost use Rattle.evaluation_clock.specs.Clock.{unrested};
-ghost use Rattle.evaluation_clock.specs.declared.clock.Scheduled.TheVariants.{Found};
 ghost use Rattle.evaluation.specs.Verdict.{home_start, mends, rested_home};
 ghost use Rattle.evaluation.specs.Soonest.{outlasts, sooner_of};
 
 use crate::limits::RouteLimits;
 use evaluation_clock::clock;
-use evaluation_clock::clock::{BreakClock, Schedule, Scheduled};
-use evaluation_clock::label::{RestAnswer, Served};
+use evaluation_clock::clock::{BreakClock, Schedule};
 use sheet::matrix;
 use sheet::vehicle::VehicleBreak;
 
@@ -31,10 +29,7 @@ pub fn mends(limits: RouteLimits, rest: VehicleBreak, distance: f64, back: f64) 
     ensures { result ≡ mends limits rest distance back }
 {
     let begun = start(rest, back);
-    if begun <= rest.latest {
-        return limits.allow(distance, begun + rest.duration);
-    }
-    false
+    begun <= rest.latest && limits.allow(distance, begun + rest.duration)
 }
 
 // The schedule without a rest, with it at home.
@@ -42,41 +37,33 @@ pub fn rested(rest: VehicleBreak, place: u16, plain: Schedule) -> Schedule
     ensures { result ≡ rested_home rest place plain }
 {
     let begun = start(rest, plain.duration);
-    let answer = RestAnswer::Before(place, begun);
     Schedule {
-        distance: plain.distance,
         duration: begun + rest.duration,
-        lateness: plain.lateness,
-        lateness_cost: plain.lateness_cost,
-        rest: answer,
+        rest: Some((place, begun)),
+        ..plain
     }
 }
 
 // Whether a rest at home that ends at `end` ends before the schedule found, where there is one. Limits are of any bits here, and
 // an end that is no number ends before nothing.
-fn outlasts(found: Scheduled, end: f64) -> bool
+fn outlasts(found: Option<Schedule>, end: f64) -> bool
     ensures { result ≡ outlasts found end }
 {
-    match found {
-        Scheduled::Found(s) => {
-            if s.duration <= end {
-                return false;
-            }
-            end <= end
-        }
-        Scheduled::NotFound => true,
-    }
+    found.is_none_or(|s| !(s.duration <= end) && end <= end)
 }
 
 // The schedule found, or the one without a rest with it at home, where that ends sooner.
-fn sooner(rest: VehicleBreak, place: u16, plain: Schedule, found: Scheduled) -> Scheduled
-    ensures { result ≡ sooner_of rest place (Found plain) found }
+fn sooner(
+    rest: VehicleBreak,
+    place: u16,
+    plain: Schedule,
+    found: Option<Schedule>,
+) -> Option<Schedule>
+    ensures { result ≡ sooner_of rest place (Some plain) found }
 {
     let from = start(rest, plain.duration);
-    if from <= rest.latest {
-        if outlasts(found, from + rest.duration) {
-            return Scheduled::Found(rested(rest, place, plain));
-        }
+    if from <= rest.latest && outlasts(found, from + rest.duration) {
+        return Some(rested(rest, place, plain));
     }
     found
 }
@@ -87,20 +74,16 @@ pub fn finish(
     sheet: &[u8],
     distance: f64,
     depot: usize,
-    found: Scheduled,
-) -> Scheduled
+    found: Option<Schedule>,
+) -> Option<Schedule>
     requires clocked { Clocked sheet.now clock }
     requires depot_bound { depot < rows_of sheet.now }
     ensures { result ≡ sooner_of clock.rest clock.place (unrested clock.before distance (time_of sheet.now clock.prev depot)) found }
 {
     let back = matrix::travel_time(sheet, clock.prev, depot);
-    let before = clock.before;
-    match before {
-        Served::Done(l) => {
-            let plain = clock::home(l, distance, back, RestAnswer::NoRest);
-            let rest = clock.rest;
-            sooner(rest, clock.place, plain, found)
-        }
-        Served::Refused => found,
-    }
+    let Some(l) = clock.before else {
+        return found;
+    };
+    let plain = clock::home(l, distance, back, None);
+    sooner(clock.rest, clock.place, plain, found)
 }

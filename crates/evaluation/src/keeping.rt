@@ -1,8 +1,7 @@
 // Whether the limits are kept by a round with one stop more, from the clock of the round so far.
-ghost use Rattle.std.specs.Prelude.{◌≡◌, ◌<◌};
+ghost use Rattle.std.specs.Prelude.{◌≡◌, ◌<◌, Some};
 ghost use Rattle.sheet.specs.Fields.{rows_of};
 ghost use Rattle.sheet.specs.Values.{time_of};
-ghost use Rattle.sheet.specs.declared.vehicle.Rest.TheVariants.{Required};
 ghost use Rattle.evaluation_clock.specs.Clocked.{Clocked};
 ghost use Rattle.evaluation_clock.specs.Clock.{taken_of, next_of, unrested, end_of, finish_of, clock_of};
 ghost use Rattle.evaluation.specs.Verdict.{no_schedule, held_to, mended_by, is_feasible};
@@ -11,7 +10,6 @@ use crate::home;
 use crate::limits::RouteLimits;
 use evaluation_clock::clock::BreakClock;
 use evaluation_clock::label;
-use evaluation_clock::label::Served;
 use sheet::customer::Stop;
 use sheet::{customer, matrix};
 
@@ -24,18 +22,14 @@ fn keeps_rested(
     distance: f64,
     limits: RouteLimits,
 ) -> bool
-    ensures { result ≡ is_feasible (held_to limits (end_of (taken_of (Required clock.rest) clock.before clock.after travel stop clock.place) distance back)) }
+    ensures { result ≡ is_feasible (held_to limits (end_of (taken_of (Some clock.rest) clock.before clock.after travel stop clock.place) distance back)) }
 {
-    let rest = clock.rest;
-    let before = clock.before;
-    let after = clock.after;
-    let here = label::step_rested(before, travel, stop, clock.place, rest);
-    let carried = label::step(after, travel, stop);
-    let taken = label::earlier(carried, here);
-    match taken {
-        Served::Done(l) => limits.allow(distance, l.time + back),
-        Served::Refused => false,
-    }
+    let here = label::step_rested(clock.before, travel, stop, clock.place, clock.rest);
+    let carried = label::step(clock.after, travel, stop);
+    let Some(l) = label::earlier(carried, here) else {
+        return false;
+    };
+    limits.allow(distance, l.time + back)
 }
 
 // Whether the limits are kept with `row` as the last stop and `distance` driven in all: the clock pushed on to it and
@@ -56,17 +50,13 @@ pub fn keeps_with(
     let travel = matrix::travel_time(sheet, clock.prev, row);
     let back = matrix::travel_time(sheet, row, depot);
     let stop = customer::stop_at(sheet, row);
-    let before = clock.before;
-    let skipped = label::step(before, travel, stop);
-    match skipped {
-        Served::Done(l) => {
-            if l.time + back <= clock.rest.earliest {
-                return limits.allow(distance, l.time + back);
-            }
-            keeps_rested(clock, travel, stop, back, distance, limits)
-        }
-        Served::Refused => keeps_rested(clock, travel, stop, back, distance, limits),
+    let Some(l) = label::step(clock.before, travel, stop) else {
+        return keeps_rested(clock, travel, stop, back, distance, limits);
+    };
+    if l.time + back <= clock.rest.earliest {
+        return limits.allow(distance, l.time + back);
     }
+    keeps_rested(clock, travel, stop, back, distance, limits)
 }
 
 // Whether they are kept with the rest at home, for a vehicle that may take it there.
@@ -85,11 +75,8 @@ pub fn keeps_home(
     let travel = matrix::travel_time(sheet, clock.prev, row);
     let back = matrix::travel_time(sheet, row, depot);
     let stop = customer::stop_at(sheet, row);
-    let before = clock.before;
-    let rest = clock.rest;
-    let skipped = label::step(before, travel, stop);
-    match skipped {
-        Served::Done(l) => home::mends(limits, rest, distance, l.time + back),
-        Served::Refused => false,
-    }
+    let Some(l) = label::step(clock.before, travel, stop) else {
+        return false;
+    };
+    home::mends(limits, clock.rest, distance, l.time + back)
 }

@@ -7,62 +7,43 @@ pub mod keeping;
 pub mod limits;
 pub mod schedule;
 
-ghost use Rattle.std.specs.Prelude.{◌≡◌};
-ghost use Rattle.sheet.specs.declared.vehicle.Rest.TheVariants.{Required};
+ghost use Rattle.std.specs.Prelude.{◌≡◌, Some};
 ghost use Rattle.evaluation.specs.Routed.{Routed};
 ghost use Rattle.evaluation.specs.Verdict.{no_schedule, held_to, mended_by, is_feasible, eval_of};
 ghost use Rattle.evaluation.specs.Feasible.{route_feasible, route_eval, priced_distance, cost_of, effective_cost};
 
-use evaluation_clock::clock::{Schedule, Scheduled};
+use evaluation_clock::clock::Schedule;
 use limits::RouteLimits;
-use sheet::vehicle::{Rest, VehicleBreak};
-
-#[derive(Clone, Copy)]
-pub enum RouteEval {
-    Allowed(Schedule),
-    NotAllowed,
-}
+use sheet::vehicle::VehicleBreak;
 
 // The schedule held to the limits.
-pub fn eval_by(limits: RouteLimits, scheduled: Scheduled) -> RouteEval
+pub fn eval_by(limits: RouteLimits, scheduled: Option<Schedule>) -> Option<Schedule>
     ensures { result ≡ eval_of (held_to limits scheduled) }
 {
-    match scheduled {
-        Scheduled::Found(s) => {
-            if limits.allow(s.distance, s.duration) {
-                return RouteEval::Allowed(s);
-            }
-            RouteEval::NotAllowed
-        }
-        Scheduled::NotFound => RouteEval::NotAllowed,
-    }
+    scheduled.filter(|s| limits.allow(s.distance, s.duration))
 }
 
 // Whether it keeps them.
-pub fn kept_by(limits: RouteLimits, scheduled: Scheduled) -> bool
+pub fn kept_by(limits: RouteLimits, scheduled: Option<Schedule>) -> bool
     ensures { result ≡ is_feasible (held_to limits scheduled) }
 {
-    let eval = eval_by(limits, scheduled);
-    if let RouteEval::Allowed(_) = eval {
-        true
-    } else {
-        false
-    }
+    eval_by(limits, scheduled).is_some()
 }
 
 // The figures with the rest at home, where the walk without it misses no hard window.
-pub fn eval_home(limits: RouteLimits, rest: VehicleBreak, place: u16, plain: Scheduled) -> RouteEval
+pub fn eval_home(
+    limits: RouteLimits,
+    rest: VehicleBreak,
+    place: u16,
+    plain: Option<Schedule>,
+) -> Option<Schedule>
     ensures { result ≡ eval_of (mended_by limits rest place plain no_schedule) }
 {
-    match plain {
-        Scheduled::Found(s) => {
-            if home::mends(limits, rest, s.distance, s.duration) {
-                return RouteEval::Allowed(home::rested(rest, place, s));
-            }
-            RouteEval::NotAllowed
-        }
-        Scheduled::NotFound => RouteEval::NotAllowed,
+    let s = plain?;
+    if home::mends(limits, rest, s.distance, s.duration) {
+        return Some(home::rested(rest, place, s));
     }
+    None
 }
 
 // The figures of a round of a vehicle with a rest, where it is feasible. The walk without the rest is made only where it can
@@ -73,17 +54,17 @@ pub fn eval_rested(
     depot: usize,
     limits: RouteLimits,
     rest: VehicleBreak,
-) -> RouteEval
+) -> Option<Schedule>
     requires routed { Routed sheet.now depot route.now }
-    requires rest_value { limits.rest ≡ Required rest }
+    requires rest_value { limits.rest ≡ Some rest }
     ensures { result ≡ route_eval sheet.now depot limits route.now }
 {
-    let eval = eval_by(limits, schedule::schedule(sheet, route, depot, rest, false));
-    let RouteEval::NotAllowed = eval else {
-        return eval;
-    };
+    let scheduled = schedule::schedule(sheet, route, depot, rest, false);
+    if let Some(figures) = eval_by(limits, scheduled) {
+        return Some(figures);
+    }
     if !limits.at_home {
-        return RouteEval::NotAllowed;
+        return None;
     }
     let place = (route.len() + 1) as u16;
     eval_home(limits, rest, place, schedule::walk(sheet, route, depot))
@@ -95,10 +76,9 @@ pub fn route_feasible(sheet: &[u8], route: &[u16], depot: usize, limits: RouteLi
     requires { Routed sheet.now depot route.now }
     ensures { result ≡ route_feasible sheet.now depot limits route.now }
 {
-    let rest = limits.rest;
-    match rest {
-        Rest::NoRest => kept_by(limits, schedule::walk(sheet, route, depot)),
-        Rest::Required(b) => kept_by(
+    match limits.rest {
+        None => kept_by(limits, schedule::walk(sheet, route, depot)),
+        Some(b) => kept_by(
             limits,
             schedule::schedule(sheet, route, depot, b, limits.at_home),
         ),
@@ -106,14 +86,18 @@ pub fn route_feasible(sheet: &[u8], route: &[u16], depot: usize, limits: RouteLi
 }
 
 // The figures of a round, where it is feasible.
-pub fn route_eval(sheet: &[u8], route: &[u16], depot: usize, limits: RouteLimits) -> RouteEval
+pub fn route_eval(
+    sheet: &[u8],
+    route: &[u16],
+    depot: usize,
+    limits: RouteLimits,
+) -> Option<Schedule>
     requires { Routed sheet.now depot route.now }
     ensures { result ≡ route_eval sheet.now depot limits route.now }
 {
-    let rest = limits.rest;
-    match rest {
-        Rest::NoRest => eval_by(limits, schedule::walk(sheet, route, depot)),
-        Rest::Required(b) => eval_rested(sheet, route, depot, limits, b),
+    match limits.rest {
+        None => eval_by(limits, schedule::walk(sheet, route, depot)),
+        Some(b) => eval_rested(sheet, route, depot, limits, b),
     }
 }
 
@@ -124,12 +108,12 @@ pub fn priced_distance(figures: Schedule) -> f64
     figures.distance + figures.lateness_cost
 }
 
-fn cost(eval: RouteEval) -> f64
+fn cost(eval: Option<Schedule>) -> f64
     ensures { result ≡ cost_of eval }
 {
     match eval {
-        RouteEval::Allowed(s) => priced_distance(s),
-        RouteEval::NotAllowed => f64::from_bits(0x7ff0_0000_0000_0000),
+        Some(figures) => priced_distance(figures),
+        None => f64::INFINITY,
     }
 }
 

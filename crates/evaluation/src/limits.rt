@@ -5,86 +5,65 @@ ghost use Rattle.sheet.specs.Fields.{rows_of, vehicles_of};
 ghost use Rattle.evaluation.specs.Limits.{limits_of, latest_return, lower_of, returning_by, limits_at, is_unlimited, within_of, allow_of};
 
 use sheet::customer::Gate;
-use sheet::vehicle::{Limit, Rest, Vehicle};
+use sheet::vehicle::{Vehicle, VehicleBreak};
 use sheet::{customer, vehicle};
 
 #[derive(Clone, Copy)]
 pub struct RouteLimits {
-    pub max_distance: Limit,
-    pub max_duration: Limit,
-    pub rest: Rest,
+    pub max_distance: Option<f64>,
+    pub max_duration: Option<f64>,
+    pub rest: Option<VehicleBreak>,
     pub at_home: bool,
 }
 
 // Limits are inclusive: a figure that equals its maximum keeps it.
-fn within(max: Limit, x: f64) -> bool
+fn within(max: Option<f64>, x: f64) -> bool
     ensures { result ≡ within_of max x }
 {
-    match max {
-        Limit::Unlimited => true,
-        Limit::Max(end) => x <= end,
-    }
+    max.is_none_or(|end| x <= end)
 }
 
 // The vehicle's own limits, without its depot's due and without a rest at home.
 pub fn limits_of(vehicle: Vehicle) -> RouteLimits
     ensures { result ≡ limits_of vehicle }
 {
-    let max_distance = vehicle.max_distance;
-    let max_duration = vehicle.max_duration;
-    let rest = vehicle.rest;
     RouteLimits {
-        max_distance,
-        max_duration,
-        rest,
+        max_distance: vehicle.max_distance,
+        max_duration: vehicle.max_duration,
+        rest: vehicle.rest,
         at_home: false,
     }
 }
 
 // When a round has to be home by the gate of its depot. A penalty there changes nothing.
-fn latest_return(gate: Gate) -> Limit
+fn latest_return(gate: Gate) -> Option<f64>
     ensures { result ≡ latest_return gate }
 {
     match gate {
-        Gate::Open => Limit::Unlimited,
-        Gate::Hard(w) => Limit::Max(w.due),
-        Gate::Soft(w, _) => Limit::Max(w.due),
+        Gate::Open => None,
+        Gate::Hard(w) | Gate::Soft(w, _) => Some(w.due),
     }
 }
 
 // Put together anew, so that neither has to lie in memory to be chosen from.
-fn lower(a: Limit, b: Limit) -> Limit
+fn lower(a: Option<f64>, b: Option<f64>) -> Option<f64>
     ensures { result ≡ lower_of a b }
 {
-    match a {
-        Limit::Unlimited => match b {
-            Limit::Unlimited => Limit::Unlimited,
-            Limit::Max(y) => Limit::Max(y),
-        },
-        Limit::Max(x) => match b {
-            Limit::Unlimited => Limit::Max(x),
-            Limit::Max(y) => {
-                if y < x {
-                    return Limit::Max(y);
-                }
-                Limit::Max(x)
-            }
-        },
+    match (a, b) {
+        (Some(x), Some(y)) => Some(if y < x { y } else { x }),
+        (Some(x), None) => Some(x),
+        (None, Some(y)) => Some(y),
+        (None, None) => None,
     }
 }
 
-fn returning_by(due: Limit, at_home: bool, limits: RouteLimits) -> RouteLimits
+fn returning_by(due: Option<f64>, at_home: bool, limits: RouteLimits) -> RouteLimits
     ensures { result ≡ returning_by due at_home limits }
 {
-    let max_distance = limits.max_distance;
-    let own = limits.max_duration;
-    let max_duration = lower(own, due);
-    let rest = limits.rest;
     RouteLimits {
-        max_distance,
-        max_duration,
-        rest,
+        max_duration: lower(limits.max_duration, due),
         at_home,
+        ..limits
     }
 }
 
@@ -97,9 +76,8 @@ pub fn limits_at(sheet: &[u8], index: usize) -> RouteLimits
     let vehicle = vehicle::vehicle_at(sheet, index);
     let depot = vehicle.depot as usize;
     let home = customer::stop_at(sheet, depot);
-    let gate = home.gate;
     let at_home = vehicle::rests_home(sheet, index);
-    returning_by(latest_return(gate), at_home, limits_of(vehicle))
+    returning_by(latest_return(home.gate), at_home, limits_of(vehicle))
 }
 
 impl RouteLimits {
@@ -107,27 +85,13 @@ impl RouteLimits {
     pub fn is_unlimited(self) -> bool
         ensures { result ≡ is_unlimited self }
     {
-        let max_distance = self.max_distance;
-        let max_duration = self.max_duration;
-        let rest = self.rest;
-        let Limit::Unlimited = max_distance else {
-            return false;
-        };
-        let Limit::Unlimited = max_duration else {
-            return false;
-        };
-        if let Rest::NoRest = rest { true } else { false }
+        self.max_distance.is_none() && self.max_duration.is_none() && self.rest.is_none()
     }
 
     // Whether a round of these figures keeps the limits.
     pub fn allow(self, distance: f64, duration: f64) -> bool
         ensures { result ≡ allow_of self distance duration }
     {
-        let max_distance = self.max_distance;
-        let max_duration = self.max_duration;
-        if !within(max_distance, distance) {
-            return false;
-        }
-        within(max_duration, duration)
+        within(self.max_distance, distance) && within(self.max_duration, duration)
     }
 }

@@ -1,5 +1,5 @@
 -- docs/SCOPE.md#the-walk-of-a-round. One stop of a walk, operation by operation as the Rust's `serve`.
-use Rattle.std.specs.Prelude.{ℕ, cond, Float}
+use Rattle.std.specs.Prelude.{ℕ, cond, Float, Option, Some, None}
 use Rattle.std.specs.Float.Ieee.{lt}
 use Rattle.sheet.specs.Values.{nought}
 use Rattle.sheet.specs.declared.customer.Window.{Window}
@@ -7,27 +7,24 @@ use Rattle.sheet.specs.declared.customer.Gate.{Gate}
 use Rattle.sheet.specs.declared.customer.Gate.TheVariants.{Open, Hard, Soft}
 use Rattle.sheet.specs.declared.customer.Stop.{Stop}
 use Rattle.sheet.specs.declared.vehicle.VehicleBreak.{VehicleBreak}
-use Rattle.evaluation_clock.specs.declared.label.RestAnswer.{RestAnswer}
-use Rattle.evaluation_clock.specs.declared.label.RestAnswer.TheVariants.{NoRest, Before}
+use Rattle.evaluation_clock.specs.RestAnswer.{RestAnswer}
 use Rattle.evaluation_clock.specs.declared.label.Label.{Label}
-use Rattle.evaluation_clock.specs.declared.label.Served.{Served}
-use Rattle.evaluation_clock.specs.declared.label.Served.TheVariants.{Done, Refused}
 use Rattle.evaluation_clock.specs.Sums.{◌⊕◌, ◌⊗◌}
 use Rattle.evaluation_clock.specs.Window.{violated_of, waiting_of, lateness_of}
 
 -- "an answer that is either none or a place with its start time": the plan's rest place, "1 is before the first stop, 0 is none"
 abbrev pub rest_place : RestAnswer → ℕ
-rest_place NoRest = 0
-rest_place (Before place start) = place
+rest_place None = 0
+rest_place (Some (place, start)) = place
 
 -- the plan's rest start: "Unused bytes are zero", so +0.0 for none
 abbrev pub rest_start : RestAnswer → Float
-rest_start NoRest = nought
-rest_start (Before place start) = start
+rest_start None = nought
+rest_start (Some (place, start)) = start
 
 -- "It leaves the vehicle's depot at 0."
 abbrev pub at_depot : Label
-at_depot = record { time = nought; lateness = nought; lateness_cost = nought; rest = NoRest }
+at_depot = record { time = nought; lateness = nought; lateness_cost = nought; rest = None }
 
 -- the label once it leaves the stop
 abbrev pub leaving_at : Label → Float → Label
@@ -44,23 +41,23 @@ late_by l penalty late = record {
 
 -- with the rest taken before the stop counted so
 abbrev pub rested_at : Label → ℕ → Float → Label
-rested_at l place start = record { time = l.time; lateness = l.lateness; lateness_cost = l.lateness_cost; rest = Before place start }
+rested_at l place start = record { time = l.time; lateness = l.lateness; lateness_cost = l.lateness_cost; rest = Some (place, start) }
 
 -- "Departure is the later of arrival and ready, plus service", in the Rust's operations: arrival, plus the wait, plus service
 abbrev pub departure_of : Window → Float → Float → Float
 departure_of w arrival service = arrival ⊕ waiting_of w arrival ⊕ service
 
 -- "Arrival after a window's due fails", where the window is hard; with a penalty it costs
-unfoldable pub pass : Label → Float → Float → Gate → Served
-pass l arrival service Open = Done (leaving_at l (arrival ⊕ service))
-pass l arrival service (Hard w) = cond (violated_of w arrival) Refused (Done (leaving_at l (departure_of w arrival service)))
+unfoldable pub pass : Label → Float → Float → Gate → Option Label
+pass l arrival service Open = Some (leaving_at l (arrival ⊕ service))
+pass l arrival service (Hard w) = cond (violated_of w arrival) None (Some (leaving_at l (departure_of w arrival service)))
 pass l arrival service (Soft w penalty) =
     cond (violated_of w arrival)
-    (Done (leaving_at (late_by l penalty (lateness_of w arrival)) (departure_of w arrival service)))
-    (Done (leaving_at l (departure_of w arrival service)))
+    (Some (leaving_at (late_by l penalty (lateness_of w arrival)) (departure_of w arrival service)))
+    (Some (leaving_at l (departure_of w arrival service)))
 
 -- the wait and the service of a stop, for a vehicle that is there at `arrival`
-abbrev pub visit_of : Label → Float → Stop → Served
+abbrev pub visit_of : Label → Float → Stop → Option Label
 visit_of l arrival s = pass l arrival s.service s.gate
 
 -- "it starts at the later of arrival and earliest": the Rust's `max`, where neither is a NaN or -0
@@ -68,13 +65,13 @@ abbrev pub later_of : Float → Float → Float
 later_of x y = cond (lt x y) y x
 
 -- "Arrival is the last departure plus the time of the leg."
-unfoldable pub serve_of : Label → Float → Stop → Served
+unfoldable pub serve_of : Label → Float → Stop → Option Label
 serve_of l travel s = visit_of l (l.time ⊕ travel) s
 
 -- "start > latest is refused, start = latest is not", "and its end then counts as arrival"
-abbrev pub rest_from : Label → Stop → ℕ → VehicleBreak → Float → Served
-rest_from l s place b start = cond (lt b.latest start) Refused (visit_of (rested_at l place start) (start ⊕ b.duration) s)
+abbrev pub rest_from : Label → Stop → ℕ → VehicleBreak → Float → Option Label
+rest_from l s place b start = cond (lt b.latest start) None (visit_of (rested_at l place start) (start ⊕ b.duration) s)
 
 -- "a rest stands before a stop, starting at the later of arrival and earliest"
-unfoldable pub serve_rested : Label → Float → Stop → ℕ → VehicleBreak → Served
+unfoldable pub serve_rested : Label → Float → Stop → ℕ → VehicleBreak → Option Label
 serve_rested l travel s place b = rest_from l s place b (later_of (l.time ⊕ travel) b.earliest)

@@ -1,6 +1,6 @@
 // The vehicle at a stop with its service done.
 ghost use Rattle.std.specs.Prelude.{◌≡◌};
-ghost use Rattle.evaluation_clock.specs.Serve.{at_depot, leaving_at, late_by, rested_at, departure_of, later_of, visit_of, serve_of, serve_rested};
+ghost use Rattle.evaluation_clock.specs.Serve.{rest_place, rest_start, at_depot, leaving_at, late_by, rested_at, departure_of, later_of, visit_of, serve_of, serve_rested};
 ghost use Rattle.evaluation_clock.specs.Clock.{step_of, step_rested, earlier_of};
 
 use crate::window;
@@ -8,10 +8,20 @@ use sheet::customer::{Gate, Stop, Window};
 use sheet::vehicle::VehicleBreak;
 
 // Where the rest stands: before the stop counted so, from 1, with its start.
-#[derive(Clone, Copy)]
-pub enum RestAnswer {
-    NoRest,
-    Before(u16, f64),
+pub type RestAnswer = Option<(u16, f64)>;
+
+// The stop before which it stands, 0 where there is none.
+pub fn rest_place(rest: RestAnswer) -> u16
+    ensures { result ≡ rest_place rest }
+{
+    rest.map_or(0, |(place, _)| place)
+}
+
+// When it starts, 0 where there is none.
+pub fn rest_start(rest: RestAnswer) -> f64
+    ensures { result ≡ rest_start rest }
+{
+    rest.map_or(0.0, |(_, start)| start)
 }
 
 #[derive(Clone, Copy)]
@@ -22,17 +32,11 @@ pub struct Label {
     pub rest: RestAnswer,
 }
 
-#[derive(Clone, Copy)]
-pub enum Served {
-    Done(Label),
-    Refused,
-}
-
 // At the depot at 0.
 pub fn start() -> Label
     ensures { result ≡ at_depot }
 {
-    let rest = RestAnswer::NoRest;
+    let rest = None;
     Label {
         time: 0.0,
         lateness: 0.0,
@@ -52,8 +56,8 @@ fn rebuilt(rest: RestAnswer) -> RestAnswer
     ensures { result ≡ rest }
 {
     match rest {
-        RestAnswer::NoRest => RestAnswer::NoRest,
-        RestAnswer::Before(place, start) => RestAnswer::Before(place, start),
+        None => None,
+        Some((place, start)) => Some((place, start)),
     }
 }
 
@@ -89,32 +93,32 @@ fn departure(w: Window, arrival: f64, service: f64) -> f64
 }
 
 // The wait and the service at a stop, for a vehicle that is there at `arrival`.
-pub fn visit(label: Label, arrival: f64, stop: Stop) -> Served
+pub fn visit(label: Label, arrival: f64, stop: Stop) -> Option<Label>
     ensures { result ≡ visit_of label arrival stop }
 {
     let service = stop.service;
     let gate = stop.gate;
     match gate {
-        Gate::Open => Served::Done(leaving(label, arrival + service)),
+        Gate::Open => Some(leaving(label, arrival + service)),
         Gate::Hard(w) => {
             if window::violated(w, arrival) {
-                return Served::Refused;
+                return None;
             }
-            Served::Done(leaving(label, departure(w, arrival, service)))
+            Some(leaving(label, departure(w, arrival, service)))
         }
         Gate::Soft(w, penalty) => {
             let time = departure(w, arrival, service);
             if window::violated(w, arrival) {
                 let late = late_by(label, penalty, window::lateness(w, arrival));
-                return Served::Done(leaving(late, time));
+                return Some(leaving(late, time));
             }
-            Served::Done(leaving(label, time))
+            Some(leaving(label, time))
         }
     }
 }
 
 // One stop: the way there, then the visit.
-pub fn serve(label: Label, travel: f64, stop: Stop) -> Served
+pub fn serve(label: Label, travel: f64, stop: Stop) -> Option<Label>
     ensures { result ≡ serve_of label travel stop }
 {
     visit(label, label.time + travel, stop)
@@ -123,7 +127,7 @@ pub fn serve(label: Label, travel: f64, stop: Stop) -> Served
 fn rested(label: Label, place: u16, start: f64) -> Label
     ensures { result ≡ rested_at label place start }
 {
-    let rest = RestAnswer::Before(place, start);
+    let rest = Some((place, start));
     Label {
         time: label.time,
         lateness: label.lateness,
@@ -133,33 +137,39 @@ fn rested(label: Label, place: u16, start: f64) -> Label
 }
 
 // One stop with the rest before it. It is a function of its own and not a case of `serve`: each then holds one visit, and is inlined.
-pub fn serve_rested(label: Label, travel: f64, stop: Stop, place: u16, rest: VehicleBreak) -> Served
+pub fn serve_rested(
+    label: Label,
+    travel: f64,
+    stop: Stop,
+    place: u16,
+    rest: VehicleBreak,
+) -> Option<Label>
     ensures { result ≡ serve_rested label travel stop place rest }
 {
     let start = later(label.time + travel, rest.earliest);
     if rest.latest < start {
-        return Served::Refused;
+        return None;
     }
     visit(rested(label, place, start), start + rest.duration, stop)
 }
 
 // The same two from a label that may be gone.
-pub fn step(from: Served, travel: f64, stop: Stop) -> Served
+pub fn step(from: Option<Label>, travel: f64, stop: Stop) -> Option<Label>
     ensures { result ≡ step_of from travel stop }
 {
-    match from {
-        Served::Done(label) => serve(label, travel, stop),
-        Served::Refused => Served::Refused,
-    }
+    serve(from?, travel, stop)
 }
 
-pub fn step_rested(from: Served, travel: f64, stop: Stop, place: u16, rest: VehicleBreak) -> Served
+pub fn step_rested(
+    from: Option<Label>,
+    travel: f64,
+    stop: Stop,
+    place: u16,
+    rest: VehicleBreak,
+) -> Option<Label>
     ensures { result ≡ step_rested from travel stop place rest }
 {
-    match from {
-        Served::Done(label) => serve_rested(label, travel, stop, place, rest),
-        Served::Refused => Served::Refused,
-    }
+    serve_rested(from?, travel, stop, place, rest)
 }
 
 // Whether a label is preferred to one that is carried.
@@ -177,21 +187,21 @@ fn wins_over(y: Label, x: Label) -> bool
 
 // Of two labels the one with the smaller time, then with the smaller lateness cost, then the first. Each is put together anew,
 // so that neither has to lie in memory to be chosen from.
-pub fn earlier(carried: Served, here: Served) -> Served
+pub fn earlier(carried: Option<Label>, here: Option<Label>) -> Option<Label>
     ensures { result ≡ earlier_of carried here }
 {
     match carried {
-        Served::Refused => match here {
-            Served::Refused => Served::Refused,
-            Served::Done(y) => Served::Done(leaving(y, y.time)),
+        None => match here {
+            None => None,
+            Some(y) => Some(leaving(y, y.time)),
         },
-        Served::Done(x) => match here {
-            Served::Refused => Served::Done(leaving(x, x.time)),
-            Served::Done(y) => {
+        Some(x) => match here {
+            None => Some(leaving(x, x.time)),
+            Some(y) => {
                 if wins_over(y, x) {
-                    return Served::Done(leaving(y, y.time));
+                    return Some(leaving(y, y.time));
                 }
-                Served::Done(leaving(x, x.time))
+                Some(leaving(x, x.time))
             }
         },
     }

@@ -3,5 +3,4 @@
 
 pub mod clock;
 pub mod label;
-pub mod lent;
 pub mod window;

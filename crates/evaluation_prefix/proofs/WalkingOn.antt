@@ -1,4 +1,5 @@
 -- The walk on from some place, and the rounds that have the stops behind it in common. Assumes nothing.
+use Rattle.std.specs.Prelude.{Option, Some, None}
 use mathlib.Core.Path.{◌≡◌, sym, ap, ◌∙◌, subst}
 use Prim.Native.Nat.{ℕ, ◌+◌, ◌-◌, ◌≤◌, ◌<◌}
 use native.Mathlib.Omega.{arith}
@@ -9,13 +10,8 @@ use lib.Seq.{get_or-take, get_or-drop, length-take-le, take-add, take_all}
 use lib.Ieee.{Float}
 use Rattle.sheet.specs.Fields.{rows_of}
 use Rattle.sheet.specs.Values.{distance_of, time_of}
-use Rattle.sheet.specs.declared.vehicle.Rest.TheVariants.{NoRest as restless}
-use Rattle.evaluation_clock.specs.declared.label.RestAnswer.{RestAnswer}
-use Rattle.evaluation_clock.specs.declared.label.RestAnswer.TheVariants.{NoRest}
+use Rattle.evaluation_clock.specs.RestAnswer.{RestAnswer}
 use Rattle.evaluation_clock.specs.declared.label.Label.{Label}
-use Rattle.evaluation_clock.specs.declared.label.Served.TheVariants.{Done}
-use Rattle.evaluation_clock.specs.declared.clock.Scheduled.{Scheduled}
-use Rattle.evaluation_clock.specs.declared.clock.Scheduled.TheVariants.{Found, NotFound}
 use Rattle.evaluation.specs.declared.limits.RouteLimits.{RouteLimits}
 use Rattle.evaluation_prefix.specs.declared.Prefix.{Prefix}
 use Rattle.evaluation_clock.specs.Sums.{◌⊕◌}
@@ -25,13 +21,14 @@ use Rattle.evaluation.specs.Walk.{Position, start_at, drive_to, walked_over, hom
 use Rattle.evaluation_prefix.specs.Prefix.{lost_at, label_by, position_of, PrefixOf, WalkedTo, WalkedBefore}
 use Rattle.evaluation.specs.Laws.Walk.{dead_over, dead_home}
 use Rattle.evaluation.proofs.Walking.{plain_at}
+use Rattle.evaluation_clock.specs.declared.clock.Schedule.{Schedule}
 
 -- ---- where the loop leaves off
 module _ (s rows : List ℕ) (a : Prefix) (stops prev : ℕ) (count : stops ≡ a.stops + length rows) (from : prev < rows_of s) where
   pub loses : alive_of (walked_over s (position_of a) rows).clock ≡ false → WalkedTo s a rows (lost_at stops prev)
   loses e = record { from = from; count = count; stands = record { there = λ t. absurd (true≢false t); lost = λ t. e } }
 
-  pub arrives : (l : Label) (distance : Float) → l.rest ≡ NoRest → walked_over s (position_of a) rows ≡ plain_at (Done l) distance prev (a.stops + 1 + length rows)
+  pub arrives : (l : Label) (distance : Float) → l.rest ≡ None → walked_over s (position_of a) rows ≡ plain_at (Some l) distance prev (a.stops + 1 + length rows)
       → WalkedTo s a rows (record { stops = stops; prev = prev; distance = distance; time = l.time; lateness = l.lateness; lateness_cost = l.lateness_cost; missed = false })
   arrives l distance r e = record {
     from = from;
@@ -40,21 +37,21 @@ module _ (s rows : List ℕ) (a : Prefix) (stops prev : ℕ) (count : stops ≡ 
       there = λ t.
           let n : a.stops + 1 + length rows ≡ stops + 1 = omega (arith, count) in
           e
-          ∙ ap (plain_at (Done l) distance prev) n
-          ∙ ap (λ (x : RestAnswer). plain_at (Done (record { time = l.time; lateness = l.lateness; lateness_cost = l.lateness_cost; rest = x })) distance prev (stops + 1)) r;
+          ∙ ap (plain_at (Some l) distance prev) n
+          ∙ ap (λ (x : RestAnswer). plain_at (Some (record { time = l.time; lateness = l.lateness; lateness_cost = l.lateness_cost; rest = x })) distance prev (stops + 1)) r;
       lost = λ t. absurd (true≢false (sym t));
     };
   }
 
 -- ---- home
-pub missed_walk : (s : List ℕ) (depot : ℕ) (a : Prefix) (rows : List ℕ) → a.missed ≡ true → (p : Position) → PrefixOf a p → NotFound ≡ home_from s depot (walked_over s p rows)
+pub missed_walk : (s : List ℕ) (depot : ℕ) (a : Prefix) (rows : List ℕ) → a.missed ≡ true → (p : Position) → PrefixOf a p → None ≡ home_from s depot (walked_over s p rows)
 missed_walk s depot a rows e p g = sym (dead_home s depot (walked_over s p rows) (dead_over s p rows (g.lost e)))
 
 module _ (s : List ℕ) (depot : ℕ) (a : Prefix) (rows : List ℕ) (b : Prefix) (lawful : a.missed ≡ false) (g : WalkedTo s a rows b) (p : Position) (at : PrefixOf a p) where
-  pub missed_on : b.missed ≡ true → NotFound ≡ home_from s depot (walked_over s p rows)
+  pub missed_on : b.missed ≡ true → None ≡ home_from s depot (walked_over s p rows)
   missed_on e = sym (rw (at.there lawful) (dead_home s depot (walked_over s (position_of a) rows) (g.stands.lost e)))
 
-  pub home_on : b.missed ≡ false → Found (home_schedule (label_by b) (b.distance ⊕ distance_of s b.prev depot) (time_of s b.prev depot) NoRest) ≡ home_from s depot (walked_over s p rows)
+  pub home_on : b.missed ≡ false → Some (home_schedule (label_by b) (b.distance ⊕ distance_of s b.prev depot) (time_of s b.prev depot) None) ≡ home_from s depot (walked_over s p rows)
   unfolding home_from returned unrested
   home_on e = rw (at.there lawful, g.stands.there e)
 
@@ -78,10 +75,10 @@ there s round a b k h l f =
 
 module _ (s : List ℕ) (depot : ℕ) (limits : RouteLimits) (round : List ℕ) (a : Prefix) (g : WalkedBefore s depot limits round a) where
   abbrev start : Position
-  start = start_at restless depot
+  start = start_at None depot
 
   -- walked on to a later place
-  pub nearer : (k : ℕ) (b : Prefix) → a.stops ≤ k → k ≤ length round → limits.rest ≡ restless → a.missed ≡ false → WalkedTo s a (take (k - a.stops) (drop a.stops round)) b → WalkedBefore s depot limits round b
+  pub nearer : (k : ℕ) (b : Prefix) → a.stops ≤ k → k ≤ length round → limits.rest ≡ None → a.missed ≡ false → WalkedTo s a (take (k - a.stops) (drop a.stops round)) b → WalkedBefore s depot limits round b
   nearer k b h l r m f =
       let part = take (k - a.stops) (drop a.stops round) in
       let at = there s round a b k h l f in
@@ -93,7 +90,7 @@ module _ (s : List ℕ) (depot : ℕ) (limits : RouteLimits) (round : List ℕ) 
       record { from = f.from; place = omega (arith, at); unrested = λ _. r; stands = subst (PrefixOf b) (sym same) f.stands }
 
   -- the round walked to its end
-  pub whole : (x : Scheduled) → ((p : Position) → PrefixOf a p → x ≡ home_from s depot (walked_over s p (take (length round - a.stops) (drop a.stops round)))) → x ≡ scheduled_of s depot restless round
+  pub whole : (x : Option Schedule) → ((p : Position) → PrefixOf a p → x ≡ home_from s depot (walked_over s p (take (length round - a.stops) (drop a.stops round)))) → x ≡ scheduled_of s depot None round
   unfolding scheduled_of
   whole x f =
       let left : take (length round - a.stops) (drop a.stops round) ≡ drop a.stops round = take_all (length round - a.stops) (drop a.stops round) (rw length-drop (omega arith)) in

@@ -1,11 +1,8 @@
 -- A round walked up to some place without a rest, for the code that walks on from there.
-use Rattle.std.specs.Prelude.{◌≡◌, ℕ, ◌+◌, ◌≤◌, ◌<◌, true, false, List, length, take}
+use Rattle.std.specs.Prelude.{◌≡◌, ℕ, ◌+◌, ◌≤◌, ◌<◌, true, false, List, length, take, Some, None}
 use Rattle.sheet.specs.Fields.{rows_of}
 use Rattle.sheet.specs.Values.{nought}
-use Rattle.sheet.specs.declared.vehicle.Rest.TheVariants.{NoRest as restless}
-use Rattle.evaluation_clock.specs.declared.label.RestAnswer.TheVariants.{NoRest}
 use Rattle.evaluation_clock.specs.declared.label.Label.{Label}
-use Rattle.evaluation_clock.specs.declared.label.Served.TheVariants.{Done, Refused}
 use Rattle.evaluation.specs.declared.limits.RouteLimits.{RouteLimits}
 use Rattle.evaluation_prefix.specs.declared.Prefix.{Prefix}
 use Rattle.evaluation_clock.specs.Clock.{alive_of}
@@ -21,12 +18,12 @@ lost_at stops prev = record { stops = stops; prev = prev; distance = nought; tim
 
 -- its label, with no rest taken
 abbrev pub label_by : Prefix → Label
-label_by a = record { time = a.time; lateness = a.lateness; lateness_cost = a.lateness_cost; rest = NoRest }
+label_by a = record { time = a.time; lateness = a.lateness; lateness_cost = a.lateness_cost; rest = None }
 
 -- the position that it is
 abbrev pub position_of : Prefix → Position
 position_of a = record {
-  clock = record { rest = restless; before = Done (label_by a); after = Refused; prev = a.prev; place = a.stops + 1 };
+  clock = record { rest = None; before = Some (label_by a); after = None; prev = a.prev; place = a.stops + 1 };
   distance = a.distance;
 }
 
@@ -45,5 +42,5 @@ pub record WalkedTo (s : List ℕ) (a : Prefix) (rows : List ℕ) (b : Prefix) :
 pub record WalkedBefore (s : List ℕ) (depot : ℕ) (limits : RouteLimits) (round : List ℕ) (a : Prefix) : Type 0 where
   pub from : a.prev < rows_of s
   pub place : a.stops ≤ length round
-  pub unrested : 0 < a.stops → limits.rest ≡ restless
-  pub stands : PrefixOf a (walked_over s (start_at restless depot) (take a.stops round))
+  pub unrested : 0 < a.stops → limits.rest ≡ None
+  pub stands : PrefixOf a (walked_over s (start_at None depot) (take a.stops round))

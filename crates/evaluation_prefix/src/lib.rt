@@ -8,12 +8,10 @@ ghost use Rattle.evaluation.specs.Feasible.{route_feasible, route_eval};
 ghost use Rattle.evaluation.specs.Walk.{Position, walked_over, home_from};
 ghost use Rattle.evaluation_prefix.specs.Prefix.{at_start, label_by, lost_at, PrefixOf, WalkedTo, WalkedBefore};
 
-use evaluation::RouteEval;
 use evaluation::limits::RouteLimits;
-use evaluation_clock::clock::Scheduled;
-use evaluation_clock::label::{Label, RestAnswer, Served};
+use evaluation_clock::clock::Schedule;
+use evaluation_clock::label::Label;
 use evaluation_clock::{clock, label};
-use sheet::vehicle::Rest;
 use sheet::{customer, matrix};
 
 // So many stops are walked again for a place before the walk up to them is kept.
@@ -49,7 +47,7 @@ pub fn start(depot: usize) -> Prefix
 fn label(ahead: Prefix) -> Label
     ensures { result ≡ label_by ahead }
 {
-    let rest = RestAnswer::NoRest;
+    let rest = None;
     Label {
         time: ahead.time,
         lateness: ahead.lateness,
@@ -83,11 +81,11 @@ fn over(sheet: &[u8], from: Prefix, rows: &[u16]) -> Prefix
     let mut label = label(from);
     let mut distance = from.distance;
     let mut prev = from.prev;
-    for i in 0..rows.len() {
-        let row = rows[i] as usize;
+    for &stop in rows {
+        let row = stop as usize;
         distance = distance + matrix::distance(sheet, prev, row);
         let travel = matrix::travel_time(sheet, prev, row);
-        let Served::Done(next) = label::serve(label, travel, customer::stop_at(sheet, row)) else {
+        let Some(next) = label::serve(label, travel, customer::stop_at(sheet, row)) else {
             return lost(stops, prev);
         };
         label = next;
@@ -105,22 +103,22 @@ fn over(sheet: &[u8], from: Prefix, rows: &[u16]) -> Prefix
 }
 
 // The walk of the rows left, and home.
-fn walk_on(sheet: &[u8], from: Prefix, rows: &[u16], depot: usize) -> Scheduled
+fn walk_on(sheet: &[u8], from: Prefix, rows: &[u16], depot: usize) -> Option<Schedule>
     requires routed { Routed sheet.now from.prev rows.now }
     requires depot_bound { (depot < rows_of sheet.now) × (from.stops ≤ most_rows) }
     ensures { (p : Position) → PrefixOf from p → result ≡ home_from sheet.now depot (walked_over sheet.now p rows.now) }
 {
     if from.missed {
-        return Scheduled::NotFound;
+        return None;
     }
     let end = over(sheet, from, rows);
     if end.missed {
-        return Scheduled::NotFound;
+        return None;
     }
     let prev = end.prev;
     let distance = end.distance + matrix::distance(sheet, prev, depot);
     let back = matrix::travel_time(sheet, prev, depot);
-    Scheduled::Found(clock::home(label(end), distance, back, RestAnswer::NoRest))
+    Some(clock::home(label(end), distance, back, None))
 }
 
 // Nearer to place k of the round, where the way is long enough for a walk from there to gain by it.
@@ -135,8 +133,8 @@ pub fn towards(sheet: &[u8], round: &[u16], from: Prefix, k: usize, limits: Rout
     }
     let rest = limits.rest;
     match rest {
-        Rest::NoRest => over(sheet, from, &round[at..k]),
-        Rest::Required(_) => from,
+        None => over(sheet, from, &round[at..k]),
+        Some(_) => from,
     }
 }
 
@@ -166,7 +164,7 @@ pub fn eval_on(
     from: Prefix,
     depot: usize,
     limits: RouteLimits,
-) -> RouteEval
+) -> Option<Schedule>
     requires routed { Routed sheet.now depot round.now }
     requires walked_before { WalkedBefore sheet.now depot limits round.now from }
     ensures { result ≡ route_eval sheet.now depot limits round.now }

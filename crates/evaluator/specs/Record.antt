@@ -1,30 +1,28 @@
 -- docs/SCOPE.md#the-plan. "`build_route` gives a round's figures, `price` the plan's cost, each in the Rust's order of operations".
-use Rattle.std.specs.Prelude.{ℕ, ◌+◌, cond, eqb, Float}
+use Rattle.std.specs.Prelude.{ℕ, ◌+◌, cond, eqb, Float, Option, Some, None}
 use mathlib.Core.List.{List, foldl}
 use Rattle.std.specs.Float.{binary64}
 use Rattle.std.specs.Float.Ieee.{of_bits}
 use Rattle.sheet.specs.Values.{nought, stop_of, distance_of, time_of}
 use Rattle.sheet.specs.declared.customer.Gate.{Gate}
 use Rattle.sheet.specs.declared.customer.Gate.TheVariants.{Open, Hard, Soft}
-use Rattle.sheet.specs.declared.vehicle.Rest.{Rest}
-use Rattle.sheet.specs.declared.vehicle.Rest.TheVariants.{NoRest, Required}
 use Rattle.sheet.specs.declared.vehicle.Vehicle.{Vehicle}
 use Rattle.evaluation_clock.specs.Sums.{◌⊕◌, ◌⊗◌}
 use Rattle.evaluation_clock.specs.Window.{violated_of, lateness_of}
 use Rattle.evaluation_clock.specs.Serve.{departure_of}
 use Rattle.evaluation.specs.Verdict.{Verdict, verdict_on, placed_rest}
-use Rattle.evaluation_clock.specs.declared.label.RestAnswer.{RestAnswer}
-use Rattle.evaluation_clock.specs.declared.label.RestAnswer.TheVariants.{NoRest as Unrested, Before}
+use Rattle.evaluation_clock.specs.RestAnswer.{RestAnswer}
 use Rattle.evaluation.specs.declared.limits.RouteLimits.{RouteLimits}
 use Rattle.evaluator.specs.declared.Progress.{Progress}
 use Rattle.evaluator.specs.declared.Record.{Record}
 use Rattle.evaluator.specs.declared.Placed.{Placed}
+use Rattle.sheet.specs.declared.vehicle.VehicleBreak.{VehicleBreak}
 
 -- ---- the rest
 -- where the verdict on a round puts it
-abbrev pub placed_by : Rest → Verdict → Placed
-placed_by NoRest v = record { answer = Unrested; duration = nought }
-placed_by (Required b) v = record { answer = placed_rest v; duration = b.duration }
+abbrev pub placed_by : Option VehicleBreak → Verdict → Placed
+placed_by None v = record { answer = None; duration = nought }
+placed_by (Some b) v = record { answer = placed_rest v; duration = b.duration }
 
 -- the rest that a vehicle takes on a round
 unfoldable pub placed_of : List ℕ → ℕ → RouteLimits → List ℕ → Placed
@@ -32,8 +30,8 @@ placed_of s depot limits route = placed_by limits.rest (verdict_on s depot limit
 
 -- "its end then counts as arrival" at the stop that the rest stands before
 unfoldable pub ready_for : RestAnswer → Float → ℕ → Float → Float
-ready_for Unrested duration place arrival = arrival
-ready_for (Before at start) duration place arrival = cond (eqb at place) (start ⊕ duration) arrival
+ready_for None duration place arrival = arrival
+ready_for (Some (at, start)) duration place arrival = cond (eqb at place) (start ⊕ duration) arrival
 
 -- ---- a visit
 -- arrival, plus the wait, plus service; a hard window that is missed changes no figure

@@ -1,22 +1,21 @@
 // A round's record: what each stop's visit and the whole round come to, and what a plan costs.
 #![tactic(auto)]
 
-ghost use Rattle.std.specs.Prelude.{◌≡◌, ◌+◌, ◌*◌, ◌≤◌, ◌<◌};
+ghost use Rattle.std.specs.Prelude.{◌≡◌, ◌+◌, ◌*◌, ◌≤◌, ◌<◌, Some};
 ghost use Rattle.sheet.specs.Accepted.{Accepted};
 ghost use Rattle.sheet.specs.Fields.{rows_of};
-ghost use Rattle.sheet.specs.declared.vehicle.Rest.TheVariants.{Required};
 ghost use Rattle.evaluation.specs.Routed.{Routed};
 ghost use Rattle.evaluation.specs.Verdict.{held_to, verdict_on, placed_rest};
-ghost use Rattle.evaluator.specs.Record.{placed_of, ready_for, departs_at, late_after, cost_after, begin_of, visited_of, record_of, build_route, route_cost, price_start, price_with};
+ghost use Rattle.evaluator.specs.Record.{placed_of, ready_for, departs_at, late_after, cost_after, begin_of, visited_of, progress_of, record_of, build_route, route_cost, price_start, price_with};
 ghost use Rattle.evaluator.specs.Driven.{Driven};
 
 use evaluation::limits::RouteLimits;
-use evaluation::{RouteEval, schedule};
-use evaluation_clock::clock::Scheduled;
+use evaluation::schedule;
+use evaluation_clock::clock::Schedule;
 use evaluation_clock::label::RestAnswer;
 use evaluation_clock::window;
 use sheet::customer::Gate;
-use sheet::vehicle::{Rest, Vehicle, VehicleBreak};
+use sheet::vehicle::{Vehicle, VehicleBreak};
 use sheet::{customer, matrix};
 
 // The round so far: its last visit, and what it has come to. `load` is after that visit.
@@ -51,13 +50,10 @@ pub struct Placed {
 }
 
 // Where the schedule has its rest, whatever the limits say of it.
-fn answer(scheduled: Scheduled) -> RestAnswer
+fn answer(scheduled: Option<Schedule>) -> RestAnswer
     ensures { (limits : RouteLimits) → result ≡ placed_rest (held_to limits scheduled) }
 {
-    match scheduled {
-        Scheduled::Found(s) => s.rest,
-        Scheduled::NotFound => RestAnswer::NoRest,
-    }
+    scheduled?.rest
 }
 
 // Where a vehicle that has a rest takes it. The limits are asked only where it may be at home: that is for a round that they
@@ -70,16 +66,15 @@ fn rest_answer(
     rest: VehicleBreak,
 ) -> RestAnswer
     requires routed { Routed sheet.now depot route.now }
-    requires rest_value { limits.rest ≡ Required rest }
+    requires rest_value { limits.rest ≡ Some rest }
     ensures { result ≡ placed_rest (verdict_on sheet.now depot limits route.now) }
 {
     if !limits.at_home {
         return answer(schedule::schedule(sheet, route, depot, rest, false));
     }
-    let eval = evaluation::eval_rested(sheet, route, depot, limits, rest);
-    match eval {
-        RouteEval::Allowed(figures) => figures.rest,
-        RouteEval::NotAllowed => answer(schedule::schedule(sheet, route, depot, rest, false)),
+    match evaluation::eval_rested(sheet, route, depot, limits, rest) {
+        Some(figures) => figures.rest,
+        None => answer(schedule::schedule(sheet, route, depot, rest, false)),
     }
 }
 
@@ -88,16 +83,12 @@ pub fn place_rest(sheet: &[u8], route: &[u16], depot: usize, limits: RouteLimits
     requires { Routed sheet.now depot route.now }
     ensures { result ≡ placed_of sheet.now depot limits route.now }
 {
-    let rest = limits.rest;
-    match rest {
-        Rest::NoRest => {
-            let none = RestAnswer::NoRest;
-            Placed {
-                answer: none,
-                duration: 0.0,
-            }
-        }
-        Rest::Required(b) => {
+    match limits.rest {
+        None => Placed {
+            answer: None,
+            duration: 0.0,
+        },
+        Some(b) => {
             let answer = rest_answer(sheet, route, depot, limits, b);
             Placed {
                 answer,
@@ -112,8 +103,8 @@ fn ready_for(answer: RestAnswer, duration: f64, place: u16, arrival: f64) -> f64
     ensures { result ≡ ready_for answer duration place arrival }
 {
     match answer {
-        RestAnswer::NoRest => arrival,
-        RestAnswer::Before(at, start) => {
+        None => arrival,
+        Some((at, start)) => {
             if at == place {
                 return start + duration;
             }
@@ -223,17 +214,26 @@ impl Progress {
     }
 }
 
+// The round so far after `route`, with its rest where `placed` says.
+pub fn progress_after(sheet: &[u8], route: &[u16], depot: usize, placed: Placed) -> Progress
+    requires { Routed sheet.now depot route.now }
+    ensures value { result ≡ progress_of sheet.now placed (begin_of depot) route.now }
+    ensures prev_bound { result.prev < rows_of sheet.now }
+{
+    let mut progress = Progress::new(depot);
+    for &stop in route {
+        progress = progress.visited(sheet, placed, stop as usize);
+    }
+    progress
+}
+
 // The figures of a round from `depot` and back.
 pub fn build_route(sheet: &[u8], route: &[u16], depot: usize, limits: RouteLimits) -> Record
     requires { Routed sheet.now depot route.now }
     ensures { result ≡ build_route sheet.now depot limits route.now }
 {
     let placed = place_rest(sheet, route, depot, limits);
-    let mut progress = Progress::new(depot);
-    for i in 0..route.len() {
-        progress = progress.visited(sheet, placed, route[i] as usize);
-    }
-    progress.record(sheet, depot, placed)
+    progress_after(sheet, route, depot, placed).record(sheet, depot, placed)
 }
 
 // What a round of `distance` costs.

@@ -1,5 +1,5 @@
 -- docs/SCOPE.md#the-limiter. Document 01, "fleet.rs": the limiter "reinserts its stops cheapest first". The cheapest insertion of one stop, and of the stops pending.
-use Rattle.std.specs.Prelude.{ℕ, zero, suc, ◌+◌, Bool, true, not, ◌&&◌, ◌||◌, cond, List, [], ◌∷◌, length, Float}
+use Rattle.std.specs.Prelude.{ℕ, zero, suc, ◌+◌, Bool, true, not, ◌&&◌, ◌||◌, cond, List, [], ◌∷◌, length, Float, Some, None}
 use Rattle.std.specs.Float.Ieee.{lt}
 use Rattle.lists.specs.Moved.{inserted}
 use Rattle.evaluation_clock.specs.Sums.{◌⊖◌}
@@ -8,11 +8,9 @@ use Rattle.evaluation.specs.Feasible.{effective_cost}
 use Rattle.constructive.specs.Outcome.{Round}
 use Rattle.constructive.specs.Rounds.{passes}
 use Rattle.insertion.specs.Lawful.{load_fits}
-use Rattle.insertion.specs.declared.choice.Choice.{Choice}
-use Rattle.insertion.specs.declared.choice.Choice.TheVariants.{Nowhere, Best}
+use Rattle.insertion.specs.Choice.{Choice}
 use Rattle.insertion.specs.Place.{detour, Judged, judged, better_place}
-use Rattle.fleet.specs.declared.Pick.{Pick}
-use Rattle.fleet.specs.declared.Pick.TheVariants.{Nothing, Put}
+use Rattle.fleet.specs.Pick.{Pick}
 
 -- ---- a round of the vehicle at index v. The limiter has one depot, row 0.
 -- distance plus lateness cost, in the units of distance
@@ -49,16 +47,16 @@ insertion_from s soft row c i (r ∷ rs) = insertion_from s soft row (in_round s
 
 -- `cheapest_insertion`
 abbrev pub cheapest_insertion : List ℕ → Bool → List Round → ℕ → Choice
-cheapest_insertion s soft rounds row = insertion_from s soft row Nowhere 0 rounds
+cheapest_insertion s soft rounds row = insertion_from s soft row None 0 rounds
 
 -- ---- the stops pending: "cheapest first", the first of equals
 abbrev pub cheaper : Float → Pick → Bool
-cheaper cost Nothing = true
-cheaper cost (Put j i k least) = lt cost least
+cheaper cost None = true
+cheaper cost (Some (j, i, k, least)) = lt cost least
 
 abbrev pub pick_with : Pick → ℕ → Choice → Pick
-pick_with p j Nowhere = p
-pick_with p j (Best i k cost) = cond (cheaper cost p) (Put j i k cost) p
+pick_with p j None = p
+pick_with p j (Some (i, k, cost)) = cond (cheaper cost p) (Some (j, i, k, cost)) p
 
 -- those from place j on
 unfoldable pub pick_from : List ℕ → Bool → List Round → Pick → ℕ → List ℕ → Pick
@@ -66,4 +64,4 @@ pick_from s soft rounds p j [] = p
 pick_from s soft rounds p j (row ∷ rows) = pick_from s soft rounds (pick_with p j (cheapest_insertion s soft rounds row)) (j + 1) rows
 
 abbrev pub pick_of : List ℕ → Bool → List Round → List ℕ → Pick
-pick_of s soft rounds pending = pick_from s soft rounds Nothing 0 pending
+pick_of s soft rounds pending = pick_from s soft rounds None 0 pending

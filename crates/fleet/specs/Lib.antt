@@ -1,3 +1,4 @@
+pub mod Pick
 pub mod Cheapest
 pub mod Limit
 pub mod Stood

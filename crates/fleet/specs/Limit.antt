@@ -1,5 +1,5 @@
 -- docs/SCOPE.md#the-limiter. Document 01, "fleet.rs": "the limiter drops the round of least load, then fewest stops, then first, and reinserts its stops cheapest first."
-use Rattle.std.specs.Prelude.{ℕ, zero, suc, ◌+◌, Bool, ◌&&◌, ◌||◌, cond, List, [], ◌∷◌, ◌++◌, ltb, eqb, length, get_or, take, drop}
+use Rattle.std.specs.Prelude.{ℕ, zero, suc, ◌+◌, Bool, ◌&&◌, ◌||◌, cond, List, [], ◌∷◌, ◌++◌, ltb, eqb, length, get_or, take, drop, Some, None}
 use Rattle.lists.specs.Moved.{without, inserted}
 use Rattle.lists.specs.Count.{is_in}
 use Rattle.sheet.specs.Stops.{stops_with}
@@ -7,8 +7,7 @@ use Rattle.evaluation.specs.Checks.{has_soft_windows}
 use Rattle.constructive.specs.Outcome.{Round, Outcome, stops_of}
 use Rattle.constructive.specs.Load.{load_of}
 use Rattle.fleet.specs.Cheapest.{pick_of}
-use Rattle.fleet.specs.declared.Pick.{Pick}
-use Rattle.fleet.specs.declared.Pick.TheVariants.{Nothing, Put}
+use Rattle.fleet.specs.Pick.{Pick}
 
 -- ---- the round that is dropped
 -- "the round of least load, then fewest stops": a later one only if it is less, so "then first"
@@ -48,8 +47,8 @@ pub record Refit : Type 0 where
   pub pending : List ℕ
 
 abbrev pub refit_by : Refit → Pick → Refit
-refit_by x Nothing = x
-refit_by x (Put j i k cost) = record { rounds = put_in i k (get_or x.pending j 0) x.rounds; pending = without j x.pending }
+refit_by x None = x
+refit_by x (Some (j, i, k, cost)) = record { rounds = put_in i k (get_or x.pending j 0) x.rounds; pending = without j x.pending }
 
 unfoldable pub refit : List ℕ → Bool → Refit → Refit
 refit s soft x = refit_by x (pick_of s soft x.rounds x.pending)

@@ -8,19 +8,15 @@ ghost use Rattle.fleet.specs.Cheapest.{cheaper, pick_with};
 use insertion::choice::Choice;
 
 // The stop by its place among those pending, the round, the place in the round, and what it costs.
-#[derive(Clone, Copy)]
-pub enum Pick {
-    Nothing,
-    Put(usize, usize, usize, f64),
-}
+pub type Pick = Option<(usize, usize, usize, f64)>;
 
 // Whether a cost is below that of the pick so far: the first of equals stays.
 fn cheaper(cost: f64, best: Pick) -> bool
     ensures { result ≡ cheaper cost best }
 {
     match best {
-        Pick::Nothing => true,
-        Pick::Put(_, _, _, least) => cost < least,
+        None => true,
+        Some((_, _, _, least)) => cost < least,
     }
 }
 
@@ -29,10 +25,10 @@ pub fn pick_with(best: Pick, j: usize, choice: Choice) -> Pick
     ensures { result ≡ pick_with best j choice }
 {
     match choice {
-        Choice::Nowhere => best,
-        Choice::Best(round, place, cost) => {
+        None => best,
+        Some((round, place, cost)) => {
             if cheaper(cost, best) {
-                return Pick::Put(j, round, place, cost);
+                return Some((j, round, place, cost));
             }
             best
         }

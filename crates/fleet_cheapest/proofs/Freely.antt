@@ -7,7 +7,7 @@ use mathlib.Core.List.{List, [], ◌∷◌}
 use lib.ListN.{length}
 use lib.Ieee.{Float}
 use Rattle.constructive.specs.declared.terms.Terms.{Terms}
-use Rattle.insertion.specs.declared.choice.Choice.{Choice}
+use Rattle.insertion.specs.Choice.{Choice}
 use Rattle.insertion.specs.Place.{detour, costs, judged, judge, better_place, try_places}
 use Rattle.insertion.specs.Laws.Judging.{hard_judge}
 use Rattle.insertion.specs.Trial.{Joinable}

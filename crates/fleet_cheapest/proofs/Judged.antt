@@ -22,7 +22,7 @@ use Rattle.constructive.specs.Unchecked.{Windowless}
 use Rattle.constructive.specs.declared.terms.Terms.{Terms}
 use Rattle.constructive.proofs.Loading.{load_few}
 use Rattle.constructive.specs.Rounds.{passes}
-use Rattle.insertion.specs.declared.choice.Choice.{Choice}
+use Rattle.insertion.specs.Choice.{Choice}
 use Rattle.insertion.specs.Place.{judged, judge, better_place, try_places}
 use Rattle.insertion.specs.Laws.Judging.{hard_judge}
 use Rattle.insertion.specs.Trial.{Joinable, soft_cost, alone_cost, prices_of}

@@ -1,4 +1,5 @@
 -- The loop over the stops pending: the pick so far, with the stops left, is that of all. Assumes nothing.
+use Rattle.std.specs.Prelude.{None}
 use mathlib.Core.Path.{◌≡◌, refl, ◌∙◌}
 use Prim.Native.Nat.{ℕ, ◌+◌, ◌≤◌, ◌<◌}
 use native.Mathlib.Numerals.{add-one}
@@ -8,8 +9,7 @@ use mathlib.Core.List.{List}
 use lib.ListN.{length, get_or, drop}
 use lib.Seq.{drop-cons, drop-length}
 use Rattle.constructive.specs.Outcome.{Round}
-use Rattle.fleet.specs.declared.Pick.{Pick}
-use Rattle.fleet.specs.declared.Pick.TheVariants.{Nothing}
+use Rattle.fleet.specs.Pick.{Pick}
 use Rattle.fleet.specs.Cheapest.{cheapest_insertion, pick_with, pick_from, pick_of}
 
 -- what holds after j of the stops pending
@@ -20,7 +20,7 @@ pub record Picking (s : List ℕ) (soft : Bool) (rounds : List Round) (pending t
   pub same : pick_from s soft rounds best j (drop j pending) ≡ pick_of s soft rounds pending
 
 module _ (s : List ℕ) (soft : Bool) (rounds : List Round) (pending trial₀ : List ℕ) where
-  pub begins : Picking s soft rounds pending trial₀ trial₀ Nothing 0 (length pending)
+  pub begins : Picking s soft rounds pending trial₀ trial₀ None 0 (length pending)
   begins = record { last = refl; within = omega arith; long = refl; same = refl }
 
   module _ (trial : List ℕ) (best : Pick) (j end : ℕ) (g : Picking s soft rounds pending trial₀ trial best j end) where

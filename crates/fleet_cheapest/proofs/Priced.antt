@@ -1,4 +1,5 @@
 -- What a round costs: a number from 0 up where it is allowed, and else infinity. No difference of two such numbers is as dear as going alone, which is infinity here. Assumes nothing.
+use Rattle.std.specs.Prelude.{Option, Some, None, is_some}
 use mathlib.Core.Path.{◌≡◌, refl, sym, ap, ◌∙◌}
 use Prim.Native.Nat.{ℕ, suc, ◌+◌, ◌-◌, ◌*◌, ◌^◌, ◌<◌}
 use native.Mathlib.Nat.{le_trans, le_of_eq, mul_assoc, mul-le-mul_right, mul-pos, sub-le}
@@ -16,13 +17,12 @@ use Rattle.evaluation_clock.specs.Sums.{◌⊕◌, ◌⊖◌}
 use Rattle.evaluation.specs.Limits.{limits_at}
 use Rattle.evaluation.specs.Laws.Limits.{limits_rest}
 use Rattle.evaluation.specs.Routed.{Routed}
-use Rattle.evaluation.specs.Feasible.{priced_distance, route_eval, cost_of, effective_cost, is_allowed}
+use Rattle.evaluation.specs.Feasible.{priced_distance, route_eval, cost_of, effective_cost}
 use Rattle.evaluation.specs.Laws.Verdict.{allowed_feasible}
 use Rattle.evaluation.specs.Laws.Finite.{EvalBounded, priced_bounded, eval_bounded}
-use Rattle.evaluation.specs.declared.RouteEval.{RouteEval}
-use Rattle.evaluation.specs.declared.RouteEval.TheVariants.{Allowed, NotAllowed}
 use Rattle.constructive.specs.Rounds.{passes}
 use Rattle.fleet.specs.Cheapest.{priced_of}
+use Rattle.evaluation_clock.specs.declared.clock.Schedule.{Schedule}
 
 -- ---- numbers and infinity
 pub number_below : (n : ℕ) (x : Float) → Upto n x → le (inf false) x ≡ false
@@ -75,24 +75,24 @@ difference_below n (fin false m e) (fin false k d) u v w = go (ltb (m * up e * d
         w)
 
 -- ---- a round that is walked
-endless_by : (x : RouteEval) → EvalBounded x → le (inf false) (cost_of x) ≡ not (is_allowed x)
+endless_by : (x : Option Schedule) → EvalBounded x → le (inf false) (cost_of x) ≡ not (is_some x)
 unfolding cost_of le lt eq
-endless_by (Allowed k) u = number_below (2 ^ 68) (priced_distance k) (priced_bounded k u)
-endless_by NotAllowed u = refl
+endless_by (Some k) u = number_below (2 ^ 68) (priced_distance k) (priced_bounded k u)
+endless_by None u = refl
 
-plus_by : (x : RouteEval) → EvalBounded x → cost_of x ⊕ inf false ≡ inf false
+plus_by : (x : Option Schedule) → EvalBounded x → cost_of x ⊕ inf false ≡ inf false
 unfolding cost_of add
-plus_by (Allowed k) u = plus_endless (2 ^ 68) (priced_distance k) (priced_bounded k u)
-plus_by NotAllowed u = refl
+plus_by (Some k) u = plus_endless (2 ^ 68) (priced_distance k) (priced_bounded k u)
+plus_by None u = refl
 
-upto_by : (x : RouteEval) → EvalBounded x → is_allowed x ≡ true → Upto (2 ^ 68) (cost_of x)
+upto_by : (x : Option Schedule) → EvalBounded x → is_some x ≡ true → Upto (2 ^ 68) (cost_of x)
 unfolding cost_of
-upto_by (Allowed k) u e = priced_bounded k u
-upto_by NotAllowed u e = absurd (true≢false (sym e))
+upto_by (Some k) u e = priced_bounded k u
+upto_by None u e = absurd (true≢false (sym e))
 
 -- ---- a round of a vehicle
 module _ (s : List ℕ) (v : ℕ) (own : v < vehicles_of s) (route : List ℕ) (ok : Routed s 0 route) where
-  abbrev eval : RouteEval
+  abbrev eval : Option Schedule
   eval = route_eval s 0 (limits_at s v) route
 
   bounded : EvalBounded eval

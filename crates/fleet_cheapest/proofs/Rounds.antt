@@ -1,4 +1,5 @@
 -- The loop over the rounds: the best so far, with the rounds left, is that of all. Assumes nothing.
+use Rattle.std.specs.Prelude.{None}
 use mathlib.Core.Path.{◌≡◌, refl, sym, ap, ◌∙◌}
 use Prim.Native.Nat.{ℕ, suc, ◌+◌, ◌-◌, ◌≤◌, ◌<◌}
 use native.Mathlib.Numerals.{add-one}
@@ -12,8 +13,7 @@ use Rattle.evaluation.specs.Routed.{Routed}
 use Rattle.constructive.specs.Outcome.{rounds_in, start_in}
 use Rattle.constructive.specs.Tables.{Tables}
 use Rattle.constructive.proofs.InTables.{part, round_of}
-use Rattle.insertion.specs.declared.choice.Choice.{Choice}
-use Rattle.insertion.specs.declared.choice.Choice.TheVariants.{Nowhere}
+use Rattle.insertion.specs.Choice.{Choice}
 use Rattle.fleet.specs.Cheapest.{in_round, insertion_from, cheapest_insertion}
 
 -- ---- the round counted i, as it is lent, and the part of the trial that is lent with it
@@ -34,7 +34,7 @@ pub record Inserting (s stops ends vehicles : List ℕ) (n : ℕ) (soft : Bool) 
   pub same : insertion_from s soft row best i (rounds_in stops ends vehicles (n - i) start i) ≡ cheapest_insertion s soft (rounds_in stops ends vehicles n 0 0) row
 
 module _ (s stops ends vehicles : List ℕ) (n : ℕ) (soft : Bool) (row : ℕ) (trial₀ : List ℕ) where
-  pub begins : Inserting s stops ends vehicles n soft row trial₀ trial₀ Nowhere 0 0
+  pub begins : Inserting s stops ends vehicles n soft row trial₀ trial₀ None 0 0
   begins = let e : n - 0 ≡ n = omega arith in record { few = omega arith; from = refl; long = refl; same = rw e }
 
   module _ (trial : List ℕ) (best : Choice) (start i : ℕ) (g : Inserting s stops ends vehicles n soft row trial₀ trial best start i) where

@@ -10,7 +10,7 @@ use lib.Ieee.{Float}
 use borrow.Author.Tests.{eqb-true, eqb-false}
 use Rattle.lists.specs.Moved.{inserted}
 use Rattle.constructive.specs.Rounds.{passes}
-use Rattle.insertion.specs.declared.choice.Choice.{Choice}
+use Rattle.insertion.specs.Choice.{Choice}
 use Rattle.insertion.specs.Place.{detour, wins, better_place}
 use Rattle.insertion.specs.Laws.Judging.{dear_skipped}
 use Rattle.fleet.specs.Cheapest.{judge_at, places_from, takes, in_round}

@@ -7,7 +7,7 @@ use Rattle.sheet.specs.Values.{vehicle_of}
 use Rattle.evaluation.specs.Limits.{limits_at, is_unlimited}
 use Rattle.constructive.specs.Unchecked.{Windowless}
 use Rattle.constructive.specs.declared.terms.Terms.{Terms}
-use Rattle.insertion.specs.declared.choice.Choice.{Choice}
+use Rattle.insertion.specs.Choice.{Choice}
 use Rattle.insertion.specs.Place.{detour, wins}
 use Rattle.fleet_cheapest.specs.declared.Windows.{Windows}
 

@@ -153,7 +153,7 @@ fn cheapest_insertion(
     requires row_bound { (row < rows_of sheet.now) × (length stops.now < most_rows) × (length stops.now < length trial.old) }
     ensures { result ≡ cheapest_insertion sheet.now windows.soft (rounds_in stops.now ends.now vehicles.now n 0 0) row }
 {
-    let mut best = Choice::Nowhere;
+    let mut best = None;
     let mut start: usize = 0;
     for i in 0..n {
         let end = ends[i] as usize;
@@ -191,7 +191,7 @@ pub fn cheapest(
     requires stops_len_bound { (length stops.now < most_rows) × (length stops.now < length trial.old) }
     ensures { result ≡ pick_of sheet.now windows.soft (rounds_in stops.now ends.now vehicles.now n 0 0) pending.now }
 {
-    let mut best = Pick::Nothing;
+    let mut best = None;
     for j in 0..pending.len() {
         let choice = cheapest_insertion(
             sheet, windows, stops, ends, vehicles, n, pending[j], trial,

@@ -8,7 +8,6 @@ ghost use Rattle.insertion.specs.Place.{judge, better_place, try_places};
 ghost use Rattle.insertion.specs.Trial.{Trial, Joinable, prices_of, judge_trial};
 
 use constructive::terms::Terms;
-use evaluation::RouteEval;
 use evaluation_prefix;
 use evaluation_prefix::Prefix;
 use insertion::choice::Choice;
@@ -68,7 +67,7 @@ fn weigh(
 {
     let limits = terms.limits;
     let eval = evaluation_prefix::eval_on(sheet, trial, walk, terms.depot, limits);
-    let RouteEval::Allowed(figures) = eval else {
+    let Some(figures) = eval else {
         return best;
     };
     let cost = evaluation::priced_distance(figures) - prices.round;
@@ -110,7 +109,7 @@ fn try_hard(
     if !evaluation_prefix::feasible_on(sheet, trial, next, terms.depot, limits) {
         return walked_to(best, k, next);
     }
-    walked_to(Choice::Best(j, k, cost), k, next)
+    walked_to(Some((j, k, cost)), k, next)
 }
 
 // The better of the best so far and the stop at place k of the round.

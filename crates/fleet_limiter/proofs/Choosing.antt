@@ -12,7 +12,7 @@ use Rattle.constructive.specs.Outcome.{Outcome, rounds_in, start_in, outcome_in}
 use Rattle.constructive.specs.Members.{part}
 use Rattle.constructive.specs.Tables.{Tables}
 use Rattle.constructive.specs.Laws.TableContents.{held_outcome}
-use Rattle.fleet.specs.declared.Pick.{Pick}
+use Rattle.fleet.specs.Pick.{Pick}
 use Rattle.fleet.specs.Cheapest.{pick_of}
 use Rattle.fleet_tables.specs.Promises.{TablesOf}
 use Rattle.fleet_tables.specs.Laws.Standing.{tables_tabled, tables_sound, sound_tables, rounds_tabled, alone_sound}

@@ -1,4 +1,5 @@
 -- The loop over the choices: a stop is put into a round, or none can be. Assumes nothing.
+use Rattle.std.specs.Prelude.{Some, None}
 use mathlib.Core.Path.{◌≡◌, refl, sym, ap, ◌∙◌, subst}
 use Prim.Native.Nat.{ℕ, zero, suc, ◌≤◌, ◌<◌}
 use native.Mathlib.Omega.{arith}
@@ -11,8 +12,7 @@ use Rattle.lists.specs.Laws.Moved.{without_length}
 use Rattle.constructive.specs.Outcome.{Outcome, start_in, outcome_in, round_at}
 use Rattle.constructive.specs.Tables.{Tables}
 use Rattle.constructive.specs.Laws.TableContents.{held_outcome}
-use Rattle.fleet.specs.declared.Pick.{Pick}
-use Rattle.fleet.specs.declared.Pick.TheVariants.{Nothing, Put}
+use Rattle.fleet.specs.Pick.{Pick}
 use Rattle.fleet.specs.Cheapest.{pick_of}
 use Rattle.fleet.specs.Limit.{Refit, refit_by, refit, refit_on}
 use Rattle.fleet.specs.Laws.Bounds.{Picked, pick_picked}
@@ -27,10 +27,10 @@ unfolding refit
 refit_by_lem s soft x p e = ap (refit_by x) (sym e)
 
 -- where nothing is picked, nothing changes any more
-at_rest : (s : List ℕ) (soft : Bool) (x : Refit) → Nothing ≡ pick_of s soft x.rounds x.pending → (n : ℕ) → refit_on s soft n x ≡ x
+at_rest : (s : List ℕ) (soft : Bool) (x : Refit) → None ≡ pick_of s soft x.rounds x.pending → (n : ℕ) → refit_on s soft n x ≡ x
 unfolding refit_on
 at_rest s soft x e zero = refl
-at_rest s soft x e (suc n) = ap (refit_on s soft n) (refit_by_lem s soft x Nothing e) ∙ at_rest s soft x e n
+at_rest s soft x e (suc n) = ap (refit_on s soft n) (refit_by_lem s soft x None e) ∙ at_rest s soft x e n
 
 -- ---- the loop
 pub record Refitting (s : List ℕ) (soft : Bool) (stops₀ ends₀ vehicles trial₀ : List ℕ) (n : ℕ) (stops ends trial : List ℕ) : Type 0 where
@@ -49,7 +49,7 @@ module _ (s : List ℕ) (soft : Bool) (stops₀ ends₀ vehicles trial₀ : List
   tabled = held s stops ends vehicles n (length stops) g.tables
 
   -- no stop is picked: the outcome stays
-  pub rests : p ≡ Nothing → TablesHold s stops ends vehicles n (length stops₀) (refit_outcome s soft (pending_first (outcome_in stops₀ ends₀ vehicles n (length stops₀))))
+  pub rests : p ≡ None → TablesHold s stops ends vehicles n (length stops₀) (refit_outcome s soft (pending_first (outcome_in stops₀ ends₀ vehicles n (length stops₀))))
   rests e =
       let z = at_rest s soft (pending_first o) (sym e ∙ told) (length o.aside) in
       record {
@@ -58,8 +58,8 @@ module _ (s : List ℕ) (soft : Bool) (stops₀ ends₀ vehicles trial₀ : List
       }
 
   -- a stop is picked, and put in
-  module _ (j i k : ℕ) (cost : Float) (e : p ≡ Put j i k cost) where
-    place : Picked s soft o.rounds o.aside (Put j i k cost)
+  module _ (j i k : ℕ) (cost : Float) (e : p ≡ Some (j, i, k, cost)) where
+    place : Picked s soft o.rounds o.aside (Some (j, i, k, cost))
     place = subst (Picked s soft o.rounds o.aside) (sym told ∙ e) (pick_picked s soft o.rounds o.aside)
 
     pub enters : Enters stops ends n i k j
@@ -94,7 +94,7 @@ module _ (s : List ℕ) (soft : Bool) (stops₀ ends₀ vehicles trial₀ : List
         tried = tried ∙ g.tried;
         same =
             ap (λ (q : Outcome). refit_outcome s soft (pending_first q)) after_outcome
-            ∙ ap (λ (x : Refit). set_down (refit_on s soft (length (without j o.aside)) x)) (sym (refit_by_lem s soft (pending_first o) (Put j i k cost) (sym e ∙ told)))
+            ∙ ap (λ (x : Refit). set_down (refit_on s soft (length (without j o.aside)) x)) (sym (refit_by_lem s soft (pending_first o) (Some (j, i, k, cost)) (sym e ∙ told)))
             ∙ ap (λ (c : ℕ). set_down (refit_on s soft c (pending_first o))) (without_length o.aside j place.0)
             ∙ g.same;
       }

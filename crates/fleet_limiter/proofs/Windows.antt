@@ -1,4 +1,5 @@
 -- What a sheet has of windows: every row is the depot's or one of the stops. Assumes nothing.
+use Rattle.std.specs.Prelude.{None}
 use mathlib.Core.Path.{◌≡◌, refl, sym, ap, ◌∙◌, subst}
 use Prim.Native.Nat.{ℕ, zero, suc, ◌-◌, ◌≤◌, ◌<◌}
 use native.Mathlib.Nat.{sub-zero}
@@ -15,8 +16,6 @@ use Rattle.sheet.specs.Values.{stop_of}
 use Rattle.sheet.specs.Depots.{depots_of}
 use Rattle.sheet.specs.declared.customer.Gate.{Gate}
 use Rattle.sheet.specs.declared.customer.Gate.TheVariants.{Open, Hard, Soft}
-use Rattle.sheet.specs.declared.vehicle.Limit.TheVariants.{Unlimited}
-use Rattle.sheet.specs.declared.vehicle.Rest.TheVariants.{NoRest}
 use Rattle.sheet.specs.Stops.{is_stop}
 use Rattle.evaluation.specs.declared.limits.RouteLimits.{RouteLimits}
 use Rattle.evaluation.specs.Limits.{is_unlimited}
@@ -63,7 +62,7 @@ module _ (s rows : List ℕ) (e : has_time_windows s 0 rows ≡ false) where
 
   -- a vehicle without limits needs no check then
   abbrev free : RouteLimits
-  free = record { max_distance = Unlimited; max_duration = Unlimited; rest = NoRest; at_home = false }
+  free = record { max_distance = None; max_duration = None; rest = None; at_home = false }
 
   each : Every (Windowless s) rows
   unfolding route_checks_needed is_unlimited

@@ -70,7 +70,7 @@ fn refit(
     ensures { TablesHold sheet.now stops.new ends.new vehicles.now n (length stops.old) (refit_outcome sheet.now windows.soft (pending_first (outcome_in stops.old ends.old vehicles.now n (length stops.old)))) }
 {
     loop {
-        let Pick::Put(j, round, place, _) = choose(sheet, windows, stops, ends, vehicles, n, trial)
+        let Some((j, round, place, _)) = choose(sheet, windows, stops, ends, vehicles, n, trial)
         else {
             return;
         };

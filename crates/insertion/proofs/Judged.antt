@@ -1,4 +1,5 @@
 -- One place judged: skipped, passed without a walk, or walked. Assumes nothing.
+use Rattle.std.specs.Prelude.{Option, Some, None, is_some}
 use mathlib.Core.Path.{◌≡◌, refl, sym, ap, ◌∙◌}
 use Prim.Native.Nat.{ℕ, zero, suc, ◌-◌, ◌≤◌, ◌<◌}
 use native.Mathlib.Omega.{arith}
@@ -13,16 +14,13 @@ use Rattle.lists.specs.Laws.Moved.{inserted_every}
 use Rattle.sheet.specs.Fields.{rows_of}
 use Rattle.evaluation.specs.Routed.{Routed}
 use Rattle.evaluation_clock.specs.Sums.{◌⊖◌}
-use Rattle.evaluation.specs.Feasible.{is_allowed, route_eval, priced_distance, cost_of, effective_cost}
+use Rattle.evaluation.specs.Feasible.{route_eval, priced_distance, cost_of, effective_cost}
 use Rattle.evaluation.specs.Laws.Verdict.{allowed_feasible}
 use Rattle.evaluation_clock.specs.declared.clock.Schedule.{Schedule}
-use Rattle.evaluation.specs.declared.RouteEval.{RouteEval}
-use Rattle.evaluation.specs.declared.RouteEval.TheVariants.{Allowed, NotAllowed}
 use Rattle.constructive.specs.Unchecked.{Windowless}
 use Rattle.constructive.specs.Laws.Unchecked.{free_feasible}
 use Rattle.constructive.specs.declared.terms.Terms.{Terms}
-use Rattle.insertion.specs.declared.choice.Choice.{Choice}
-use Rattle.insertion.specs.declared.choice.Choice.TheVariants.{Best}
+use Rattle.insertion.specs.Choice.{Choice}
 use Rattle.insertion.specs.declared.place.Prices.{Prices}
 use Rattle.insertion.specs.Place.{feasible_in, row_before, row_after, detour, costs, judged, judge, wins, better_place}
 use Rattle.insertion.specs.Laws.Judging.{hard_judge, dear_skipped, cheap_walked}
@@ -58,7 +56,7 @@ module _ (s : List ℕ) (t : Terms) (route : List ℕ) (row k : ℕ) (hard : t.s
     pub hard_out : b ≡ false → c ≡ better_place c j k (judge s t route row k)
     hard_out g = sym (ap (better_place c j k) (told ∙ ap (λ (x : Bool). judged x cost) (sym f ∙ g)))
 
-    pub hard_won : wins cost c ≡ true → b ≡ true → Best j k cost ≡ better_place c j k (judge s t route row k)
+    pub hard_won : wins cost c ≡ true → b ≡ true → Some (j, k, cost) ≡ better_place c j k (judge s t route row k)
     hard_won w g = sym (ap (better_place c j k) (told ∙ ap (λ (x : Bool). judged x cost) (sym f ∙ g)) ∙ cheap_walked c j k true cost w)
 
 -- where no check is asked, the walk would pass
@@ -76,16 +74,16 @@ pub soft_told : (s : List ℕ) (t : Terms) (route : List ℕ) (row k : ℕ) (p :
 unfolding judge judge_trial
 soft_told s t route row k p trial e f g = rw (f, g, e)
 
-module _ (s : List ℕ) (t : Terms) (p : Prices) (trial : List ℕ) (best : Choice) (j k : ℕ) (x : RouteEval) (e : x ≡ route_eval s t.depot t.limits trial) where
-  pub not_allowed_lem : x ≡ NotAllowed → best ≡ better_place best j k (judge_trial s t p trial)
+module _ (s : List ℕ) (t : Terms) (p : Prices) (trial : List ℕ) (best : Choice) (j k : ℕ) (x : Option Schedule) (e : x ≡ route_eval s t.depot t.limits trial) where
+  pub not_allowed_lem : x ≡ None → best ≡ better_place best j k (judge_trial s t p trial)
   unfolding judge_trial
-  not_allowed_lem f = let out : feasible_in s t trial ≡ false = sym (allowed_feasible s t.depot t.limits trial) ∙ ap is_allowed (sym e ∙ f) in rw out
+  not_allowed_lem f = let out : feasible_in s t trial ≡ false = sym (allowed_feasible s t.depot t.limits trial) ∙ ap is_some (sym e ∙ f) in rw out
 
-  module _ (figures : Schedule) (f : x ≡ Allowed figures) (cost : Float) (g : cost ≡ priced_distance figures ⊖ p.round) where
+  module _ (figures : Schedule) (f : x ≡ Some figures) (cost : Float) (g : cost ≡ priced_distance figures ⊖ p.round) where
     weighed : judge_trial s t p trial ≡ judged (not (le p.alone cost)) cost
     unfolding judge_trial effective_cost cost_of
     weighed =
-        let passes : feasible_in s t trial ≡ true = sym (allowed_feasible s t.depot t.limits trial) ∙ ap is_allowed (sym e ∙ f) in
+        let passes : feasible_in s t trial ≡ true = sym (allowed_feasible s t.depot t.limits trial) ∙ ap is_some (sym e ∙ f) in
         rw (passes, ← e, f, ← g)
 
     pub too_dear : le p.alone cost ≡ true → best ≡ better_place best j k (judge_trial s t p trial)

@@ -5,7 +5,7 @@ use native.Mathlib.Omega.{arith}
 use mathlib.Core.List.{List}
 use lib.ListN.{length}
 use Rattle.constructive.specs.declared.terms.Terms.{Terms}
-use Rattle.insertion.specs.declared.choice.Choice.{Choice}
+use Rattle.insertion.specs.Choice.{Choice}
 use Rattle.insertion.specs.declared.place.Tried.{Tried}
 use Rattle.insertion.specs.Place.{judge, better_place, try_places}
 use Rattle.insertion.specs.Trial.{Trial}

@@ -1,4 +1,5 @@
 pub mod Lawful
+pub mod Choice
 pub mod Place
 pub mod Trial
 pub mod Laws

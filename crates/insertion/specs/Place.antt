@@ -1,5 +1,5 @@
 -- docs/SCOPE.md#the-methods. One place of a round for one stop: what the stop adds there, whether it may stand there, and the best of several places.
-use Rattle.std.specs.Prelude.{ℕ, zero, suc, ◌+◌, Bool, true, false, not, ◌&&◌, cond, List, [], ◌∷◌, leb, eqb, length, get_or, Float}
+use Rattle.std.specs.Prelude.{ℕ, zero, suc, ◌+◌, Bool, true, false, not, ◌&&◌, cond, List, [], ◌∷◌, leb, eqb, length, get_or, Float, Some, None}
 use Rattle.std.specs.Float.Ieee.{lt, le}
 use Rattle.lists.specs.Moved.{inserted}
 use Rattle.sheet.specs.Values.{demand_of, distance_of}
@@ -7,8 +7,7 @@ use Rattle.evaluation_clock.specs.Sums.{◌⊕◌, ◌⊖◌}
 use Rattle.evaluation.specs.Feasible.{route_feasible, effective_cost}
 use Rattle.constructive.specs.Load.{load_of}
 use Rattle.constructive.specs.declared.terms.Terms.{Terms}
-use Rattle.insertion.specs.declared.choice.Choice.{Choice}
-use Rattle.insertion.specs.declared.choice.Choice.TheVariants.{Nowhere, Best}
+use Rattle.insertion.specs.Choice.{Choice}
 
 -- ---- a round by the terms of its depot
 abbrev pub feasible_in : List ℕ → Terms → List ℕ → Bool
@@ -60,12 +59,12 @@ judge s t route row k = judged (place_fits s t route row k) (added_cost s t rout
 -- ---- one choice
 -- "the first least insertion wins": a later one wins only if it costs less
 abbrev pub wins : Float → Choice → Bool
-wins cost Nowhere = true
-wins cost (Best j k least) = lt cost least
+wins cost None = true
+wins cost (Some (j, k, least)) = lt cost least
 
 abbrev pub better_place : Choice → ℕ → ℕ → Judged → Choice
 better_place c j k unfit = c
-better_place c j k (costs cost) = cond (wins cost c) (Best j k cost) c
+better_place c j k (costs cost) = cond (wins cost c) (Some (j, k, cost)) c
 
 -- the stop at place j of those unrouted, at n places of the round from k on
 unfoldable pub try_places : List ℕ → Terms → List ℕ → ℕ → ℕ → Choice → ℕ → ℕ → Choice

@@ -3,19 +3,15 @@ ghost use Rattle.std.specs.Prelude.{◌≡◌};
 ghost use Rattle.insertion.specs.Place.{costs, wins, better_place};
 
 // The stop by its place among those unrouted, its place in the round, and what it costs.
-#[derive(Clone, Copy)]
-pub enum Choice {
-    Nowhere,
-    Best(usize, usize, f64),
-}
+pub type Choice = Option<(usize, usize, f64)>;
 
 // Whether a cost wins over it: the first of equals stays.
 pub fn wins(cost: f64, best: Choice) -> bool
     ensures { result ≡ wins cost best }
 {
     match best {
-        Choice::Nowhere => true,
-        Choice::Best(_, _, least) => cost < least,
+        None => true,
+        Some((_, _, least)) => cost < least,
     }
 }
 
@@ -24,7 +20,7 @@ pub fn better(best: Choice, j: usize, k: usize, cost: f64) -> Choice
     ensures { result ≡ better_place best j k (costs cost) }
 {
     if wins(cost, best) {
-        return Choice::Best(j, k, cost);
+        return Some((j, k, cost));
     }
     best
 }
@@ -34,7 +30,7 @@ pub fn rebuilt(best: Choice) -> Choice
     ensures { result ≡ best }
 {
     match best {
-        Choice::Nowhere => Choice::Nowhere,
-        Choice::Best(j, k, cost) => Choice::Best(j, k, cost),
+        None => None,
+        Some((j, k, cost)) => Some((j, k, cost)),
     }
 }

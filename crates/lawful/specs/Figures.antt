@@ -4,7 +4,7 @@ use Rattle.std.specs.Float.{binary64}
 use Rattle.std.specs.Float.Ieee.{fits}
 use Rattle.evaluation_clock.specs.Serve.{rest_place, rest_start}
 use Rattle.evaluation_clock.specs.declared.clock.Schedule.{Schedule}
-use Rattle.evaluation_clock.specs.declared.label.RestAnswer.{RestAnswer}
+use Rattle.evaluation_clock.specs.RestAnswer.{RestAnswer}
 use Rattle.evaluator.specs.declared.Placed.{Placed}
 use Rattle.evaluator.specs.declared.Progress.{Progress}
 use Rattle.evaluator.specs.Record.{visited_of}

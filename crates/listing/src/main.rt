@@ -30,11 +30,10 @@ fn write_planned(out: &mut [u8], sheet: &[u8], plan: &mut [u8]) -> usize
     requires few_rows { rows_of sheet.now ≤ listing_rows }
     ensures { Put out.old out.new 0 (answer_text (refusal_of sheet.now (length plan.old)) sheet.now (plan_for sheet.now)) result }
 {
-    let refused = planner::plan_rounds(sheet, plan);
-    if refused != 0 {
-        return listing_text::write_refused(out, refused);
+    match planner::plan_rounds(sheet, plan) {
+        Ok(()) => listing_text::write_listing(out, sheet, plan),
+        Err(refusal) => listing_text::write_refused(out, refusal.into()),
     }
-    listing_text::write_listing(out, sheet, plan)
 }
 
 // What is printed, in the buffer, and where it ends.
@@ -43,9 +42,8 @@ fn write_answer(out: &mut [u8], sheet: &[u8], plan: &mut [u8]) -> usize
     requires plan_long { 3856 ≤ length plan.old }
     ensures { Put out.old out.new 0 (listed_text sheet.now) result }
 {
-    let early = listing_text::early_refusal(sheet);
-    if early != 0 {
-        return listing_text::write_refused(out, early);
+    if let Err(refusal) = listing_text::early_refusal(sheet) {
+        return listing_text::write_refused(out, refusal.into());
     }
     let n = 16 + 80 * sheet::rows(sheet);
     write_planned(out, sheet, &mut plan[..n])
@@ -67,7 +65,7 @@ fn print_answer<W: Write>(
 }
 
 // Reads until `room` is full or the input ends, and answers how many bytes it put at the start of
-// `room`.
+// `room`. `read_exact` fails where the input is shorter, and `read_to_end` needs a heap.
 fn read_full<R: Read>(input: &mut R, room: &mut [u8]) -> io::Result<usize>
     ensures in_bounds { ReadsAtMost result room.new }
     ensures bytes { IfOk result (λ n. Consumes (R.remaining input.old) (R.remaining input.new) (take n room.new)) }

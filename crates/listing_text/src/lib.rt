@@ -4,6 +4,7 @@
 ghost use Rattle.std.specs.Prelude.{◌≡◌, ◌≤◌, ◌<◌, length};
 ghost use Rattle.lists.specs.Once.{Stops};
 ghost use Rattle.sheet.specs.Fields.{rows_of};
+ghost use Rattle.sheet.specs.Told.{told};
 ghost use Rattle.plan.specs.Read.{first_stop_at, chain_of, read_plan};
 ghost use Rattle.listing_text.specs.Text.{concatenated};
 ghost use Rattle.listing_text.specs.Put.{TextRoom, Put};
@@ -12,6 +13,8 @@ ghost use Rattle.listing_text.specs.Listable.{Listable};
 
 mod lines;
 mod text;
+
+use sheet::refusal::Refusal;
 
 // No listing is longer.
 pub const LISTING_BYTES: usize = 8192;
@@ -84,15 +87,16 @@ pub fn write_refused(out: &mut [u8], number: u32) -> usize
     lines::put_refused(out, 0, number)
 }
 
-// The refusal of a sheet before it is planned: 1, or 2 where it has too many rows for a listing. 0 is neither.
-pub fn early_refusal(sheet: &[u8]) -> u32
-    ensures { result ≡ listing_refusal sheet.now 0 }
+// The refusal of a sheet before it is planned. Counts: it has too many rows for a listing.
+#[tactic(auto, unfolding(crate::specs::Listing::listing_refusal))]
+pub fn early_refusal(sheet: &[u8]) -> Result<(), Refusal>
+    ensures { told result ≡ listing_refusal sheet.now 0 }
 {
     if !sheet_refusal::header_right(sheet) {
-        return 1;
+        return Err(Refusal::Header);
     }
     if LISTING_ROWS < sheet::rows(sheet) {
-        return 2;
+        return Err(Refusal::Counts);
     }
-    0
+    Ok(())
 }

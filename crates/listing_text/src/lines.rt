@@ -1,6 +1,5 @@
 // The lines of a listing, put into a buffer. Each function answers where its text ends.
 ghost use Rattle.std.specs.Prelude.{◌+◌, ◌≤◌, ◌<◌, length};
-ghost use Rattle.wire.specs.Bytes.{u16_at, u32_at};
 ghost use Rattle.sheet.specs.Fields.{rows_of};
 ghost use Rattle.plan.specs.Plan.{round_record_at};
 ghost use Rattle.listing_text.specs.Put.{TextRoom, Put};
@@ -15,23 +14,6 @@ fn put_field(out: &mut [u8], at: usize, name: &[u8], n: u32) -> usize
 {
     let end = text::put_words(out, at, name);
     text::put_decimal(out, end, n)
-}
-
-// A number of 16 bits, from its place in the plan.
-fn put_u16_field(out: &mut [u8], at: usize, name: &[u8], plan: &[u8], place: usize) -> usize
-    requires place_in_bounds { place + 2 ≤ length plan.now }
-    requires text_room { TextRoom out.old at (field name.now (u16_at plan.now place)) }
-    ensures { Put out.old out.new at (field name.now (u16_at plan.now place)) result }
-{
-    put_field(out, at, name, wire::u16_at(plan, place) as u32)
-}
-
-fn put_u32_field(out: &mut [u8], at: usize, name: &[u8], plan: &[u8], place: usize) -> usize
-    requires place_in_bounds { place + 4 ≤ length plan.now }
-    requires text_room { TextRoom out.old at (field name.now (u32_at plan.now place)) }
-    ensures { Put out.old out.new at (field name.now (u32_at plan.now place)) result }
-{
-    put_field(out, at, name, wire::u32_at(plan, place))
 }
 
 fn put_word(out: &mut [u8], at: usize, bits: u64) -> usize
@@ -58,8 +40,8 @@ pub fn put_header_line(out: &mut [u8], at: usize, plan: &[u8]) -> usize
     requires text_room { TextRoom out.old at (header_line plan.now) }
     ensures { Put out.old out.new at (header_line plan.now) result }
 {
-    let rounds = put_u16_field(out, at, b"rounds ", plan, 0);
-    let aside = put_u16_field(out, rounds, b" aside ", plan, 2);
+    let rounds = put_field(out, at, b"rounds ", wire::u16_at(plan, 0) as u32);
+    let aside = put_field(out, rounds, b" aside ", wire::u16_at(plan, 2) as u32);
     text::put_byte(out, aside, b'\n')
 }
 
@@ -70,10 +52,10 @@ pub fn put_round_line(out: &mut [u8], at: usize, plan: &[u8], k: usize) -> usize
     ensures { Put out.old out.new at (round_line plan.now k) result }
 {
     let place = 16 + 56 * k;
-    let id = put_u32_field(out, at, b"round ", plan, place);
-    let first = put_u16_field(out, id, b" first ", plan, place + 8);
-    let load = put_u32_field(out, first, b" load ", plan, place + 4);
-    let rest = put_u16_field(out, load, b" rest ", plan, place + 10);
+    let id = put_field(out, at, b"round ", wire::u32_at(plan, place));
+    let first = put_field(out, id, b" first ", wire::u16_at(plan, place + 8) as u32);
+    let load = put_field(out, first, b" load ", wire::u32_at(plan, place + 4));
+    let rest = put_field(out, load, b" rest ", wire::u16_at(plan, place + 10) as u32);
     put_figures(out, rest, plan, place + 16)
 }
 
@@ -85,8 +67,8 @@ pub fn put_stop_line(out: &mut [u8], at: usize, sheet: &[u8], plan: &[u8], row: 
 {
     let place = plan::visit_place(sheet, row as usize);
     let stop = put_field(out, at, b"stop ", row as u32);
-    let next = put_u16_field(out, stop, b" next ", plan, place);
-    let load = put_u32_field(out, next, b" load ", plan, place + 4);
+    let next = put_field(out, stop, b" next ", wire::u16_at(plan, place) as u32);
+    let load = put_field(out, next, b" load ", wire::u32_at(plan, place + 4));
     put_figures(out, load, plan, place + 8)
 }
 

@@ -1,4 +1,5 @@
-// Words and numbers put into a buffer as text. Each function answers where its text ends.
+// Words and numbers put into a buffer as text. Each function answers where its text ends. `write!` into a slice may fail, and its
+// contract does not tell the text.
 ghost use Rattle.std.specs.Prelude.{◌≡◌, ◌<◌, [], ◌∷◌};
 ghost use Rattle.listing_text.specs.Text.{digit_of, decimal, hex_in};
 ghost use Rattle.listing_text.specs.Put.{TextRoom, Put};
@@ -15,9 +16,7 @@ pub fn put_words(out: &mut [u8], at: usize, words: &[u8]) -> usize
     requires { TextRoom out.old at words.now }
     ensures { Put out.old out.new at words.now result }
 {
-    for i in 0..words.len() {
-        out[at + i] = words[i];
-    }
+    out[at..at + words.len()].copy_from_slice(words);
     at + words.len()
 }
 
@@ -25,7 +24,7 @@ fn digit(d: u8) -> u8
     requires { d < 16 }
     ensures { result ≡ digit_of d }
 {
-    if d < 10 { 48 + d } else { 55 + d }
+    if d < 10 { b'0' + d } else { b'A' + (d - 10) }
 }
 
 pub fn put_decimal(out: &mut [u8], at: usize, n: u32) -> usize

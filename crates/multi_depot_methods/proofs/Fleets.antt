@@ -1,6 +1,6 @@
 -- A depot's vehicles in their table, and what each method makes with them. Assumes nothing.
 use mathlib.Core.Path.{◌≡◌, refl, sym, ap, ◌∙◌, subst}
-use Prim.Native.Nat.{ℕ, ◌+◌, ◌-◌, ◌≤◌, ◌<◌}
+use Prim.Native.Nat.{ℕ, zero, suc, ◌+◌, ◌-◌, ◌≤◌, ◌<◌}
 use native.Mathlib.Nat.{add-zero}
 use native.Mathlib.Omega.{arith}
 use mathlib.Core.List.{List, [], ◌∷◌}
@@ -13,6 +13,9 @@ use Rattle.wire.specs.Bytes.{write}
 use Rattle.wire.specs.Laws.Bytes.{length_write, take_write}
 use Rattle.wire.specs.Laws.Overwrite.{write_same}
 use Rattle.sheet.specs.Fields.{vehicles_of, method_of}
+use Rattle.sheet.specs.declared.method.Method.{Method}
+use Rattle.sheet.specs.declared.method.Method.TheVariants.{Savings, Insertion, NearestNeighbor, NearestNeighborTw, Sweep}
+use Rattle.sheet.specs.Method.{code_of}
 use Rattle.sheet.specs.Values.{vehicle_of}
 use Rattle.sheet.specs.Fleet.{fleet_of}
 use Rattle.constructive.specs.declared.tables.Filled.{Filled}
@@ -42,6 +45,24 @@ first_of s d members (v ∷ fleet) h = refl
 none_of : (s : List ℕ) (d : ℕ) (members fleet : List ℕ) → length fleet ≡ 0 → with_first s d members fleet ≡ record { rounds = []; aside = members }
 none_of s d members [] e = refl
 none_of s d members (v ∷ fleet) e = absurd (omega arith)
+
+-- ---- no two methods have one number
+abbrev method_at : ℕ → Method
+method_at zero = Savings
+method_at (suc zero) = Insertion
+method_at (suc (suc zero)) = NearestNeighbor
+method_at (suc (suc (suc zero))) = NearestNeighborTw
+method_at (suc (suc (suc (suc n)))) = Sweep
+
+method_back : (m : Method) → method_at (code_of m) ≡ m
+method_back Savings = refl
+method_back Insertion = refl
+method_back NearestNeighbor = refl
+method_back NearestNeighborTw = refl
+method_back Sweep = refl
+
+pub another : {n : ℕ} (m k : Method) → code_of m ≡ n → (m ≡ k → ⊥) → n ≡ code_of k → ⊥
+another m k e h f = h (sym (method_back m) ∙ ap method_at (e ∙ f) ∙ method_back k)
 
 -- ---- one vehicle, by the method
 module _ (s : List ℕ) (d : ℕ) (members : List ℕ) (v : ℕ) where

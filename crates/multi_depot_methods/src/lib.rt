@@ -11,6 +11,8 @@ ghost use Rattle.multi_depot_offers.specs.Promises.{Ready, construct_at};
 
 use constructive::tables::Filled;
 use multi_depot_offers::members;
+use sheet::method;
+use sheet::method::Method;
 
 // Savings with the depot's first vehicle, by way of the large tables; without one every stop is set aside, as it stands. Called
 // by `plan_depot` and by `one_depot` each (`multi_depot_planning`): a function with two callers is not inlined, so no other
@@ -57,16 +59,15 @@ fn with_vehicle(
     ensures value { result ≡ filled_by filled (with_vehicle sheet.now depot (part stops.old filled.routed total) vehicle).rounds }
     ensures stored { Stored stops.old ends.old vehicles.old filled (with_vehicle sheet.now depot (part stops.old filled.routed total) vehicle) stops.new ends.new vehicles.new }
 {
-    let method = sheet::method(sheet);
-    if method == 0 {
-        return clarke_wright::clarke_wright_few(
+    match method::accepted_method(sheet) {
+        Method::Savings => clarke_wright::clarke_wright_few(
             sheet, depot, vehicle, stops, ends, vehicles, filled, total,
-        );
+        ),
+        Method::Insertion => {
+            solomon_i1::solomon_i1(sheet, depot, vehicle, stops, ends, vehicles, filled, total)
+        }
+        _ => sweep::sweep(sheet, depot, vehicle, stops, ends, vehicles, filled, total),
     }
-    if method == 1 {
-        return solomon_i1::solomon_i1(sheet, depot, vehicle, stops, ends, vehicles, filled, total);
-    }
-    sweep::sweep(sheet, depot, vehicle, stops, ends, vehicles, filled, total)
 }
 
 // Every other planning: the nearest neighbours with the depot's vehicles, the other methods with the first.
@@ -86,9 +87,9 @@ pub fn construct(
     ensures stored { Stored stops.old ends.old vehicles.old filled (construct_at sheet.now depot (part stops.old filled.routed total)) stops.new ends.new vehicles.new }
 {
     let n = members::fleet_of(sheet, depot, fleet);
-    let method = sheet::method(sheet);
-    if method == 2 {
-        return nearest_neighbor::nearest_neighbor(
+    let method = method::accepted_method(sheet);
+    match method {
+        Method::NearestNeighbor => nearest_neighbor::nearest_neighbor(
             sheet,
             depot,
             &fleet[0..n],
@@ -97,10 +98,8 @@ pub fn construct(
             vehicles,
             filled,
             total,
-        );
-    }
-    if method == 3 {
-        return nearest_neighbor::nearest_neighbor_tw(
+        ),
+        Method::NearestNeighborTw => nearest_neighbor::nearest_neighbor_tw(
             sheet,
             depot,
             &fleet[0..n],
@@ -109,12 +108,10 @@ pub fn construct(
             vehicles,
             filled,
             total,
-        );
+        ),
+        _ if n == 0 => filled,
+        _ => with_vehicle(sheet, depot, fleet[0], stops, ends, vehicles, filled, total),
     }
-    if n == 0 {
-        return filled;
-    }
-    with_vehicle(sheet, depot, fleet[0], stops, ends, vehicles, filled, total)
 }
 
 // Whether savings are asked of more members than `construct` takes them of. The contract leaves the choice for fewer members
@@ -124,8 +121,5 @@ pub fn saves_many(sheet: &[u8], members: usize) -> bool
     ensures sheet_value { result ≡ true → method_of sheet.now ≡ 0 }
     ensures members_bound { result ≡ false → method_of sheet.now ≡ 0 → members ≤ 24 }
 {
-    if sheet::method(sheet) != 0 {
-        return false;
-    }
-    24 < members
+    method::method_of(sheet) == Ok(Method::Savings) && 24 < members
 }

@@ -7,7 +7,7 @@ use mathlib.Core.List.{List, [], ◌∷◌, ◌++◌, append-nil}
 use lib.Dec.{eqb}
 use lib.ListN.{length, get_or, take, drop}
 use lib.Seq.{length-take-le, drop_at, take-append_seam}
-use Rattle.lists.specs.Count.{one, count}
+use Rattle.lists.specs.Count.{one}
 use Rattle.lists.specs.Laws.Permutation.{same_length}
 use Rattle.lists.specs.Laws.Filter.{those_at}
 use Rattle.wire.specs.Bytes.{write}

@@ -62,7 +62,7 @@ pub fn plan_depots(
     requires depots_value { (depots ≡ depots_of sheet.now) × (rows_of sheet.now ≤ length marks.old) }
     ensures { Planned sheet.now marks.new stops.new ends.new vehicles.new result (planned_at sheet.now at.now) }
 {
-    constructive::marks::fill(marks, 0);
+    marks.fill(0);
     let mut filled = Filled {
         rounds: 0,
         routed: 0,
@@ -87,7 +87,7 @@ pub fn one_depot(
     requires { PlanningTables sheet.now at.old fleet.old stops.old ends.old vehicles.old }
     ensures { HoldsOutcome stops.new ends.new vehicles.new result (rows_of sheet.now - depots_of sheet.now) (planned_of sheet.now 0 (all_stops sheet.now)) }
 {
-    constructive::marks::fill(at, 0);
+    at.fill(0);
     let filled = Filled {
         rounds: 0,
         routed: 0,

@@ -82,7 +82,7 @@ pub fn settle(
 {
     let mut any = false;
     'offers: loop {
-        sorting::copy(at, before);
+        before.copy_from_slice(at);
         if !multi_depot_offers::offer(sheet, depots, at, marks) {
             break 'offers;
         }

@@ -1,4 +1,5 @@
 -- A round that grows in the table of stops: its stops stand first, those that are left after them. Assumes nothing.
+use Rattle.std.specs.Prelude.{Some, None}
 use mathlib.Core.Path.{◌≡◌, refl, sym, ap, ◌∙◌, subst}
 use Prim.Native.Nat.{ℕ, zero, suc, ◌+◌, ◌-◌, ◌≤◌, ◌<◌}
 use native.Mathlib.Omega.{arith}
@@ -19,8 +20,7 @@ use Rattle.sheet.specs.declared.vehicle.Vehicle.{Vehicle}
 use Rattle.evaluation.specs.declared.limits.RouteLimits.{RouteLimits}
 use Rattle.evaluation.specs.Routed.{Routed}
 use Rattle.constructive.specs.Members.{part, Members}
-use Rattle.nearest_neighbor_choice.specs.declared.choice.StopChoice.{StopChoice}
-use Rattle.nearest_neighbor_choice.specs.declared.choice.StopChoice.TheVariants.{NoStop, Best}
+use Rattle.nearest_neighbor_choice.specs.StopChoice.{StopChoice}
 use Rattle.nearest_neighbor_choice.specs.declared.partial.Partial.{Partial}
 use Rattle.nearest_neighbor.specs.declared.greedy.Heuristic.{Heuristic}
 use Rattle.nearest_neighbor_choice.specs.Choice.{choose, Trip, empty_trip}
@@ -38,7 +38,7 @@ stays_grown rule zero trip left = refl
 stays_grown rule (suc n) trip left = stays_grown rule n trip left
 
 -- one choice of the rule
-grows : (rule : Rule) (n : ℕ) (trip : Trip) (left : List ℕ) (c : StopChoice) → choose (rule.offer trip) NoStop 0 left ≡ c → extend_on rule (suc n) (extending trip left) ≡ extend_on rule n (extended_by rule trip left c)
+grows : (rule : Rule) (n : ℕ) (trip : Trip) (left : List ℕ) (c : StopChoice) → choose (rule.offer trip) None 0 left ≡ c → extend_on rule (suc n) (extending trip left) ≡ extend_on rule n (extended_by rule trip left c)
 unfolding extend_on extend
 grows rule n trip left c e = ap (λ (x : StopChoice). extend_on rule n (extended_by rule trip left x)) e
 
@@ -102,28 +102,28 @@ module _ (s : List ℕ) (depot : ℕ) (h : Heuristic) (index : ℕ) (stops₀ : 
   rides k = rw g.kept (riding s depot (limits_by s h index).rest g.trip g.members.routed.sheet g.driven (omega (arith, g.at, g.members.most)))
 
   -- the choice is the rule's
-  module _ (c : StopChoice) (v : Vehicle) (limits : RouteLimits) (told : v ≡ vehicle_of s index) (held : limits ≡ limits_by s h index) (e : c ≡ choose (offer_by s depot h v limits partial) NoStop 0 (part stops end total)) where
-    chosen : choose (rule.offer g.trip) NoStop 0 g.left ≡ c
+  module _ (c : StopChoice) (v : Vehicle) (limits : RouteLimits) (told : v ≡ vehicle_of s index) (held : limits ≡ limits_by s h index) (e : c ≡ choose (offer_by s depot h v limits partial) None 0 (part stops end total)) where
+    chosen : choose (rule.offer g.trip) None 0 g.left ≡ c
     chosen =
         sym (e
-        ∙ ap (choose (offer_by s depot h v limits partial) NoStop 0) left_part
-        ∙ ap (λ (x : Vehicle). choose (offer_by s depot h x limits partial) NoStop 0 g.left) told
-        ∙ ap (λ (x : RouteLimits). choose (offer_by s depot h (vehicle_of s index) x partial) NoStop 0 g.left) held
-        ∙ ap (λ (x : Partial). choose (offer_by s depot h (vehicle_of s index) (limits_by s h index) x) NoStop 0 g.left) g.kept
+        ∙ ap (choose (offer_by s depot h v limits partial) None 0) left_part
+        ∙ ap (λ (x : Vehicle). choose (offer_by s depot h x limits partial) None 0 g.left) told
+        ∙ ap (λ (x : RouteLimits). choose (offer_by s depot h (vehicle_of s index) x partial) None 0 g.left) held
+        ∙ ap (λ (x : Partial). choose (offer_by s depot h (vehicle_of s index) (limits_by s h index) x) None 0 g.left) g.kept
         ∙ choose_alike (offer_by s depot h (vehicle_of s index) (limits_by s h index) (ride_of s depot (limits_by s h index).rest g.trip)) (rule.offer g.trip)
-        (λ i. offers s depot (vehicle_of s index) (limits_by s h index) g.trip g.driven i h index refl refl) NoStop 0 g.left)
+        (λ i. offers s depot (vehicle_of s index) (limits_by s h index) g.trip g.driven i h index refl refl) None 0 g.left)
 
     -- no stop can join: the round is grown
-    none_joins : (n : ℕ) → c ≡ NoStop → end_of_trip (extend_on rule n (extending g.trip g.left)) ≡ record { stops = taken; left = g.left }
+    none_joins : (n : ℕ) → c ≡ None → end_of_trip (extend_on rule n (extending g.trip g.left)) ≡ record { stops = taken; left = g.left }
     unfolding extend_on extend
     none_joins zero f = refl
     none_joins (suc n) f = rw (chosen, f, stays_grown rule n g.trip g.left)
 
-    pub grown_full : c ≡ NoStop → vehicle_round rule depot (part stops₀ start total) ≡ record { stops = taken; left = g.left }
+    pub grown_full : c ≡ None → vehicle_round rule depot (part stops₀ start total) ≡ record { stops = taken; left = g.left }
     grown_full f = g.same ∙ none_joins (length g.left) f
 
     -- a stop joins
-    module _ (j : ℕ) (k : Float) (f : c ≡ Best j k) where
+    module _ (j : ℕ) (k : Float) (f : c ≡ Some (j, k)) where
       pub inside : j < length g.left
       inside = (subst (Chosen (rule.offer g.trip) g.left) (chosen ∙ f) (choose_chosen (rule.offer g.trip) g.left)).0
 
@@ -157,7 +157,7 @@ module _ (s : List ℕ) (depot : ℕ) (h : Heuristic) (index : ℕ) (stops₀ : 
       grown_on : end_of_trip (extend_on rule (length g.left) (extending g.trip g.left)) ≡ end_of_trip (extend_on rule (length (without j g.left)) (extending (rule.onward g.trip stop) (without j g.left)))
       grown_on =
           let n : length g.left ≡ suc (length (without j g.left)) = omega (arith, without_length g.left j inside) in
-          ap (λ (m : ℕ). end_of_trip (extend_on rule m (extending g.trip g.left))) n ∙ ap end_of_trip (grows rule (length (without j g.left)) g.trip g.left (Best j k) (chosen ∙ f))
+          ap (λ (m : ℕ). end_of_trip (extend_on rule m (extending g.trip g.left))) n ∙ ap end_of_trip (grows rule (length (without j g.left)) g.trip g.left (Some (j, k)) (chosen ∙ f))
 
       pub goes_on : (stops' : List ℕ) (partial' : Partial) → stops' ≡ write stops end (get_or stops (end + j) 0 ∷ take (end + j - end) (drop end stops)) → partial' ≡ onward_by s h partial (get_or stops (end + j) 0)
           → Growing s depot h index stops₀ start total stops' partial' (end + 1)

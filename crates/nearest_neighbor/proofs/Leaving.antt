@@ -1,4 +1,5 @@
 -- What a round leaves: with its stops it is as many as there were, and all of them were there. Assumes nothing.
+use Rattle.std.specs.Prelude.{Some, None}
 use mathlib.Core.Path.{◌≡◌, refl, ◌∙◌}
 use Prim.Native.Nat.{ℕ, zero, suc, ◌+◌}
 use native.Mathlib.Omega.{arith}
@@ -6,8 +7,7 @@ use mathlib.Core.List.{List, [], ◌∷◌}
 use lib.ListN.{length, get_or, length-append}
 use Rattle.lists.specs.Every.{Every}
 use Rattle.lists.specs.Laws.Moved.{without_length, without_every}
-use Rattle.nearest_neighbor_choice.specs.declared.choice.StopChoice.{StopChoice}
-use Rattle.nearest_neighbor_choice.specs.declared.choice.StopChoice.TheVariants.{NoStop, Best}
+use Rattle.nearest_neighbor_choice.specs.StopChoice.{StopChoice}
 use Rattle.nearest_neighbor.specs.declared.greedy.Heuristic.{Heuristic}
 use Rattle.nearest_neighbor.specs.declared.greedy.Heuristic.TheVariants.{Nearest, NearestTw}
 use Rattle.nearest_neighbor_choice.specs.Choice.{choose, Trip, empty_trip}
@@ -29,8 +29,8 @@ stops_at g = length (end_of_trip g).stops + length (end_of_trip g).left
 module _ (rule : Rule) (extends : Extends rule) where
   grown_long : (trip : Trip) (left : List ℕ) (c : StopChoice) → Chosen (rule.offer trip) left c → stops_at (extended_by rule trip left c) ≡ length trip.stops + length left
   unfolding stops_at
-  grown_long trip left NoStop u = refl
-  grown_long trip left (Best j k) u =
+  grown_long trip left None u = refl
+  grown_long trip left (Some (j, k)) u =
       let a = without_length left j u.0 in
       let b = length-append trip.stops (get_or left j 0 ∷ []) in
       rw (extends trip (get_or left j 0)) (omega arith)
@@ -38,7 +38,7 @@ module _ (rule : Rule) (extends : Extends rule) where
   grow_long : (g : Extension) → stops_at (extend rule g) ≡ stops_at g
   unfolding extend stops_at
   grow_long (extended trip left) = refl
-  grow_long (extending trip left) = grown_long trip left (choose (rule.offer trip) NoStop 0 left) (choose_chosen (rule.offer trip) left)
+  grow_long (extending trip left) = grown_long trip left (choose (rule.offer trip) None 0 left) (choose_chosen (rule.offer trip) left)
 
   grow_on_long : (n : ℕ) (g : Extension) → stops_at (extend_on rule n g) ≡ stops_at g
   unfolding extend_on
@@ -51,13 +51,13 @@ module _ (rule : Rule) (extends : Extends rule) where
 
 module _ (P : ℕ → Type 0) (rule : Rule) where
   grown_every : (trip : Trip) (left : List ℕ) (c : StopChoice) → Every P left → Every P (end_of_trip (extended_by rule trip left c)).left
-  grown_every trip left NoStop e = e
-  grown_every trip left (Best j k) e = without_every P left j e
+  grown_every trip left None e = e
+  grown_every trip left (Some (j, k)) e = without_every P left j e
 
   grow_every : (g : Extension) → Every P (end_of_trip g).left → Every P (end_of_trip (extend rule g)).left
   unfolding extend
   grow_every (extended trip left) e = e
-  grow_every (extending trip left) e = grown_every trip left (choose (rule.offer trip) NoStop 0 left) e
+  grow_every (extending trip left) e = grown_every trip left (choose (rule.offer trip) None 0 left) e
 
   grow_on_every : (n : ℕ) (g : Extension) → Every P (end_of_trip g).left → Every P (end_of_trip (extend_on rule n g)).left
   unfolding extend_on

@@ -1,9 +1,8 @@
 -- docs/SCOPE.md#the-methods. What both nearest neighbours share: vehicles in order, each grows one round by the best stop left, the first of equals; what is left is set aside.
-use Rattle.std.specs.Prelude.{ℕ, zero, suc, List, [], ◌∷◌, length, get_or}
+use Rattle.std.specs.Prelude.{ℕ, zero, suc, List, [], ◌∷◌, length, get_or, Some, None}
 use Rattle.lists.specs.Moved.{without}
 use Rattle.constructive.specs.Outcome.{Round, Outcome}
-use Rattle.nearest_neighbor_choice.specs.declared.choice.StopChoice.{StopChoice}
-use Rattle.nearest_neighbor_choice.specs.declared.choice.StopChoice.TheVariants.{NoStop, Best}
+use Rattle.nearest_neighbor_choice.specs.StopChoice.{StopChoice}
 use Rattle.nearest_neighbor_choice.specs.Choice.{Offer, choose, Trip, empty_trip}
 
 -- ---- one round
@@ -24,11 +23,11 @@ pub data Extension : Type 0 where
 
 -- with the stop that was chosen
 abbrev pub extended_by : Rule → Trip → List ℕ → StopChoice → Extension
-extended_by rule trip left NoStop = extended trip left
-extended_by rule trip left (Best j k) = extending (rule.onward trip (get_or left j 0)) (without j left)
+extended_by rule trip left None = extended trip left
+extended_by rule trip left (Some (j, k)) = extending (rule.onward trip (get_or left j 0)) (without j left)
 
 unfoldable pub extend : Rule → Extension → Extension
-extend rule (extending trip left) = extended_by rule trip left (choose (rule.offer trip) NoStop 0 left)
+extend rule (extending trip left) = extended_by rule trip left (choose (rule.offer trip) None 0 left)
 extend rule (extended trip left) = extended trip left
 
 -- n choices

@@ -1,8 +1,6 @@
 -- Either rule: the definition's, and what it says of a round so far as it is kept.
-use Rattle.std.specs.Prelude.{ℕ, ◌+◌, Bool, true, false, cond, List, Float}
+use Rattle.std.specs.Prelude.{ℕ, ◌+◌, Bool, true, false, cond, List, Float, Option, Some, None, is_none}
 use Rattle.sheet.specs.Values.{demand_of, vehicle_of, distance_of}
-use Rattle.sheet.specs.declared.vehicle.Rest.{Rest}
-use Rattle.sheet.specs.declared.vehicle.Rest.TheVariants.{NoRest, Required}
 use Rattle.sheet.specs.declared.vehicle.Vehicle.{Vehicle}
 use Rattle.evaluation_clock.specs.Sums.{◌⊕◌}
 use Rattle.evaluation.specs.Limits.{limits_of, limits_at}
@@ -14,11 +12,11 @@ use Rattle.nearest_neighbor.specs.declared.greedy.Heuristic.{Heuristic}
 use Rattle.nearest_neighbor.specs.declared.greedy.Heuristic.TheVariants.{Nearest, NearestTw}
 use Rattle.nearest_neighbor.specs.Greedy.{Rule}
 use Rattle.nearest_neighbor.specs.Nearest.{nearest_rule, window_rule}
+use Rattle.sheet.specs.declared.vehicle.VehicleBreak.{VehicleBreak}
 
 -- what a vehicle's rounds are held to: the depot's due too, but for nearest neighbour without a rest
-unfoldable pub ignores_due : Heuristic → Rest → Bool
-ignores_due Nearest NoRest = true
-ignores_due Nearest (Required b) = false
+unfoldable pub ignores_due : Heuristic → Option VehicleBreak → Bool
+ignores_due Nearest rest = is_none rest
 ignores_due (NearestTw soft) rest = false
 
 abbrev pub limits_by : List ℕ → Heuristic → ℕ → RouteLimits

@@ -1,9 +1,7 @@
 -- docs/SCOPE.md#the-methods. Document 01, "nearest_neighbor.rs" and "nn_tw.rs": the round with a stop more, in the Rust's order of operations; each method whole.
-use Rattle.std.specs.Prelude.{ℕ, ◌+◌, Bool, List, [], ◌∷◌, ◌++◌}
+use Rattle.std.specs.Prelude.{ℕ, ◌+◌, Bool, List, [], ◌∷◌, ◌++◌, Option, Some, None}
 use Rattle.sheet.specs.Values.{demand_of, stop_of, vehicle_of, distance_of, time_of}
 use Rattle.evaluation_clock.specs.Sums.{◌⊕◌}
-use Rattle.sheet.specs.declared.vehicle.Rest.{Rest}
-use Rattle.sheet.specs.declared.vehicle.Rest.TheVariants.{NoRest, Required}
 use Rattle.evaluation.specs.Limits.{limits_of, limits_at}
 use Rattle.evaluation.specs.declared.limits.RouteLimits.{RouteLimits}
 use Rattle.evaluation.specs.Checks.{has_soft_windows}
@@ -11,6 +9,7 @@ use Rattle.constructive.specs.Outcome.{Outcome}
 use Rattle.nearest_neighbor_choice.specs.Choice.{Trip}
 use Rattle.nearest_neighbor_choice.specs.Offers.{nearest_offer, arrival_at, service_start, window_offer}
 use Rattle.nearest_neighbor.specs.Greedy.{Rule, greedy}
+use Rattle.sheet.specs.declared.vehicle.VehicleBreak.{VehicleBreak}
 
 -- ---- nearest neighbour
 -- its clock grows by the leg and the service, summed first
@@ -24,9 +23,9 @@ nearest_onward s trip i = record {
 }
 
 -- "Plain nearest neighbour without a rest goes on ignoring" the depot's due: then the vehicle's own limits count alone
-abbrev pub nearest_limits : List ℕ → ℕ → Rest → RouteLimits
-nearest_limits s v NoRest = limits_of (vehicle_of s v)
-nearest_limits s v (Required b) = limits_at s v
+abbrev pub nearest_limits : List ℕ → ℕ → Option VehicleBreak → RouteLimits
+nearest_limits s v None = limits_of (vehicle_of s v)
+nearest_limits s v (Some b) = limits_at s v
 
 abbrev pub nearest_rule : List ℕ → ℕ → ℕ → Rule
 nearest_rule s depot v = record { offer = nearest_offer s depot (vehicle_of s v) (nearest_limits s v (vehicle_of s v).rest); onward = nearest_onward s }

@@ -1,5 +1,5 @@
 // What both nearest neighbours share: each vehicle in turn grows one round by the best stop left.
-ghost use Rattle.std.specs.Prelude.{◌≡◌, [], ◌∷◌, ◌++◌, ◌+◌, ◌-◌, ◌≤◌, ◌<◌, length, get_or, take, drop};
+ghost use Rattle.std.specs.Prelude.{◌≡◌, [], ◌∷◌, ◌++◌, ◌+◌, ◌-◌, ◌≤◌, ◌<◌, length, get_or, take, drop, None};
 ghost use Rattle.wire.specs.Bytes.{write};
 ghost use Rattle.sheet.specs.Accepted.{Accepted};
 ghost use Rattle.sheet.specs.Fields.{rows_of, vehicles_of};
@@ -7,7 +7,6 @@ ghost use Rattle.sheet.specs.Values.{vehicle_of};
 ghost use Rattle.evaluation.specs.Routed.{Routed};
 ghost use Rattle.constructive.specs.Stored.{Stored, Room, filled_by};
 ghost use Rattle.constructive.specs.Members.{part, Members, Fleet};
-ghost use Rattle.nearest_neighbor_choice.specs.declared.choice.StopChoice.TheVariants.{NoStop};
 ghost use Rattle.nearest_neighbor_choice.specs.Choice.{choose};
 ghost use Rattle.nearest_neighbor.specs.Greedy.{vehicle_round, greedy};
 ghost use Rattle.nearest_neighbor_choice.specs.Partial.{PartialRoute};
@@ -20,7 +19,7 @@ use evaluation::limits::RouteLimits;
 use nearest_neighbor_choice::choice::StopChoice;
 use nearest_neighbor_choice::partial::Partial;
 use nearest_neighbor_choice::{nearest, nn_tw, partial};
-use sheet::vehicle::{Rest, Vehicle};
+use sheet::vehicle::{Vehicle, VehicleBreak};
 use sheet::{customer, matrix, vehicle};
 
 // Which of the two; with windows, whether some window has a penalty.
@@ -31,11 +30,11 @@ pub enum Heuristic {
 }
 
 // Whether the depot's due is passed over.
-fn ignores_due(heuristic: Heuristic, rest: Rest) -> bool
+fn ignores_due(heuristic: Heuristic, rest: Option<VehicleBreak>) -> bool
     ensures { result ≡ ignores_due heuristic rest }
 {
     match heuristic {
-        Heuristic::Nearest => { if let Rest::NoRest = rest { true } else { false } }
+        Heuristic::Nearest => rest.is_none(),
         Heuristic::NearestTw(_) => false,
     }
 }
@@ -65,7 +64,7 @@ fn best_stop(
 ) -> StopChoice
     requires partial_route { PartialRoute sheet.now partial }
     requires routed { Routed sheet.now depot left.now }
-    ensures { result ≡ choose (offer_by sheet.now depot heuristic vehicle limits partial) NoStop 0 left.now }
+    ensures { result ≡ choose (offer_by sheet.now depot heuristic vehicle limits partial) None 0 left.now }
 {
     match heuristic {
         Heuristic::Nearest => nearest::nearest(sheet, depot, vehicle, limits, partial, left),
@@ -127,7 +126,7 @@ fn grow_round(
     let mut partial = partial::empty_partial(rest, depot);
     let mut end = start;
     while end < total {
-        let StopChoice::Best(j, _) = best_stop(
+        let Some((j, _)) = best_stop(
             sheet,
             depot,
             heuristic,

@@ -1,4 +1,5 @@
 -- A stop judged: it keeps the limits, or not; it loses, is out, or is taken; and the best of all stops left, one by one. Assumes nothing.
+use Rattle.std.specs.Prelude.{Option, Some, None}
 use mathlib.Core.Path.{◌≡◌, refl, sym, ap, ◌∙◌}
 use Prim.Native.Nat.{ℕ, ◌+◌, ◌-◌, ◌≤◌, ◌<◌}
 use native.Mathlib.Numerals.{add-one}
@@ -13,26 +14,24 @@ use Rattle.evaluation_clock.specs.Clock.{moved_of}
 use Rattle.evaluation.specs.Verdict.{verdict_of}
 use Rattle.evaluation.specs.declared.limits.RouteLimits.{RouteLimits}
 use Rattle.evaluation.proofs.ByRest.{either_passes}
-use Rattle.nearest_neighbor_choice.specs.declared.choice.StopChoice.{StopChoice}
-use Rattle.nearest_neighbor_choice.specs.declared.choice.StopChoice.TheVariants.{NoStop, Best}
+use Rattle.nearest_neighbor_choice.specs.StopChoice.{StopChoice}
 use Rattle.nearest_neighbor_choice.specs.Choice.{Offer, wins_of, better_stop, choose}
 use Rattle.nearest_neighbor_choice.specs.Offers.{offer_if}
-use Rattle.nearest_neighbor_choice.specs.declared.partial.PartialClock.{PartialClock}
-use Rattle.nearest_neighbor_choice.specs.declared.partial.PartialClock.TheVariants.{NoClock, Kept}
 use Rattle.nearest_neighbor_choice.specs.Partial.{allows_by, allows_on_way, allows_home}
+use Rattle.evaluation_clock.specs.declared.clock.BreakClock.{BreakClock}
 
 -- ---- the limits are kept on the way, or with the rest at home
-pub unmarked : (s : List ℕ) (depot : ℕ) (limits : RouteLimits) (kept : PartialClock) (i : ℕ) (distance : Float) → limits.at_home ≡ false → allows_home s depot limits kept i distance ≡ false
+pub unmarked : (s : List ℕ) (depot : ℕ) (limits : RouteLimits) (kept : Option BreakClock) (i : ℕ) (distance : Float) → limits.at_home ≡ false → allows_home s depot limits kept i distance ≡ false
 unfolding allows_home
-unmarked s depot limits NoClock i distance e = refl
-unmarked s depot limits (Kept c) i distance e = rw e refl
+unmarked s depot limits None i distance e = refl
+unmarked s depot limits (Some c) i distance e = rw e refl
 
-split : (s : List ℕ) (depot : ℕ) (limits : RouteLimits) (kept : PartialClock) (i : ℕ) (distance duration : Float) → allows_by s depot limits kept i distance duration ≡ (allows_on_way s depot limits kept i distance duration || allows_home s depot limits kept i distance)
+split : (s : List ℕ) (depot : ℕ) (limits : RouteLimits) (kept : Option BreakClock) (i : ℕ) (distance duration : Float) → allows_by s depot limits kept i distance duration ≡ (allows_on_way s depot limits kept i distance duration || allows_home s depot limits kept i distance)
 unfolding allows_by allows_on_way allows_home verdict_of moved_of
-split s depot limits NoClock i distance duration = sym (or-false _)
-split s depot limits (Kept c) i distance duration = either_passes limits c.rest _ _ _
+split s depot limits None i distance duration = sym (or-false _)
+split s depot limits (Some c) i distance duration = either_passes limits c.rest _ _ _
 
-module _ (s : List ℕ) (depot : ℕ) (limits : RouteLimits) (kept : PartialClock) (i : ℕ) (distance duration : Float) where
+module _ (s : List ℕ) (depot : ℕ) (limits : RouteLimits) (kept : Option BreakClock) (i : ℕ) (distance duration : Float) where
   pub fits_on_way : allows_on_way s depot limits kept i distance duration ≡ true → allows_by s depot limits kept i distance duration ≡ true
   fits_on_way e = split s depot limits kept i distance duration ∙ ap (λ (t : Bool). t || allows_home s depot limits kept i distance) e
 
@@ -51,14 +50,14 @@ module _ (c : StopChoice) (j : ℕ) (t : Bool) (k : Float) where
   pub stays_out : t ≡ false → c ≡ better_stop c j (offer_if t k)
   stays_out f = rw f
 
-  pub is_taken : (key : Float) → key ≡ k → wins_of key c ≡ true → t ≡ true → Best j key ≡ better_stop c j (offer_if t k)
+  pub is_taken : (key : Float) → key ≡ k → wins_of key c ≡ true → t ≡ true → Some (j, key) ≡ better_stop c j (offer_if t k)
   is_taken key e f g = rw (g, ← e, f)
 
 -- ---- the loop over the stops left
 pub record Choosing (offer : ℕ → Offer) (left : List ℕ) (c : StopChoice) (j end : ℕ) : Type 0 where
   pub last : end ≡ length left
   pub within : j ≤ end
-  pub same : choose offer NoStop 0 left ≡ choose offer c j (drop j left)
+  pub same : choose offer None 0 left ≡ choose offer c j (drop j left)
 
 module _ (offer : ℕ → Offer) (left : List ℕ) (c : StopChoice) (j end : ℕ) (g : Choosing offer left c j end) where
   pub goes_on : (d : StopChoice) → j < end → d ≡ better_stop c j (offer (get_or left j 0)) → Choosing offer left d (j + 1) end
@@ -71,7 +70,7 @@ module _ (offer : ℕ → Offer) (left : List ℕ) (c : StopChoice) (j end : ℕ
         same = g.same ∙ ap (choose offer c j) (drop-cons left j 0 k) ∙ ap (λ (n : ℕ). choose offer (better_stop c j (offer (get_or left j 0))) (j + 1) (drop n left)) (sym (add-one j)) ∙ ap (λ (x : StopChoice). choose offer x (j + 1) (drop (j + 1) left)) (sym e);
       }
 
-  pub ends : end ≤ j → c ≡ choose offer NoStop 0 left
+  pub ends : end ≤ j → c ≡ choose offer None 0 left
   unfolding choose
   ends h = let e : j ≡ length left = omega (arith, g.last, g.within) in sym (g.same ∙ rw (e, drop-length left))
 

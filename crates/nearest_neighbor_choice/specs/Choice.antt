@@ -1,9 +1,8 @@
 -- docs/SCOPE.md#the-methods. What both nearest neighbours share of a choice: the best stop left, the first of equals.
-use Rattle.std.specs.Prelude.{ℕ, ◌+◌, Bool, true, cond, List, [], ◌∷◌, Float}
+use Rattle.std.specs.Prelude.{ℕ, ◌+◌, Bool, true, cond, List, [], ◌∷◌, Float, Some, None}
 use Rattle.std.specs.Float.Ieee.{lt}
 use Rattle.sheet.specs.Values.{nought}
-use Rattle.nearest_neighbor_choice.specs.declared.choice.StopChoice.{StopChoice}
-use Rattle.nearest_neighbor_choice.specs.declared.choice.StopChoice.TheVariants.{NoStop, Best}
+use Rattle.nearest_neighbor_choice.specs.StopChoice.{StopChoice}
 
 -- ---- one choice: the best stop so far, its place among the stops left and its key
 -- a stop's key, or that it cannot be taken
@@ -13,12 +12,12 @@ pub data Offer : Type 0 where
 
 -- the first of equals: a later stop wins only with a smaller key
 abbrev pub wins_of : Float → StopChoice → Bool
-wins_of k NoStop = true
-wins_of k (Best i b) = lt k b
+wins_of k None = true
+wins_of k (Some (i, b)) = lt k b
 
 abbrev pub better_stop : StopChoice → ℕ → Offer → StopChoice
 better_stop c j out = c
-better_stop c j (key k) = cond (wins_of k c) (Best j k) c
+better_stop c j (key k) = cond (wins_of k c) (Some (j, k)) c
 
 -- the best of the stops left from place j on
 unfoldable pub choose : (ℕ → Offer) → StopChoice → ℕ → List ℕ → StopChoice

@@ -1,3 +1,4 @@
+pub mod StopChoice
 pub mod Choice
 pub mod Offers
 pub mod Partial

@@ -1,11 +1,9 @@
 -- docs/SCOPE.md#the-methods. Document 01, "nearest_neighbor.rs" and "nn_tw.rs": what each rule offers of a stop, in the Rust's order of operations.
-use Rattle.std.specs.Prelude.{ℕ, ◌+◌, Bool, true, false, not, ◌&&◌, List, [], ◌∷◌, ◌++◌, leb, Float}
+use Rattle.std.specs.Prelude.{ℕ, ◌+◌, Bool, true, false, not, ◌&&◌, List, [], ◌∷◌, ◌++◌, leb, Float, Option, Some, None}
 use Rattle.std.specs.Float.Ieee.{lt, le}
 use Rattle.sheet.specs.Values.{nought, demand_of, stop_of, distance_of, time_of, fixed_in_distance}
 use Rattle.sheet.specs.declared.customer.Gate.{Gate}
 use Rattle.sheet.specs.declared.customer.Gate.TheVariants.{Open, Hard, Soft}
-use Rattle.sheet.specs.declared.vehicle.Rest.{Rest}
-use Rattle.sheet.specs.declared.vehicle.Rest.TheVariants.{NoRest, Required}
 use Rattle.sheet.specs.declared.vehicle.Vehicle.{Vehicle}
 use Rattle.evaluation_clock.specs.Sums.{◌⊕◌, ◌⊖◌, ◌⊗◌}
 use Rattle.evaluation_clock.specs.Window.{waiting_of, lateness_of}
@@ -13,6 +11,7 @@ use Rattle.evaluation.specs.Limits.{allow_of}
 use Rattle.evaluation.specs.declared.limits.RouteLimits.{RouteLimits}
 use Rattle.evaluation.specs.Feasible.{route_feasible, effective_cost}
 use Rattle.nearest_neighbor_choice.specs.Choice.{Offer, out, key, Trip}
+use Rattle.sheet.specs.declared.vehicle.VehicleBreak.{VehicleBreak}
 
 -- ---- both
 -- "A place for a stop is lawful if the load stays within capacity"
@@ -20,9 +19,9 @@ abbrev pub trip_carries : List ℕ → Vehicle → Trip → ℕ → Bool
 trip_carries s v trip i = leb (trip.load + demand_of s i) v.capacity
 
 -- "and `route_feasible` passes the round with the stop in it": so with a rest; without one the limits are held to figures of the rule's own
-abbrev pub allows : List ℕ → ℕ → RouteLimits → Rest → Trip → ℕ → Float → Float → Bool
-allows s depot limits NoRest trip i distance duration = allow_of limits distance duration
-allows s depot limits (Required b) trip i distance duration = route_feasible s depot limits (trip.stops ++ (i ∷ []))
+abbrev pub allows : List ℕ → ℕ → RouteLimits → Option VehicleBreak → Trip → ℕ → Float → Float → Bool
+allows s depot limits None trip i distance duration = allow_of limits distance duration
+allows s depot limits (Some b) trip i distance duration = route_feasible s depot limits (trip.stops ++ (i ∷ []))
 
 abbrev pub offer_if : Bool → Float → Offer
 offer_if true k = key k

@@ -1,11 +1,9 @@
 -- A round so far as it is kept: the clock after it instead of its stops. What a rule says of a next stop, read from that.
-use Rattle.std.specs.Prelude.{ℕ, ◌*◌, ◌≤◌, ◌<◌, Bool, false, not, ◌&&◌, List, [], ◌∷◌, eqb, Float}
+use Rattle.std.specs.Prelude.{ℕ, ◌*◌, ◌≤◌, ◌<◌, Bool, false, not, ◌&&◌, List, [], ◌∷◌, eqb, Float, Option, Some, None}
 use Rattle.std.specs.Float.Ieee.{le}
 use Rattle.sheet.specs.Fields.{rows_of}
 use Rattle.sheet.specs.Accepted.{Accepted}
 use Rattle.sheet.specs.Values.{nought, stop_of, distance_of, time_of, fixed_in_distance}
-use Rattle.sheet.specs.declared.vehicle.Rest.{Rest}
-use Rattle.sheet.specs.declared.vehicle.Rest.TheVariants.{NoRest, Required}
 use Rattle.sheet.specs.declared.vehicle.Vehicle.{Vehicle}
 use Rattle.evaluation_clock.specs.Sums.{◌⊕◌, ◌⊗◌}
 use Rattle.evaluation_clock.specs.Clock.{started, next_of, unrested, finish_of, clock_of, break_clock, next_by}
@@ -15,44 +13,44 @@ use Rattle.evaluation.specs.Verdict.{no_schedule, held_to, mended_by, verdict_of
 use Rattle.evaluation.specs.Feasible.{effective_cost}
 use Rattle.evaluation.specs.declared.limits.RouteLimits.{RouteLimits}
 use Rattle.nearest_neighbor_choice.specs.declared.partial.Partial.{Partial}
-use Rattle.nearest_neighbor_choice.specs.declared.partial.PartialClock.{PartialClock}
-use Rattle.nearest_neighbor_choice.specs.declared.partial.PartialClock.TheVariants.{NoClock, Kept}
 use Rattle.nearest_neighbor_choice.specs.declared.nn_tw.Candidate.{Candidate}
 use Rattle.nearest_neighbor_choice.specs.Choice.{Offer, Trip}
 use Rattle.nearest_neighbor_choice.specs.Offers.{trip_carries, offer_if, there_and_home, arrival_at, late_at, service_start, penalty_of, missed, marginal}
+use Rattle.sheet.specs.declared.vehicle.VehicleBreak.{VehicleBreak}
+use Rattle.evaluation_clock.specs.declared.clock.BreakClock.{BreakClock}
 
 -- the figures of the round so far; its stops are not kept
 abbrev pub trip_of : Partial → Trip
 trip_of partial = record { stops = []; current = partial.current; load = partial.load; travelled = partial.travelled; clock = partial.clock }
 
 -- ---- the clock that is kept
-abbrev pub clock_for : Rest → ℕ → PartialClock
-clock_for NoRest depot = NoClock
-clock_for (Required b) depot = Kept (break_clock b (started (Required b) depot))
+abbrev pub clock_for : Option VehicleBreak → ℕ → Option BreakClock
+clock_for None depot = None
+clock_for (Some b) depot = Some (break_clock b (started (Some b) depot))
 
-unfoldable pub pushed_by : List ℕ → PartialClock → ℕ → PartialClock
-pushed_by s NoClock row = NoClock
-pushed_by s (Kept c) row = Kept (next_by s c row)
+unfoldable pub pushed_by : List ℕ → Option BreakClock → ℕ → Option BreakClock
+pushed_by s None row = None
+pushed_by s (Some c) row = Some (next_by s c row)
 
 -- the clock, pushed once and brought home, says whether the limits are kept
-unfoldable pub allows_by : List ℕ → ℕ → RouteLimits → PartialClock → ℕ → Float → Float → Bool
-allows_by s depot limits NoClock i distance duration = allow_of limits distance duration
-allows_by s depot limits (Kept c) i distance duration = is_feasible (verdict_of limits (next_of s (clock_of c) i) distance (time_of s i depot))
+unfoldable pub allows_by : List ℕ → ℕ → RouteLimits → Option BreakClock → ℕ → Float → Float → Bool
+allows_by s depot limits None i distance duration = allow_of limits distance duration
+allows_by s depot limits (Some c) i distance duration = is_feasible (verdict_of limits (next_of s (clock_of c) i) distance (time_of s i depot))
 
 -- the two questions of the code that make it up: without a rest at home
-unfoldable pub allows_on_way : List ℕ → ℕ → RouteLimits → PartialClock → ℕ → Float → Float → Bool
-allows_on_way s depot limits NoClock i distance duration = allow_of limits distance duration
-allows_on_way s depot limits (Kept c) i distance duration = is_feasible (held_to limits (finish_of (next_of s (clock_of c) i) distance (time_of s i depot)))
+unfoldable pub allows_on_way : List ℕ → ℕ → RouteLimits → Option BreakClock → ℕ → Float → Float → Bool
+allows_on_way s depot limits None i distance duration = allow_of limits distance duration
+allows_on_way s depot limits (Some c) i distance duration = is_feasible (held_to limits (finish_of (next_of s (clock_of c) i) distance (time_of s i depot)))
 
 -- and with one
-unfoldable pub allows_home : List ℕ → ℕ → RouteLimits → PartialClock → ℕ → Float → Bool
-allows_home s depot limits NoClock i distance = false
-allows_home s depot limits (Kept c) i distance =
+unfoldable pub allows_home : List ℕ → ℕ → RouteLimits → Option BreakClock → ℕ → Float → Bool
+allows_home s depot limits None i distance = false
+allows_home s depot limits (Some c) i distance =
     let next = next_of s (clock_of c) i in
     limits.at_home && is_feasible (mended_by limits c.rest next.place (unrested next.before distance (time_of s i depot)) no_schedule)
 
 -- ---- the round
-abbrev pub empty_partial : Rest → ℕ → Partial
+abbrev pub empty_partial : Option VehicleBreak → ℕ → Partial
 empty_partial rest depot = record { current = depot; served = 0; load = 0; travelled = nought; clock = nought; rest = clock_for rest depot }
 
 abbrev pub partial_carries : List ℕ → Vehicle → Partial → ℕ → Bool
@@ -108,9 +106,9 @@ abbrev pub window_clock : List ℕ → Partial → ℕ → Float
 window_clock s partial i = service_start (stop_of s i).gate (arrival_at s (trip_of partial) i) ⊕ (stop_of s i).service
 
 -- ---- what its steps ask
-abbrev pub ClockKept : List ℕ → PartialClock → Type 0
-ClockKept s NoClock = Unit
-ClockKept s (Kept c) = Clocked s c
+abbrev pub ClockKept : List ℕ → Option BreakClock → Type 0
+ClockKept s None = Unit
+ClockKept s (Some c) = Clocked s c
 
 -- on an accepted sheet, at a row, with at most a million a stop loaded, and room for one stop more
 pub record PartialRoute (s : List ℕ) (partial : Partial) : Type 0 where

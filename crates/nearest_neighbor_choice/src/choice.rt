@@ -3,18 +3,14 @@ ghost use Rattle.std.specs.Prelude.{◌≡◌};
 ghost use Rattle.nearest_neighbor_choice.specs.Choice.{wins_of};
 
 // Its place among the stops left, and its key.
-#[derive(Clone, Copy)]
-pub enum StopChoice {
-    NoStop,
-    Best(usize, f64),
-}
+pub type StopChoice = Option<(usize, f64)>;
 
 // Whether a key wins over it: the first of equals stays.
 pub fn wins(key: f64, best: StopChoice) -> bool
     ensures { result ≡ wins_of key best }
 {
     match best {
-        StopChoice::NoStop => true,
-        StopChoice::Best(_, least) => key < least,
+        None => true,
+        Some((_, least)) => key < least,
     }
 }

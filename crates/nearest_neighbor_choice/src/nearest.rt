@@ -1,10 +1,9 @@
 // Nearest neighbour: without a rest it ignores windows and waiting.
-ghost use Rattle.std.specs.Prelude.{◌≡◌, ◌<◌};
+ghost use Rattle.std.specs.Prelude.{◌≡◌, ◌<◌, None};
 ghost use Rattle.sheet.specs.Fields.{rows_of};
 ghost use Rattle.evaluation.specs.Routed.{Routed};
 ghost use Rattle.evaluation_clock.specs.Sums.{◌⊕◌};
 ghost use Rattle.sheet.specs.Values.{stop_of, time_of};
-ghost use Rattle.nearest_neighbor_choice.specs.declared.choice.StopChoice.TheVariants.{NoStop};
 ghost use Rattle.nearest_neighbor_choice.specs.Choice.{better_stop, choose};
 ghost use Rattle.nearest_neighbor_choice.specs.Offers.{there_and_home};
 ghost use Rattle.nearest_neighbor_choice.specs.Partial.{trip_of, allows_by, nearest_by, nearest_clock, PartialRoute};
@@ -63,7 +62,7 @@ fn nearer(
     if !fits(sheet, depot, limits, partial, row) {
         return best;
     }
-    StopChoice::Best(j, distance)
+    Some((j, distance))
 }
 
 // The nearest of the stops left that the round can take.
@@ -77,10 +76,10 @@ pub fn nearest(
 ) -> StopChoice
     requires partial_route { PartialRoute sheet.now partial }
     requires routed { Routed sheet.now depot left.now }
-    ensures { result ≡ choose (nearest_by sheet.now depot vehicle limits partial) NoStop 0 left.now }
+    ensures { result ≡ choose (nearest_by sheet.now depot vehicle limits partial) None 0 left.now }
 {
-    let mut best = StopChoice::NoStop;
-    for j in 0..left.len() {
+    let mut best = None;
+    for (j, &row) in left.iter().enumerate() {
         best = nearer(
             sheet,
             depot,
@@ -89,7 +88,7 @@ pub fn nearest(
             partial,
             best,
             j,
-            left[j] as usize,
+            row as usize,
         );
     }
     best

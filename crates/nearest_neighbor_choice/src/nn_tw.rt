@@ -1,10 +1,9 @@
 // Nearest neighbour with windows: a stop's key is its distance plus its penalty times its lateness.
-ghost use Rattle.std.specs.Prelude.{◌≡◌, [], ◌∷◌, ◌<◌, length, get_or};
+ghost use Rattle.std.specs.Prelude.{◌≡◌, [], ◌∷◌, ◌<◌, length, get_or, None};
 ghost use Rattle.sheet.specs.Fields.{rows_of};
 ghost use Rattle.sheet.specs.Values.{stop_of, distance_of, time_of};
 ghost use Rattle.evaluation.specs.Routed.{Routed};
 ghost use Rattle.evaluation_clock.specs.Sums.{◌⊕◌};
-ghost use Rattle.nearest_neighbor_choice.specs.declared.choice.StopChoice.TheVariants.{NoStop};
 ghost use Rattle.nearest_neighbor_choice.specs.Choice.{better_stop, choose};
 ghost use Rattle.nearest_neighbor_choice.specs.Offers.{late_at, service_start, penalty_of, missed, there_and_home, arrival_at, marginal};
 ghost use Rattle.nearest_neighbor_choice.specs.Partial.{trip_of, allows_by, partial_too_dear, candidate_of, takes_by, window_by, window_clock, PartialRoute};
@@ -224,7 +223,7 @@ fn nearer(
     if !takes(sheet, depot, vehicle, limits, soft, partial, alone, seen) {
         return best;
     }
-    StopChoice::Best(j, seen.key)
+    Some((j, seen.key))
 }
 
 // The stop of least key among the stops left that the round can take.
@@ -239,9 +238,9 @@ pub fn nearest(
 ) -> StopChoice
     requires partial_route { PartialRoute sheet.now partial }
     requires routed { Routed sheet.now depot left.now }
-    ensures { result ≡ choose (window_by sheet.now depot vehicle limits soft partial) NoStop 0 left.now }
+    ensures { result ≡ choose (window_by sheet.now depot vehicle limits soft partial) None 0 left.now }
 {
-    let mut best = StopChoice::NoStop;
+    let mut best = None;
     for j in 0..left.len() {
         let next = j + 1;
         best = nearer(

@@ -7,15 +7,9 @@ use evaluation::keeping;
 use evaluation::limits::RouteLimits;
 use evaluation_clock::clock::BreakClock;
 use sheet::customer;
-use sheet::vehicle::{Rest, Vehicle};
+use sheet::vehicle::{Vehicle, VehicleBreak};
 
 // The clock after the round so far, where the vehicle has a rest to place.
-#[derive(Clone, Copy)]
-pub enum PartialClock {
-    NoClock,
-    Kept(BreakClock),
-}
-
 #[derive(Clone, Copy)]
 pub struct Partial {
     pub current: usize,
@@ -23,20 +17,20 @@ pub struct Partial {
     pub load: u32,
     pub travelled: f64,
     pub clock: f64,
-    pub rest: PartialClock,
+    pub rest: Option<BreakClock>,
 }
 
-fn clock_for(rest: Rest, depot: usize) -> PartialClock
+fn clock_for(rest: Option<VehicleBreak>, depot: usize) -> Option<BreakClock>
     ensures { result ≡ clock_for rest depot }
 {
     match rest {
-        Rest::NoRest => PartialClock::NoClock,
-        Rest::Required(b) => PartialClock::Kept(BreakClock::new(b, depot)),
+        None => None,
+        Some(b) => Some(BreakClock::new(b, depot)),
     }
 }
 
 // At the depot at 0, with nothing loaded.
-pub fn empty_partial(rest: Rest, depot: usize) -> Partial
+pub fn empty_partial(rest: Option<VehicleBreak>, depot: usize) -> Partial
     ensures { result ≡ empty_partial rest depot }
 {
     let clock = clock_for(rest, depot);
@@ -51,14 +45,14 @@ pub fn empty_partial(rest: Rest, depot: usize) -> Partial
 }
 
 // The clock driven on to `row`.
-pub fn pushed_by(sheet: &[u8], kept: PartialClock, row: usize) -> PartialClock
+pub fn pushed_by(sheet: &[u8], kept: Option<BreakClock>, row: usize) -> Option<BreakClock>
     requires clock_kept { ClockKept sheet.now kept }
     requires row_bound { row < rows_of sheet.now }
     ensures { result ≡ pushed_by sheet.now kept row }
 {
     match kept {
-        PartialClock::NoClock => PartialClock::NoClock,
-        PartialClock::Kept(clock) => PartialClock::Kept(clock.next(sheet, row)),
+        None => None,
+        Some(clock) => Some(clock.next(sheet, row)),
     }
 }
 
@@ -77,7 +71,7 @@ pub fn allows_on_way(
     sheet: &[u8],
     depot: usize,
     limits: RouteLimits,
-    kept: PartialClock,
+    kept: Option<BreakClock>,
     row: usize,
     distance: f64,
     duration: f64,
@@ -87,10 +81,8 @@ pub fn allows_on_way(
     ensures { result ≡ allows_on_way sheet.now depot limits kept row distance duration }
 {
     match kept {
-        PartialClock::NoClock => limits.allow(distance, duration),
-        PartialClock::Kept(clock) => keeping::keeps_with(
-            clock, sheet, row, depot, distance, limits,
-        ),
+        None => limits.allow(distance, duration),
+        Some(clock) => keeping::keeps_with(clock, sheet, row, depot, distance, limits),
     }
 }
 
@@ -100,7 +92,7 @@ pub fn allows_home(
     sheet: &[u8],
     depot: usize,
     limits: RouteLimits,
-    kept: PartialClock,
+    kept: Option<BreakClock>,
     row: usize,
     distance: f64,
 ) -> bool
@@ -112,9 +104,7 @@ pub fn allows_home(
         return false;
     }
     match kept {
-        PartialClock::NoClock => false,
-        PartialClock::Kept(clock) => keeping::keeps_home(
-            clock, sheet, row, depot, distance, limits,
-        ),
+        None => false,
+        Some(clock) => keeping::keeps_home(clock, sheet, row, depot, distance, limits),
     }
 }

@@ -206,7 +206,7 @@ pub fn write_plan(
     requires plan_len { length plan.old ≡ plan_length sheet.now }
     ensures { plan.new ≡ plan_of sheet.now (outcome_in stops.now ends.now vehicles.now rounds total) priced }
 {
-    records::blank(plan);
+    plan.fill(0);
     let price = write_rounds(plan, sheet, stops, ends, vehicles, rounds);
     let start = tables::end_of(ends, rounds);
     let aside = write_aside(plan, sheet, &stops[start..total]);

@@ -1,20 +1,11 @@
 // The records of a plan, each written at its place.
-ghost use Rattle.std.specs.Prelude.{◌≡◌, ◌+◌, ◌≤◌, length, replicate};
+ghost use Rattle.std.specs.Prelude.{◌≡◌, ◌+◌, ◌≤◌, length};
 ghost use Rattle.wire.specs.Bytes.{write};
-ghost use Rattle.evaluation_clock.specs.Serve.{rest_place, rest_start};
 ghost use Rattle.plan.specs.Plan.{visit_bytes, round_counts, round_figures, round_bytes, header_bytes};
 ghost use Rattle.plan.specs.Writable.{Number, VisitWritable, RecordWritable};
 
-use evaluation_clock::label::RestAnswer;
+use evaluation_clock::label::{rest_place, rest_start};
 use evaluator::{Progress, Record};
-
-pub fn blank(plan: &mut [u8])
-    ensures { plan.new ≡ replicate (length plan.old) 0 }
-{
-    for i in 0..plan.len() {
-        plan[i] = 0;
-    }
-}
 
 pub fn put_visit(plan: &mut [u8], at: usize, next: u16, visit: Progress)
     requires at_in_bounds { at + 24 ≤ length plan.old }
@@ -28,33 +19,14 @@ pub fn put_visit(plan: &mut [u8], at: usize, next: u16, visit: Progress)
     wire::put_f64(plan, at + 16, visit.departure);
 }
 
-fn rest_place(rest: RestAnswer) -> u16
-    ensures { result ≡ rest_place rest }
-{
-    match rest {
-        RestAnswer::NoRest => 0,
-        RestAnswer::Before(place, _) => place,
-    }
-}
-
-fn rest_start(rest: RestAnswer) -> f64
-    ensures { result ≡ rest_start rest }
-{
-    match rest {
-        RestAnswer::NoRest => 0.0,
-        RestAnswer::Before(_, start) => start,
-    }
-}
-
 fn put_counts(plan: &mut [u8], at: usize, id: u32, first: u16, figures: Record)
     requires { at + 16 ≤ length plan.old }
     ensures { plan.new ≡ write plan.old at (round_counts id first figures) }
 {
-    let rest = figures.rest;
     wire::put_u32(plan, at, id);
     wire::put_u32(plan, at + 4, figures.load);
     wire::put_u16(plan, at + 8, first);
-    wire::put_u16(plan, at + 10, rest_place(rest));
+    wire::put_u16(plan, at + 10, rest_place(figures.rest));
     wire::put_u32(plan, at + 12, 0);
 }
 
@@ -63,12 +35,11 @@ fn put_figures(plan: &mut [u8], at: usize, figures: Record)
     requires record_writable { RecordWritable figures }
     ensures { plan.new ≡ write plan.old at (round_figures figures) }
 {
-    let rest = figures.rest;
     wire::put_f64(plan, at, figures.distance);
     wire::put_f64(plan, at + 8, figures.duration);
     wire::put_f64(plan, at + 16, figures.lateness);
     wire::put_f64(plan, at + 24, figures.lateness_cost);
-    wire::put_f64(plan, at + 32, rest_start(rest));
+    wire::put_f64(plan, at + 32, rest_start(figures.rest));
 }
 
 pub fn put_round(plan: &mut [u8], at: usize, id: u32, first: u16, figures: Record)

@@ -1,14 +1,14 @@
 -- docs/SCOPE.md#refusals. What every function refuses that takes a sheet and a plan: "Tested in this order". 1 to 3 as for the planner, 4 for a sheet, a plan or a further buffer
 -- that is not of its exact length, 5 to 8 as for the planner, 9 where one depot is asked for, and 10 for the plan.
-use Rattle.std.specs.Prelude.{◌≡◌, ℕ, zero, suc, ◌≤◌, ◌<◌, Bool, not, ◌&&◌, ◌||◌, List, leb, length}
+use Rattle.std.specs.Prelude.{◌≡◌, ℕ, zero, suc, ◌≤◌, Bool, not, ◌&&◌, ◌||◌, List, leb, length, Result, Ok, Err}
 use Rattle.sheet.specs.Fields.{most_rows}
 use Rattle.sheet.specs.Accepted.{Accepted}
 use Rattle.sheet.specs.Depots.{depots_of}
+use Rattle.sheet.specs.declared.refusal.Refusal.{Refusal}
+use Rattle.sheet.specs.Told.{number_of}
 use Rattle.sheet.specs.Refusal.{header_right, counts_right, method_right, lengths_right, unless, contents}
 use Rattle.plan.specs.Read.{plan_right}
 use Rattle.plan_reader.specs.Reading.{ReadRight}
-use Rattle.plan_door.specs.declared.Entry.{Entry}
-use Rattle.plan_door.specs.declared.Entry.TheVariants.{Refused, Rounds}
 
 -- a number, or what follows where it is 0
 abbrev pub or_else : ℕ → ℕ → ℕ
@@ -52,6 +52,6 @@ pub record LetIn (s plan : List ℕ) (room one : Bool) (stops ends vehicles : Li
   pub read : ReadRight s plan stops ends vehicles n
 
 -- a refusal, or the plan in the tables
-abbrev pub EntryAs : List ℕ → List ℕ → Bool → Bool → Entry → List ℕ → List ℕ → List ℕ → Type 0
-EntryAs s plan room one (Refused n) stops ends vehicles = (n ≡ door_refusal s plan room one) × (0 < n)
-EntryAs s plan room one (Rounds n) stops ends vehicles = LetIn s plan room one stops ends vehicles n
+abbrev pub EntryAs : List ℕ → List ℕ → Bool → Bool → Result ℕ Refusal → List ℕ → List ℕ → List ℕ → Type 0
+EntryAs s plan room one (Err refusal) stops ends vehicles = number_of refusal ≡ door_refusal s plan room one
+EntryAs s plan room one (Ok n) stops ends vehicles = LetIn s plan room one stops ends vehicles n

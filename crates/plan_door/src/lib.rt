@@ -2,53 +2,29 @@
 // read into tables.
 #![tactic(auto)]
 
-ghost use Rattle.std.specs.Prelude.{◌≡◌, ◌&&◌, ◌≤◌, ltb};
+ghost use Rattle.std.specs.Prelude.{◌≡◌};
+ghost use Rattle.sheet.specs.Told.{told};
 ghost use Rattle.plan_door.specs.Door.{unread_refusal, DoorTables, EntryAs};
 
-use plan_reader::Reading;
 use sheet::customer;
-
-// A refusal, or so many rounds in the tables.
-#[derive(Clone, Copy)]
-pub enum Entry {
-    Refused(u32),
-    Rounds(usize),
-}
-
-// Refusals 1 to 4, which come before what the sheet holds is looked at.
-fn is_early(number: u32) -> bool
-    ensures { result ≡ (ltb 0 number && ltb number 5) }
-{
-    if number == 0 {
-        return false;
-    }
-    number < 5
-}
+use sheet::refusal::Refusal;
 
 // What is told before the plan is read. `room` says whether a further buffer has its length, `one` whether one depot is asked for.
-pub fn unread_refusal(sheet: &[u8], plan_len: usize, room: bool, one: bool) -> u32
-    ensures { result ≡ unread_refusal sheet.now plan_len room one }
+pub fn unread_refusal(sheet: &[u8], plan_len: usize, room: bool, one: bool) -> Result<(), Refusal>
+    ensures { told result ≡ unread_refusal sheet.now plan_len room one }
 {
-    let number = sheet_refusal::refusal(sheet, plan_len);
-    if is_early(number) {
-        return number;
-    }
+    sheet_refusal::form(sheet, plan_len)?;
     if !room {
-        return 4;
+        return Err(Refusal::Lengths);
     }
-    if number != 0 {
-        return number;
+    sheet_refusal::contents(sheet)?;
+    if one && 1 < customer::depots(sheet) {
+        return Err(Refusal::Depots);
     }
-    if !one {
-        return 0;
-    }
-    if 1 < customer::depots(sheet) {
-        return 9;
-    }
-    0
+    Ok(())
 }
 
-// The same, and the plan read.
+// The same, and the plan read: how many rounds are in the tables.
 pub fn enter(
     sheet: &[u8],
     plan: &[u8],
@@ -57,16 +33,13 @@ pub fn enter(
     stops: &mut [u16],
     ends: &mut [u16],
     vehicles: &mut [u16],
-) -> Entry
+) -> Result<usize, Refusal>
     requires { DoorTables stops.old ends.old vehicles.old }
     ensures { EntryAs sheet.now plan.now room one result stops.new ends.new vehicles.new }
 {
-    let number = unread_refusal(sheet, plan.len(), room, one);
-    if number != 0 {
-        return Entry::Refused(number);
-    }
-    let Reading::Right(rounds) = plan_reader::read_plan(sheet, plan, stops, ends, vehicles) else {
-        return Entry::Refused(10);
+    unread_refusal(sheet, plan.len(), room, one)?;
+    let Some(rounds) = plan_reader::read_plan(sheet, plan, stops, ends, vehicles) else {
+        return Err(Refusal::Plan);
     };
-    Entry::Rounds(rounds)
+    Ok(rounds)
 }

@@ -1,5 +1,4 @@
--- What the door told, and with the rounds' figures what is told of a plan walked. Assumes nothing.
-use mathlib.Core.Path.{◌≡◌, subst}
+-- A plan let in at the door, with its rounds' figures. Assumes nothing.
 use Prim.Native.Nat.{ℕ}
 use mathlib.Core.Bool.{Bool}
 use mathlib.Core.List.{List}
@@ -7,14 +6,10 @@ use lib.Ieee.{Float}
 use Rattle.constructive.specs.Outcome.{rounds_in, outcome_in}
 use Rattle.constructive.proofs.InTables.{rounds_of_lem}
 use Rattle.plan_reader.specs.Reading.{stop_count}
-use Rattle.plan_door.specs.Door.{LetIn, EntryAs}
-use Rattle.plan_door.specs.declared.Entry.{Entry}
+use Rattle.plan_door.specs.Door.{LetIn}
 use Rattle.plan_figures.specs.Walked.{FiguresIn, Walked}
 
 module _ (s plan : List ℕ) (room one : Bool) (stops ends vehicles : List ℕ) where
-  pub entry_told : {r v : Entry} → r ≡ v → EntryAs s plan room one r stops ends vehicles → EntryAs s plan room one v stops ends vehicles
-  entry_told e a = subst (λ (x : Entry). EntryAs s plan room one x stops ends vehicles) e a
-
   pub walked : (n : ℕ) (distances durations : List Float) → LetIn s plan room one stops ends vehicles n → FiguresIn s (rounds_in stops ends vehicles n 0 0) distances durations → Walked s plan room one distances durations n
   unfolding outcome_in
   walked n distances durations e f = record { free = e.free; sheet = e.sheet; right = e.read.right; rounds = e.read.rounds; driven = rw (← e.read.outcome) (rounds_of_lem s stops ends vehicles n (stop_count s) e.read.tables); figures = rw (← e.read.outcome) f }

@@ -10,7 +10,7 @@ ghost use Rattle.plan_figures.specs.Walked.{FigureTables, FiguresIn, WalkedAs};
 
 use evaluation::limits;
 use evaluator::Record;
-use plan_door::Entry;
+use sheet::refusal::Refusal;
 use sheet::vehicle;
 
 // The figures of a round of the vehicle at `index`, from that vehicle's depot.
@@ -48,7 +48,7 @@ fn walk_rounds(
     }
 }
 
-// The plan's refusals, or its rounds walked, by way of tables that are lent.
+// The plan's refusal, or its rounds walked, by way of tables that are lent.
 fn walk_by(
     sheet: &[u8],
     plan: &[u8],
@@ -59,19 +59,14 @@ fn walk_by(
     stops: &mut [u16],
     ends: &mut [u16],
     vehicles: &mut [u16],
-) -> Entry
+) -> Result<usize, Refusal>
     requires figure_tables { FigureTables distances.old durations.old }
     requires door_tables { DoorTables stops.old ends.old vehicles.old }
     ensures { WalkedAs sheet.now plan.now room one result distances.new durations.new }
 {
-    let entry = plan_door::enter(sheet, plan, room, one, stops, ends, vehicles);
-    match entry {
-        Entry::Refused(number) => Entry::Refused(number),
-        Entry::Rounds(rounds) => {
-            walk_rounds(sheet, stops, ends, vehicles, rounds, distances, durations);
-            Entry::Rounds(rounds)
-        }
-    }
+    let rounds = plan_door::enter(sheet, plan, room, one, stops, ends, vehicles)?;
+    walk_rounds(sheet, stops, ends, vehicles, rounds, distances, durations);
+    Ok(rounds)
 }
 
 // The same. The tables stand here.
@@ -82,7 +77,7 @@ pub fn walk_plan(
     one: bool,
     distances: &mut [f64],
     durations: &mut [f64],
-) -> Entry
+) -> Result<usize, Refusal>
     requires { FigureTables distances.old durations.old }
     ensures { WalkedAs sheet.now plan.now room one result distances.new durations.new }
 {

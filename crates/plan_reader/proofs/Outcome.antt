@@ -1,4 +1,5 @@
 -- The chain after the rounds, and the outcome that the tables then hold. Assumes nothing.
+use Rattle.std.specs.Prelude.{Option, Some, None, ℕ}
 use mathlib.Core.Path.{◌≡◌, refl, sym, ap, ◌∙◌, subst}
 use Prim.Native.Nat.{ℕ, zero, suc, ◌+◌, ◌-◌, ◌≤◌, ◌<◌}
 use native.Mathlib.Numerals.{add-one}
@@ -15,8 +16,6 @@ use Rattle.constructive.specs.Right.{links_right, each_once}
 use Rattle.plan.specs.Read.{rounds_at, aside_at, chain_of, rounds_from, read_plan, plan_right}
 use Rattle.plan_reader.specs.Reading.{stop_count, ReaderTables, ReadRight}
 use Rattle.plan_reader.specs.Chains.{FollowedAs, RoundsRead, ChainsRead, ChainsAs}
-use Rattle.plan_reader.specs.declared.Chain.{Chain}
-use Rattle.plan_reader.specs.declared.Chain.TheVariants.{Ended, Broken}
 use Rattle.plan_reader.specs.Laws.Links.{links_at}
 use Rattle.plan_reader.specs.Laws.Tally.{once_length}
 use Rattle.plan_reader.specs.Laws.Right.{PlanRight, right, wrong}
@@ -37,8 +36,8 @@ module _ (s plan stops ends vehicles : List ℕ) (at : ℕ) (g : RoundsRead s pl
       g.whole ∙ ap (λ (n : ℕ). take at stops ++ chains (rounds_from s plan n (rounds_at plan)) aside) e
 
   -- the chain of the stops set aside, by its answer
-  pub chained : (after : List ℕ) (r : Chain) → length after ≡ length stops → FollowedAs s (take at stops ++ aside) r after → ChainsAs s plan r after ends vehicles
-  chained after (Ended total) long f =
+  pub chained : (after : List ℕ) (r : Option ℕ) → length after ≡ length stops → FollowedAs s (take at stops ++ aside) r after → ChainsAs s plan r after ends vehicles
+  chained after (Some total) long f =
       let here : at ≤ length stops = omega (arith, g.room) in
       let there : total ≤ length after = omega (arith, f.room) in
       let e = reaches stops after aside at total here there f.same in
@@ -52,10 +51,10 @@ module _ (s plan stops ends vehicles : List ℕ) (at : ℕ) (g : RoundsRead s pl
         links = subst (λ (x : List ℕ). T (links_right s x)) f.same f.links;
         whole = whole ∙ f.same;
       }
-  chained after Broken long f = breaks s plan (take at stops ++ aside) [] (whole ∙ sym (append-nil (take at stops ++ aside))) f
+  chained after None long f = breaks s plan (take at stops ++ aside) [] (whole ∙ sym (append-nil (take at stops ++ aside))) f
 
-pub chains_told : (s plan stops ends vehicles : List ℕ) {r v : Chain} → r ≡ v → ChainsAs s plan r stops ends vehicles → ChainsAs s plan v stops ends vehicles
-chains_told s plan stops ends vehicles q f = subst (λ (x : Chain). ChainsAs s plan x stops ends vehicles) q f
+pub chains_told : (s plan stops ends vehicles : List ℕ) {r v : Option ℕ} → r ≡ v → ChainsAs s plan r stops ends vehicles → ChainsAs s plan v stops ends vehicles
+chains_told s plan stops ends vehicles q f = subst (λ (x : Option ℕ). ChainsAs s plan x stops ends vehicles) q f
 
 -- ---- every chain is read
 module _ (s plan stops ends vehicles : List ℕ) (lent : ReaderTables s plan stops ends vehicles) (total : ℕ) (g : ChainsRead s plan stops ends vehicles total) where

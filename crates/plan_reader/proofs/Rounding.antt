@@ -1,4 +1,5 @@
 -- The loop over the rounds: the chains so far, with those that are left, are all of the plan's. Assumes nothing.
+use Rattle.std.specs.Prelude.{Option, ℕ}
 use mathlib.Core.Path.{◌≡◌, refl, sym, ap, ◌∙◌, subst}
 use Prim.Native.Nat.{ℕ, zero, suc, ◌+◌, ◌-◌, ◌≤◌, ◌<◌}
 use native.Mathlib.Numerals.{add-one}
@@ -16,17 +17,16 @@ use Rattle.constructive.specs.Right.{links_right}
 use Rattle.plan.specs.Read.{rounds_at, aside_at, id_at, first_stop_at, chain_of, rounds_from, read_plan, plan_right}
 use Rattle.plan_reader.specs.Reading.{stop_count, ReaderTables}
 use Rattle.plan_reader.specs.Chains.{Followed, FollowedAs, RoundRead, RoundsRead, RoundsAs}
-use Rattle.plan_reader.specs.declared.Chain.{Chain}
 use Rattle.plan_reader.specs.Laws.Links.{links_front}
 use Rattle.plan_reader.specs.Laws.Tally.{once_length}
 use Rattle.plan_reader.specs.Laws.Right.{wrong}
 use Rattle.plan_reader.proofs.Splitting.{part_kept, reaches, keeps, lies}
 
 -- a chain by the link that was read and the answer that was given
-pub told : (s plan before after : List ℕ) (at : ℕ) {first link : ℕ} {r v : Chain} → first ≡ link → r ≡ v → FollowedAs s (take at before ++ chain_of s plan first) r after → FollowedAs s (take at before ++ chain_of s plan link) v after
+pub told : (s plan before after : List ℕ) (at : ℕ) {first link : ℕ} {r v : Option ℕ} → first ≡ link → r ≡ v → FollowedAs s (take at before ++ chain_of s plan first) r after → FollowedAs s (take at before ++ chain_of s plan link) v after
 told s plan before after at {first = first} {v = v} e q f =
     subst (λ (x : ℕ). FollowedAs s (take at before ++ chain_of s plan x) v after) e
-    (subst (λ (x : Chain). FollowedAs s (take at before ++ chain_of s plan first) x after) q f)
+    (subst (λ (x : Option ℕ). FollowedAs s (take at before ++ chain_of s plan first) x after) q f)
 
 -- ---- a chain that breaks is no right plan's
 pub breaks : (s plan rows rest : List ℕ) → stops_of (read_plan s plan) ≡ rows ++ rest → (T (links_right s rows) → stop_count s < length rows) → plan_right s plan ≡ false
@@ -147,5 +147,5 @@ pub lent : (s plan : List ℕ) {stops₀ ends₀ vehicles₀ stops ends vehicles
 lent s plan l a b c = record { sheet = l.sheet; planned = l.planned; rows = rw a l.rows; ended = rw b l.ended; fleet = rw c l.fleet }
 
 -- the rounds by the answer that was given
-pub rounds_told : (s plan stops ends vehicles : List ℕ) (k : ℕ) {r v : Chain} → r ≡ v → RoundsAs s plan k r stops ends vehicles → RoundsAs s plan k v stops ends vehicles
-rounds_told s plan stops ends vehicles k q f = subst (λ (x : Chain). RoundsAs s plan k x stops ends vehicles) q f
+pub rounds_told : (s plan stops ends vehicles : List ℕ) (k : ℕ) {r v : Option ℕ} → r ≡ v → RoundsAs s plan k r stops ends vehicles → RoundsAs s plan k v stops ends vehicles
+rounds_told s plan stops ends vehicles k q f = subst (λ (x : Option ℕ). RoundsAs s plan k x stops ends vehicles) q f

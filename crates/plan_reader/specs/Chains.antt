@@ -1,5 +1,5 @@
 -- What the parts of the reader tell: a chain that is followed, the rounds so far, rows that stand twice.
-use Rattle.std.specs.Prelude.{◌≡◌, ℕ, ◌-◌, ◌≤◌, ◌<◌, Bool, true, false, List, ◌++◌, T, length, get_or, take, drop}
+use Rattle.std.specs.Prelude.{◌≡◌, ℕ, ◌-◌, ◌≤◌, ◌<◌, Bool, true, false, List, ◌++◌, T, length, get_or, take, drop, Option, Some, None}
 use Rattle.lists.specs.Count.{count}
 use Rattle.sheet.specs.Fields.{rows_of, vehicles_of}
 use Rattle.sheet.specs.Fleet.{index_of}
@@ -7,8 +7,6 @@ use Rattle.constructive.specs.Outcome.{start_in, chains, stops_of}
 use Rattle.constructive.specs.Right.{links_right}
 use Rattle.plan.specs.Read.{rounds_at, aside_at, id_at, first_stop_at, chain_of, rounds_from, read_plan, plan_right}
 use Rattle.plan_reader.specs.Reading.{stop_count}
-use Rattle.plan_reader.specs.declared.Chain.{Chain}
-use Rattle.plan_reader.specs.declared.Chain.TheVariants.{Ended, Broken}
 
 -- rows that are all stops, no more than there are, the first of the table
 pub record Followed (s rows stops : List ℕ) (end : ℕ) : Type 0 where
@@ -17,9 +15,9 @@ pub record Followed (s rows stops : List ℕ) (end : ℕ) : Type 0 where
   pub links : T (links_right s rows)
 
 -- `rows` are those before a chain and then its own: a link to no stop, or more than there are, breaks it
-abbrev pub FollowedAs : List ℕ → List ℕ → Chain → List ℕ → Type 0
-FollowedAs s rows (Ended end) stops = Followed s rows stops end
-FollowedAs s rows Broken stops = T (links_right s rows) → stop_count s < length rows
+abbrev pub FollowedAs : List ℕ → List ℕ → Option ℕ → List ℕ → Type 0
+FollowedAs s rows (Some end) stops = Followed s rows stops end
+FollowedAs s rows None stops = T (links_right s rows) → stop_count s < length rows
 
 -- the j-th round, read into tables whose first `at` stops are taken
 pub record RoundRead (s plan stops ends vehicles : List ℕ) (at j : ℕ) : Type 0 where
@@ -38,9 +36,9 @@ pub record RoundsRead (s plan stops ends vehicles : List ℕ) (k at : ℕ) : Typ
   pub links : T (links_right s (take at stops))
   pub whole : stops_of (read_plan s plan) ≡ take at stops ++ chains (rounds_from s plan (rounds_at plan - k) k) (chain_of s plan (aside_at plan))
 
-abbrev pub RoundsAs : List ℕ → List ℕ → ℕ → Chain → List ℕ → List ℕ → List ℕ → Type 0
-RoundsAs s plan k (Ended at) stops ends vehicles = RoundsRead s plan stops ends vehicles k at
-RoundsAs s plan k Broken stops ends vehicles = plan_right s plan ≡ false
+abbrev pub RoundsAs : List ℕ → List ℕ → ℕ → Option ℕ → List ℕ → List ℕ → List ℕ → Type 0
+RoundsAs s plan k (Some at) stops ends vehicles = RoundsRead s plan stops ends vehicles k at
+RoundsAs s plan k None stops ends vehicles = plan_right s plan ≡ false
 
 -- every round, and the chain after them: `total` stops in all
 pub record ChainsRead (s plan stops ends vehicles : List ℕ) (total : ℕ) : Type 0 where
@@ -51,9 +49,9 @@ pub record ChainsRead (s plan stops ends vehicles : List ℕ) (total : ℕ) : Ty
   pub links : T (links_right s (take total stops))
   pub whole : stops_of (read_plan s plan) ≡ take total stops
 
-abbrev pub ChainsAs : List ℕ → List ℕ → Chain → List ℕ → List ℕ → List ℕ → Type 0
-ChainsAs s plan (Ended total) stops ends vehicles = ChainsRead s plan stops ends vehicles total
-ChainsAs s plan Broken stops ends vehicles = plan_right s plan ≡ false
+abbrev pub ChainsAs : List ℕ → List ℕ → Option ℕ → List ℕ → List ℕ → List ℕ → Type 0
+ChainsAs s plan (Some total) stops ends vehicles = ChainsRead s plan stops ends vehicles total
+ChainsAs s plan None stops ends vehicles = plan_right s plan ≡ false
 
 -- no row twice
 abbrev pub Single : List ℕ → Type 0

@@ -1,13 +1,11 @@
 -- What the reader tells of a plan, and what it leaves in the tables. Document 01, "The limiter": "Of the plan in it reads round count, ids and chains."
-use Rattle.std.specs.Prelude.{◌≡◌, ℕ, ◌-◌, ◌≤◌, true, false, List, length}
+use Rattle.std.specs.Prelude.{◌≡◌, ℕ, ◌-◌, ◌≤◌, true, false, List, length, Option, Some, None}
 use Rattle.sheet.specs.Fields.{rows_of, plan_length}
 use Rattle.sheet.specs.Depots.{depots_of}
 use Rattle.sheet.specs.Accepted.{Accepted}
 use Rattle.constructive.specs.Outcome.{outcome_in}
 use Rattle.constructive.specs.Tables.{Tables}
 use Rattle.plan.specs.Read.{rounds_at, read_plan, plan_right}
-use Rattle.plan_reader.specs.declared.Reading.{Reading}
-use Rattle.plan_reader.specs.declared.Reading.TheVariants.{Right, Wrong}
 
 -- how many stops a sheet has: its rows less its depots
 abbrev pub stop_count : List ℕ → ℕ
@@ -29,6 +27,6 @@ pub record ReadRight (s plan stops ends vehicles : List ℕ) (n : ℕ) : Type 0 
   pub tables : Tables s stops ends vehicles n (stop_count s)
 
 -- the answer: the outcome of a plan that is right, or refusal 10
-abbrev pub ReadAs : List ℕ → List ℕ → Reading → List ℕ → List ℕ → List ℕ → Type 0
-ReadAs s plan (Right n) stops ends vehicles = ReadRight s plan stops ends vehicles n
-ReadAs s plan Wrong stops ends vehicles = plan_right s plan ≡ false
+abbrev pub ReadAs : List ℕ → List ℕ → Option ℕ → List ℕ → List ℕ → List ℕ → Type 0
+ReadAs s plan (Some n) stops ends vehicles = ReadRight s plan stops ends vehicles n
+ReadAs s plan None stops ends vehicles = plan_right s plan ≡ false

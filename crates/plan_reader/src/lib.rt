@@ -14,19 +14,7 @@ ghost use Rattle.plan_reader.specs.Chains.{FollowedAs, RoundsRead, RoundsAs, Cha
 use sheet::customer;
 
 // What reading finds: a number of rounds in the tables, or a plan that refusal 10 is told of.
-#[derive(Clone, Copy)]
-pub enum Reading {
-    Right(usize),
-    Wrong,
-}
-
 // Where a chain ends in the table of stops, or that it breaks.
-#[derive(Clone, Copy)]
-enum Chain {
-    Ended(usize),
-    Broken,
-}
-
 fn id_at(sheet: &[u8], index: usize) -> u32
     requires sized { Sized sheet.now }
     requires index_bound { index < vehicles_of sheet.now }
@@ -68,7 +56,7 @@ fn follow(
     first: usize,
     stops: &mut [u16],
     from: usize,
-) -> Chain
+) -> Option<usize>
     requires sized { Sized sheet.now }
     requires plan_len { (length plan.now ≡ plan_length sheet.now) × (depots ≡ depots_of sheet.now) }
     requires sheet_in_bounds { (rows_of sheet.now ≤ length stops.old) × (from ≤ stop_count sheet.now) }
@@ -80,19 +68,19 @@ fn follow(
     let mut at = from;
     while link != 0 {
         if link < depots {
-            return Chain::Broken;
+            return None;
         }
         if rows <= link {
-            return Chain::Broken;
+            return None;
         }
         if rows - depots <= at {
-            return Chain::Broken;
+            return None;
         }
         stops[at] = link as u16;
         link = next(sheet, plan, link);
         at += 1;
     }
-    Chain::Ended(at)
+    Some(at)
 }
 
 // The k-th round, its stops from `at` on.
@@ -105,7 +93,7 @@ fn read_round(
     ends: &mut [u16],
     vehicles: &mut [u16],
     at: usize,
-) -> Chain
+) -> Option<usize>
     requires reader_tables { ReaderTables sheet.now plan.now stops.old ends.old vehicles.old }
     requires depots_value { depots ≡ depots_of sheet.now }
     requires k_bound { (k < rounds_at plan.now) × (rounds_at plan.now ≤ rows_of sheet.now) }
@@ -114,15 +102,15 @@ fn read_round(
 {
     let index = index_of(sheet, wire::u32_at(plan, 16 + 56 * k));
     if sheet::vehicles(sheet) <= index {
-        return Chain::Broken;
+        return None;
     }
     let first = wire::u16_at(plan, 16 + 56 * k + 8) as usize;
-    let Chain::Ended(end) = follow(sheet, plan, depots, first, stops, at) else {
-        return Chain::Broken;
+    let Some(end) = follow(sheet, plan, depots, first, stops, at) else {
+        return None;
     };
     ends[k] = end as u16;
     vehicles[k] = index as u16;
-    Chain::Ended(end)
+    Some(end)
 }
 
 fn read_rounds(
@@ -133,7 +121,7 @@ fn read_rounds(
     stops: &mut [u16],
     ends: &mut [u16],
     vehicles: &mut [u16],
-) -> Chain
+) -> Option<usize>
     requires reader_tables { ReaderTables sheet.now plan.now stops.old ends.old vehicles.old }
     requires depots_value { depots ≡ depots_of sheet.now }
     requires rounds_value { (rounds ≡ rounds_at plan.now) × (rounds_at plan.now ≤ rows_of sheet.now) }
@@ -141,12 +129,12 @@ fn read_rounds(
 {
     let mut at: usize = 0;
     for k in 0..rounds {
-        let Chain::Ended(end) = read_round(sheet, plan, depots, k, stops, ends, vehicles, at) else {
-            return Chain::Broken;
+        let Some(end) = read_round(sheet, plan, depots, k, stops, ends, vehicles, at) else {
+            return None;
         };
         at = end;
     }
-    Chain::Ended(at)
+    Some(at)
 }
 
 // Whether no row stands twice.
@@ -186,17 +174,17 @@ fn read_chains(
     stops: &mut [u16],
     ends: &mut [u16],
     vehicles: &mut [u16],
-) -> Chain
+) -> Option<usize>
     requires reader_tables { ReaderTables sheet.now plan.now stops.old ends.old vehicles.old }
     requires depots_value { depots ≡ depots_of sheet.now }
     ensures { ChainsAs sheet.now plan.now result stops.new ends.new vehicles.new }
 {
     let rounds = wire::u16_at(plan, 0) as usize;
     if sheet::rows(sheet) < rounds {
-        return Chain::Broken;
+        return None;
     }
-    let Chain::Ended(start) = read_rounds(sheet, plan, depots, rounds, stops, ends, vehicles) else {
-        return Chain::Broken;
+    let Some(start) = read_rounds(sheet, plan, depots, rounds, stops, ends, vehicles) else {
+        return None;
     };
     let aside = wire::u16_at(plan, 2) as usize;
     follow(sheet, plan, depots, aside, stops, start)
@@ -209,16 +197,16 @@ pub fn read_plan(
     stops: &mut [u16],
     ends: &mut [u16],
     vehicles: &mut [u16],
-) -> Reading
+) -> Option<usize>
     requires { ReaderTables sheet.now plan.now stops.old ends.old vehicles.old }
     ensures { ReadAs sheet.now plan.now result stops.new ends.new vehicles.new }
 {
     let depots = customer::depots(sheet);
-    let Chain::Ended(total) = read_chains(sheet, plan, depots, stops, ends, vehicles) else {
-        return Reading::Wrong;
+    let Some(total) = read_chains(sheet, plan, depots, stops, ends, vehicles) else {
+        return None;
     };
     if !each_once(sheet, depots, &stops[..total]) {
-        return Reading::Wrong;
+        return None;
     }
-    Reading::Right(wire::u16_at(plan, 0) as usize)
+    Some(wire::u16_at(plan, 0) as usize)
 }

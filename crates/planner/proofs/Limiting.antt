@@ -11,7 +11,7 @@ use Rattle.plan.specs.Read.{plan_right}
 use Rattle.plan_door.specs.Door.{door_refusal, unless_refused}
 use Rattle.plan_door.specs.Laws.Door.{door_accepted, door_plan}
 use Rattle.planner_limiting.specs.Limiting.{limit_refusal, limited_plan, LimitDone}
-use Rattle.planner.specs.Answer.{number_of, bytes_of}
+use Rattle.planner.specs.Answer.{answer_number, bytes_of}
 use Rattle.planner.specs.Limited.{limit_told, limit_answer, LimitAnswered, LimitOnce, LimitFew, LimitStood, LimitAside}
 use Rattle.planner.specs.Laws.LimitPromised.{limited_stands, limited_few, limited_stood, limited_aside}
 
@@ -20,7 +20,7 @@ module _ (s plan lent : List ℕ) (greatest r : ℕ) (out : List ℕ) (done : Li
   unfolding limit_answer
   limit_answered = record { number = number (limit_refusal s plan (length lent)) done.number; bytes = bytes (limit_refusal s plan (length lent)) done.bytes }
     where
-      number : (n : ℕ) → r ≡ n → r ≡ number_of (limit_told n s plan greatest)
+      number : (n : ℕ) → r ≡ n → r ≡ answer_number (limit_told n s plan greatest)
       number zero t = t
       number (suc n) t = t
 

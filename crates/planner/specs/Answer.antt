@@ -37,9 +37,9 @@ unfoldable pub answer_of : List ℕ → ℕ → Answer
 answer_of s room = told_by (refusal_of s room) s
 
 -- its number
-abbrev pub number_of : Answer → ℕ
-number_of (refused n) = n
-number_of (planned bytes) = 0
+abbrev pub answer_number : Answer → ℕ
+answer_number (refused n) = n
+answer_number (planned bytes) = 0
 
 -- the bytes lent for the plan, after it: "A refused call writes no lent byte."
 abbrev pub bytes_of : Answer → List ℕ → List ℕ
@@ -49,7 +49,7 @@ bytes_of (planned bytes) lent = bytes
 -- ---- the parts of the contract: a sheet, the bytes lent, the number and the bytes after it
 -- **answer**, demands 1 and 2: number and bytes are the definition's, refused sheets included
 pub record Answered (s lent : List ℕ) (r : ℕ) (plan : List ℕ) : Type 0 where
-  pub number : r ≡ number_of (answer_of s (length lent))
+  pub number : r ≡ answer_number (answer_of s (length lent))
   pub bytes : plan ≡ bytes_of (answer_of s (length lent)) lent
 
 -- **once**, demand 3: every stop of an accepted sheet stands once in its plan, on one round or set aside

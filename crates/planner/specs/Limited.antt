@@ -6,7 +6,7 @@ use Rattle.lists.specs.Ascending.{Ascending}
 use Rattle.plan.specs.Read.{read_plan}
 use Rattle.fleet.specs.Stood.{Stood}
 use Rattle.planner_limiting.specs.Limiting.{limit_refusal, limited_plan}
-use Rattle.planner.specs.Answer.{Answer, refused, planned, number_of, bytes_of, Standing}
+use Rattle.planner.specs.Answer.{Answer, refused, planned, answer_number, bytes_of, Standing}
 
 -- ---- the answer
 abbrev pub limit_told : ℕ → List ℕ → List ℕ → ℕ → Answer
@@ -20,7 +20,7 @@ limit_answer s plan greatest room = limit_told (limit_refusal s plan room) s pla
 -- ---- the parts of the contract: a sheet, a plan in, the greatest number, the bytes lent, the number and the bytes after it
 -- **answer**: number and bytes are the definition's; "A refused call writes no lent byte."
 pub record LimitAnswered (s plan : List ℕ) (greatest : ℕ) (lent : List ℕ) (r : ℕ) (out : List ℕ) : Type 0 where
-  pub number : r ≡ number_of (limit_answer s plan greatest (length lent))
+  pub number : r ≡ answer_number (limit_answer s plan greatest (length lent))
   pub bytes : out ≡ bytes_of (limit_answer s plan greatest (length lent)) lent
 
 -- **once**: "That every pond stands once in the plan out too is proved."

@@ -1,33 +1,33 @@
-// What a host calls, by way of the exports of `planner_c`.
+// What a host calls, by way of the exports of `planner_c`, which return numbers.
 #![tactic(auto)]
 
-ghost use Rattle.std.specs.Prelude.{◌≡◌, length};
+ghost use Rattle.std.specs.Prelude.{◌≡◌, ◌^◌, ◌<◌, length, IfOk};
 ghost use Rattle.sheet.specs.Fields.{plan_length};
 ghost use Rattle.sheet.specs.Accepted.{Sized, Accepted};
 ghost use Rattle.sheet.specs.Refusal.{refusal_of};
-ghost use Rattle.solomon_import.specs.Import.{ImportAnswered, ImportAccepted};
+ghost use Rattle.sheet.specs.Told.{told};
+ghost use Rattle.solomon_import.specs.Import.{import_answer, ImportAnswered, ImportAccepted};
 ghost use Rattle.tariff_bill.specs.Bill.{BillAnswered, BillExact};
 ghost use Rattle.planner.specs.Answer.{priced, plan_for, Answered, Once, Feasibly, Lawful, Alone, Closed};
 ghost use Rattle.planner.specs.Tabled.{PlannerTables};
 ghost use Rattle.planner.specs.Limited.{LimitAnswered, LimitOnce, LimitFew, LimitStood, LimitAside};
 
+use sheet::refusal::Refusal;
 use tariff::Rates;
 
-// Whether a sheet would be planned into a buffer of `plan_len` bytes: 0, or the number of the refusal.
-pub fn check_sheet(sheet: &[u8], plan_len: usize) -> u32
-    ensures { result ≡ refusal_of sheet.now plan_len }
+// Whether a sheet would be planned into a buffer of `plan_len` bytes.
+pub fn check_sheet(sheet: &[u8], plan_len: usize) -> Result<(), Refusal>
+    ensures { told result ≡ refusal_of sheet.now plan_len }
 {
     sheet_refusal::refusal(sheet, plan_len)
 }
 
+#[tactic(auto, unfolding(crate::specs::Answer::priced))]
 fn is_priced(sheet: &[u8]) -> bool
     requires { Sized sheet.now }
     ensures { result ≡ priced sheet.now }
 {
-    if sheet::customer::depots(sheet) != 1 {
-        return true;
-    }
-    1 < sheet::rows(sheet)
+    sheet::customer::depots(sheet) != 1 || 1 < sheet::rows(sheet)
 }
 
 // The plan of an accepted sheet, by way of tables that are lent.
@@ -84,45 +84,47 @@ fn fill(sheet: &[u8], plan: &mut [u8])
     );
 }
 
-// Plans a sheet's rounds: 0 and the plan, or the number of the refusal and every byte of `plan` as it was.
-pub fn plan_rounds(sheet: &[u8], plan: &mut [u8]) -> u32
-    ensures answered { Answered sheet.now plan.old result plan.new }
-    ensures once { Once sheet.now result plan.new }
-    ensures feasibly { Feasibly sheet.now result plan.new }
-    ensures lawful { Lawful sheet.now result plan.new }
-    ensures alone { Alone sheet.now result plan.new }
-    ensures closed { Closed sheet.now result plan.new }
+// Plans a sheet's rounds. A refusal leaves every byte of `plan` as it was.
+pub fn plan_rounds(sheet: &[u8], plan: &mut [u8]) -> Result<(), Refusal>
+    ensures answered { Answered sheet.now plan.old (told result) plan.new }
+    ensures once { Once sheet.now (told result) plan.new }
+    ensures feasibly { Feasibly sheet.now (told result) plan.new }
+    ensures lawful { Lawful sheet.now (told result) plan.new }
+    ensures alone { Alone sheet.now (told result) plan.new }
+    ensures closed { Closed sheet.now (told result) plan.new }
 {
-    let number = sheet_refusal::refusal(sheet, plan.len());
-    if number != 0 {
-        return number;
-    }
+    sheet_refusal::refusal(sheet, plan.len())?;
     fill(sheet, plan);
-    0
+    Ok(())
 }
 
-// Brings a plan down to at most `greatest` rounds: 0 and the plan out, or the number of the refusal and every byte of
-// `plan_out` as it was.
-pub fn limit_rounds(sheet: &[u8], plan_in: &[u8], greatest: u32, plan_out: &mut [u8]) -> u32
-    ensures limit_answered { LimitAnswered sheet.now plan_in.now greatest plan_out.old result plan_out.new }
-    ensures limit_once { LimitOnce sheet.now result plan_out.new }
-    ensures limit_few { LimitFew sheet.now greatest result plan_out.new }
-    ensures limit_stood { LimitStood sheet.now plan_in.now result plan_out.new }
-    ensures limit_aside { LimitAside sheet.now plan_in.now result plan_out.new }
+// Brings a plan down to at most `greatest` rounds. A refusal leaves every byte of `plan_out` as it was.
+pub fn limit_rounds(
+    sheet: &[u8],
+    plan_in: &[u8],
+    greatest: u32,
+    plan_out: &mut [u8],
+) -> Result<(), Refusal>
+    ensures limit_answered { LimitAnswered sheet.now plan_in.now greatest plan_out.old (told result) plan_out.new }
+    ensures limit_once { LimitOnce sheet.now (told result) plan_out.new }
+    ensures limit_few { LimitFew sheet.now greatest (told result) plan_out.new }
+    ensures limit_stood { LimitStood sheet.now plan_in.now (told result) plan_out.new }
+    ensures limit_aside { LimitAside sheet.now plan_in.now (told result) plan_out.new }
 {
     planner_limiting::limit(sheet, plan_in, greatest, plan_out)
 }
 
-// Imports one of Solomon's texts: the sheet's length, and the sheet at the start of `sheet`, or the refusal's number below
-// zero and every byte of `sheet` as it was.
-pub fn import_solomon(text: &[u8], sheet: &mut [u8]) -> i32
-    ensures import_answered { ImportAnswered text.now sheet.old result sheet.new }
-    ensures import_accepted { ImportAccepted result sheet.new }
+// Imports one of Solomon's texts: the sheet's length, and the sheet at the start of `sheet`. A refusal leaves every byte of
+// `sheet` as it was.
+pub fn import_solomon(text: &[u8], sheet: &mut [u8]) -> Result<usize, Refusal>
+    ensures import_answered { ImportAnswered text.now sheet.old (import_answer result) sheet.new }
+    ensures import_accepted { ImportAccepted (import_answer result) sheet.new }
+    ensures import_long { IfOk result (λ long. long < 2 ^ 31) }
 {
     solomon_import::import(text, sheet)
 }
 
-// Bills a plan's rounds: 0 and the bill, or the number of the refusal and every byte of `bill` as it was.
+// Bills a plan's rounds. A refusal leaves every byte of `bill` as it was.
 pub fn bill_rounds(
     sheet: &[u8],
     plan: &[u8],
@@ -130,9 +132,9 @@ pub fn bill_rounds(
     duration_rate: u32,
     least: u32,
     bill: &mut [u8],
-) -> u32
-    ensures bill_answered { BillAnswered sheet.now plan.now (record { distance = distance_rate; duration = duration_rate; least = least }) bill.old result bill.new }
-    ensures bill_exact { BillExact sheet.now plan.now (record { distance = distance_rate; duration = duration_rate; least = least }) result bill.new }
+) -> Result<(), Refusal>
+    ensures bill_answered { BillAnswered sheet.now plan.now (record { distance = distance_rate; duration = duration_rate; least = least }) bill.old (told result) bill.new }
+    ensures bill_exact { BillExact sheet.now plan.now (record { distance = distance_rate; duration = duration_rate; least = least }) (told result) bill.new }
 {
     let rates = Rates {
         distance: distance_rate,

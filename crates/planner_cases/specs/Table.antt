@@ -1,5 +1,5 @@
 -- docs/SCOPE.md#sheet-a-and-its-relatives. Document 01, "Sheet A and its relatives": "Proved of the definitions, as a table that one theorem covers".
-use Rattle.std.specs.Prelude.{ℕ, ◌*◌, ◌≡◌, List, [], ◌∷◌, ◌++◌, length, replicate}
+use Rattle.std.specs.Prelude.{ℕ, ◌*◌, ◌≡◌, List, [], ◌∷◌, ◌++◌, length, replicate, Option, Some, None}
 use Rattle.std.specs.Float.{binary64}
 use Rattle.std.specs.Float.Ieee.{to_bits}
 use Rattle.wire.specs.Bytes.{bytes}
@@ -8,11 +8,10 @@ use Rattle.sheet.specs.Values.{rest_after}
 use Rattle.sheet.specs.SheetA.{f1, f10, f64s, sheet_header, row_bytes, no_times, stop_rows, vehicle_bytes, table_bytes, sheet_a, sheet_carrying}
 use Rattle.evaluation_clock.specs.Serve.{rest_place}
 use Rattle.evaluation.specs.Walk.{scheduled_of}
-use Rattle.evaluation_clock.specs.declared.clock.Scheduled.{Scheduled}
-use Rattle.evaluation_clock.specs.declared.clock.Scheduled.TheVariants.{Found, NotFound}
 use Rattle.clarke_wright_savings.specs.Laws.Cases.{relative, within}
 use Rattle.solomon_i1.specs.Laws.Cases.{due}
 use Rattle.planner.specs.Answer.{planned, answer_of}
+use Rattle.evaluation_clock.specs.declared.clock.Schedule.{Schedule}
 
 -- ---- numbers as f64
 abbrev pub five : ℕ
@@ -129,9 +128,9 @@ abbrev pub sheet_at : ℕ → ℕ → List ℕ
 sheet_at method time = sheet_header 3 1 method ++ (stop_rows ++ (rest_vehicle time time ++ table_bytes))
 
 -- the rest's place and the duration, or nothing
-abbrev schedule_told : Scheduled → List ℕ
-schedule_told (Found k) = rest_place k.rest ∷ to_bits binary64 k.duration ∷ []
-schedule_told NotFound = []
+abbrev schedule_told : Option Schedule → List ℕ
+schedule_told (Some k) = rest_place k.rest ∷ to_bits binary64 k.duration ∷ []
+schedule_told None = []
 
 -- of round 1, 2
 abbrev pub schedule_at : ℕ → List ℕ

@@ -15,10 +15,8 @@ use Rattle.constructive.specs.Right.{outcome_right}
 use Rattle.plan.specs.Plan.{plan_of}
 use Rattle.plan.specs.Read.{rounds_at, read_plan, plan_right}
 use Rattle.plan_reader.specs.Reading.{stop_count}
-use Rattle.plan_door.specs.Door.{door_refusal, unless_refused, LetIn, EntryAs}
+use Rattle.plan_door.specs.Door.{door_refusal, unless_refused, LetIn}
 use Rattle.plan_door.specs.Laws.Door.{door_room, door_fits, door_accepted, door_one}
-use Rattle.plan_door.specs.declared.Entry.{Entry}
-use Rattle.plan_door.specs.declared.Entry.TheVariants.{Refused, Rounds}
 use Rattle.fleet.specs.Limit.{limit_routes}
 use Rattle.fleet_limiter.specs.Limitable.{Limitable}
 use Rattle.planner_limiting.specs.Limiting.{limit_refusal, limited_plan, LimitDone}
@@ -41,38 +39,31 @@ module _ (s plan lent : List ℕ) where
   unfolding limit_refusal
   door_limit = door_room s plan room (lengths_right s (length lent)) true (same_room s (length plan) (length lent))
 
-  module _ (stops ends vehicles : List ℕ) (x : Entry) (entered : EntryAs s plan room true x stops ends vehicles) where
-    pub limit_refused : (greatest n : ℕ) → x ≡ Refused n → LimitDone s plan greatest lent n lent
-    limit_refused greatest n e =
-        let r = subst (λ (y : Entry). EntryAs s plan room true y stops ends vehicles) e entered in
-        let told : n ≡ limit_refusal s plan (length lent) = r.0 ∙ door_limit in
-        record { number = told; bytes = rw (← told) (go n r.1) }
-      where
-        go : (n : ℕ) → 0 < n → lent ≡ unless_refused n (limited_plan s plan greatest) lent
-        go zero h = absurd (omega arith)
-        go (suc n) h = refl
+  pub limit_refused : (greatest n : ℕ) → 0 < n → n ≡ door_refusal s plan room true → LimitDone s plan greatest lent n lent
+  limit_refused greatest n h e = let told : n ≡ limit_refusal s plan (length lent) = e ∙ door_limit in record { number = told; bytes = rw (← told) (go n h) }
+    where
+      go : (n : ℕ) → 0 < n → lent ≡ unless_refused n (limited_plan s plan greatest) lent
+      go zero h = absurd (omega arith)
+      go (suc n) h = refl
 
-    module _ (n : ℕ) (e : x ≡ Rounds n) where
-      let_in : LetIn s plan room true stops ends vehicles n
-      let_in = subst (λ (y : Entry). EntryAs s plan room true y stops ends vehicles) e entered
+  module _ (stops ends vehicles : List ℕ) (n : ℕ) (let_in : LetIn s plan room true stops ends vehicles n) where
+    read_right : T (outcome_right s (read_plan s plan))
+    unfolding plan_right
+    read_right = and_r (leb (rounds_at plan) (rows_of s)) (outcome_right s (read_plan s plan)) (subst T (sym let_in.read.right) tt)
 
-      read_right : T (outcome_right s (read_plan s plan))
-      unfolding plan_right
-      read_right = and_r (leb (rounds_at plan) (rows_of s)) (outcome_right s (read_plan s plan)) (subst T (sym let_in.read.right) tt)
+    pub limit_may : (marks trial : List ℕ) → 101 ≤ length marks → 101 ≤ length trial → Limitable s stops ends vehicles marks trial n (stop_count s)
+    limit_may marks trial m t = record {
+      tables = let_in.read.tables;
+      right = rw let_in.read.outcome read_right;
+      one = door_one s plan room true let_in.free refl;
+      all = refl;
+      marked = omega (arith, let_in.sheet.sized.rows);
+      tried = t;
+    }
 
-      pub limit_may : (marks trial : List ℕ) → 101 ≤ length marks → 101 ≤ length trial → Limitable s stops ends vehicles marks trial n (stop_count s)
-      limit_may marks trial m t = record {
-        tables = let_in.read.tables;
-        right = rw let_in.read.outcome read_right;
-        one = door_one s plan room true let_in.free refl;
-        all = refl;
-        marked = omega (arith, let_in.sheet.sized.rows);
-        tried = t;
-      }
+    pub limit_fits : length lent ≡ plan_length s
+    limit_fits = eqb-true (length lent) (length plan) (door_fits s plan room true let_in.free) ∙ (door_accepted s plan room true let_in.free).1
 
-      pub limit_fits : length lent ≡ plan_length s
-      limit_fits = eqb-true (length lent) (length plan) (door_fits s plan room true let_in.free) ∙ (door_accepted s plan room true let_in.free).1
-
-      pub limit_done : (greatest : ℕ) (out : List ℕ) → out ≡ plan_of s (limit_routes s greatest (outcome_in stops ends vehicles n (stop_count s))) true → LimitDone s plan greatest lent 0 out
-      unfolding limited_plan
-      limit_done greatest out w = let none : limit_refusal s plan (length lent) ≡ 0 = sym door_limit ∙ let_in.free in record { number = sym none; bytes = rw (none, w, let_in.read.outcome) }
+    pub limit_done : (greatest : ℕ) (out : List ℕ) → out ≡ plan_of s (limit_routes s greatest (outcome_in stops ends vehicles n (stop_count s))) true → LimitDone s plan greatest lent 0 out
+    unfolding limited_plan
+    limit_done greatest out w = let none : limit_refusal s plan (length lent) ≡ 0 = sym door_limit ∙ let_in.free in record { number = sym none; bytes = rw (none, w, let_in.read.outcome) }

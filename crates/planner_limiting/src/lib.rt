@@ -3,6 +3,7 @@
 
 ghost use Rattle.std.specs.Prelude.{◌≡◌, ◌-◌, true, length};
 ghost use Rattle.sheet.specs.Fields.{rows_of, plan_length};
+ghost use Rattle.sheet.specs.Told.{told};
 ghost use Rattle.sheet.specs.Depots.{depots_of};
 ghost use Rattle.sheet.specs.Accepted.{Sized};
 ghost use Rattle.constructive.specs.Outcome.{outcome_in};
@@ -12,7 +13,7 @@ ghost use Rattle.fleet.specs.Limit.{limit_routes};
 ghost use Rattle.fleet_limiter.specs.Limitable.{Limitable};
 ghost use Rattle.planner_limiting.specs.Limiting.{LimitTables, LimitDone};
 
-use plan_door::Entry;
+use sheet::refusal::Refusal;
 
 // How many rows are no depots.
 pub fn stops_in(sheet: &[u8]) -> usize
@@ -58,26 +59,26 @@ fn limit_by(
     vehicles: &mut [u16],
     marks: &mut [u16],
     trial: &mut [u16],
-) -> u32
+) -> Result<(), Refusal>
     requires { LimitTables stops.old ends.old vehicles.old marks.old trial.old }
-    ensures { LimitDone sheet.now plan_in.now greatest plan_out.old result plan_out.new }
+    ensures { LimitDone sheet.now plan_in.now greatest plan_out.old (told result) plan_out.new }
 {
     let room = plan_out.len() == plan_in.len();
-    let entry = plan_door::enter(sheet, plan_in, room, true, stops, ends, vehicles);
-    match entry {
-        Entry::Refused(number) => number,
-        Entry::Rounds(rounds) => {
-            limit_read(
-                sheet, greatest, plan_out, stops, ends, vehicles, marks, trial, rounds,
-            );
-            0
-        }
-    }
+    let rounds = plan_door::enter(sheet, plan_in, room, true, stops, ends, vehicles)?;
+    limit_read(
+        sheet, greatest, plan_out, stops, ends, vehicles, marks, trial, rounds,
+    );
+    Ok(())
 }
 
 // The same. The tables stand here, a kilobyte in all.
-pub fn limit(sheet: &[u8], plan_in: &[u8], greatest: u32, plan_out: &mut [u8]) -> u32
-    ensures { LimitDone sheet.now plan_in.now greatest plan_out.old result plan_out.new }
+pub fn limit(
+    sheet: &[u8],
+    plan_in: &[u8],
+    greatest: u32,
+    plan_out: &mut [u8],
+) -> Result<(), Refusal>
+    ensures { LimitDone sheet.now plan_in.now greatest plan_out.old (told result) plan_out.new }
 {
     let mut stops = [0u16; sheet::MOST_ROWS];
     let mut ends = [0u16; sheet::MOST_ROWS];

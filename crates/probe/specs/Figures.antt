@@ -1,14 +1,12 @@
 -- The figures of a round, by their numbers.
-use Rattle.std.specs.Prelude.{◌&&◌, cond, List, [], ◌∷◌, ℕ, ◌+◌, ◌-◌, ◌/◌, ◌%◌, ltb, pos, length, get_or, take, Float}
+use Rattle.std.specs.Prelude.{◌&&◌, cond, List, [], ◌∷◌, ℕ, ◌+◌, ◌-◌, ◌/◌, ◌%◌, ltb, pos, length, get_or, take, Float, Option, Some, None}
 use Rattle.std.specs.Float.{nan, binary64}
 use Rattle.std.specs.Float.Ieee.{of_bits, of_int}
 use Rattle.sheet.specs.Fields.{rows_of}
 use Rattle.sheet.specs.Values.{vehicle_of}
 use Rattle.evaluation_clock.specs.declared.clock.Schedule.{Schedule}
-use Rattle.evaluation_clock.specs.declared.label.RestAnswer.{RestAnswer}
+use Rattle.evaluation_clock.specs.RestAnswer.{RestAnswer}
 use Rattle.evaluation.specs.declared.limits.RouteLimits.{RouteLimits}
-use Rattle.evaluation.specs.declared.RouteEval.{RouteEval}
-use Rattle.evaluation.specs.declared.RouteEval.TheVariants.{Allowed, NotAllowed}
 use Rattle.evaluation_clock.specs.Serve.{rest_place, rest_start}
 use Rattle.evaluation.specs.Limits.{limits_at}
 use Rattle.evaluation.specs.Feasible.{route_eval}
@@ -35,9 +33,9 @@ six_of distance duration lateness cost rest = distance ∷ duration ∷ lateness
 abbrev pub schedule_figures : Schedule → List Float
 schedule_figures k = six_of k.distance k.duration k.lateness k.lateness_cost k.rest
 
-unfoldable pub eval_figure : RouteEval → ℕ → Float
-eval_figure (Allowed k) n = get_or (schedule_figures k) n nan
-eval_figure NotAllowed n = not_allowed
+unfoldable pub eval_figure : Option Schedule → ℕ → Float
+eval_figure (Some k) n = get_or (schedule_figures k) n nan
+eval_figure None n = not_allowed
 
 -- 0 to 5 likewise, then the load
 abbrev pub record_figures : Record → List Float

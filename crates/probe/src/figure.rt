@@ -1,33 +1,14 @@
 // Single figures of a round.
 ghost use Rattle.std.specs.Prelude.{◌≡◌, ◌<◌, get_or};
 ghost use Rattle.std.specs.Float.{nan};
-ghost use Rattle.evaluation_clock.specs.Serve.{rest_place, rest_start};
 ghost use Rattle.evaluation.specs.Routed.{Routed};
 ghost use Rattle.evaluator.specs.Record.{begin_of, progress_of};
 ghost use Rattle.probe.specs.Figures.{six_of, eval_figure, record_figure, visit_figure, visit_figures, figure_of};
 
-use evaluation::RouteEval;
 use evaluation::limits::RouteLimits;
-use evaluation_clock::label::RestAnswer;
-use evaluator::{Placed, Progress, Record};
-
-fn place(rest: RestAnswer) -> f64
-    ensures { result ≡ Rattle.probe.specs.Figures.whole_figure (rest_place rest) }
-{
-    match rest {
-        RestAnswer::NoRest => 0.0,
-        RestAnswer::Before(place, _) => place as f64,
-    }
-}
-
-fn start(rest: RestAnswer) -> f64
-    ensures { result ≡ rest_start rest }
-{
-    match rest {
-        RestAnswer::NoRest => 0.0,
-        RestAnswer::Before(_, start) => start,
-    }
-}
+use evaluation_clock::clock::Schedule;
+use evaluation_clock::label::{RestAnswer, rest_place, rest_start};
+use evaluator::{Progress, Record};
 
 fn six(
     distance: f64,
@@ -40,27 +21,31 @@ fn six(
     requires { which < 6 }
     ensures { result ≡ get_or (six_of distance duration lateness cost rest) which nan }
 {
-    let figures = [distance, duration, lateness, cost, place(rest), start(rest)];
+    let figures = [
+        distance,
+        duration,
+        lateness,
+        cost,
+        rest_place(rest) as f64,
+        rest_start(rest),
+    ];
     figures[which]
 }
 
-fn eval_figure(eval: RouteEval, which: usize) -> f64
+fn eval_figure(eval: Option<Schedule>, which: usize) -> f64
     requires { which < 6 }
     ensures { result ≡ eval_figure eval which }
 {
     match eval {
-        RouteEval::Allowed(s) => {
-            let rest = s.rest;
-            six(
-                s.distance,
-                s.duration,
-                s.lateness,
-                s.lateness_cost,
-                rest,
-                which,
-            )
-        }
-        RouteEval::NotAllowed => -1.0,
+        Some(s) => six(
+            s.distance,
+            s.duration,
+            s.lateness,
+            s.lateness_cost,
+            s.rest,
+            which,
+        ),
+        None => -1.0,
     }
 }
 
@@ -89,18 +74,6 @@ fn visit_figure(progress: Progress, which: usize) -> f64
     figures[which]
 }
 
-// The round so far after `route`, with its rest where `placed` says.
-fn progress(sheet: &[u8], route: &[u16], depot: usize, placed: Placed) -> Progress
-    requires { Routed sheet.now depot route.now }
-    ensures { result ≡ progress_of sheet.now placed (begin_of depot) route.now }
-{
-    let mut progress = Progress::new(depot);
-    for i in 0..route.len() {
-        progress = progress.visited(sheet, placed, route[i] as usize);
-    }
-    progress
-}
-
 // Three figures a stop; -2.0 past the last.
 fn visit_figures(
     sheet: &[u8],
@@ -118,7 +91,10 @@ fn visit_figures(
     }
     let placed = evaluator::place_rest(sheet, route, depot, limits);
     let end = last + 1;
-    visit_figure(progress(sheet, &route[..end], depot, placed), which % 3)
+    visit_figure(
+        evaluator::progress_after(sheet, &route[..end], depot, placed),
+        which % 3,
+    )
 }
 
 pub fn figure(sheet: &[u8], route: &[u16], depot: usize, limits: RouteLimits, which: usize) -> f64

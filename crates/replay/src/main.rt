@@ -6,23 +6,20 @@
 
 mod kinds;
 
+use replay_io::record::Ending;
 use replay_io::{line, record};
 use std::io;
 use std::io::{Read, Write};
 
-// Replays one record, and answers whether to go on.
-fn replay_record<R: Read, W: Write>(input: &mut R, out: &mut W) -> bool {
-    let mut kind = [0u8; 1];
-    if record::read_full(input, &mut kind) == 0 {
-        return false;
-    }
-    match kind[0] {
+// Replays one record. Its kind is a number in this one place.
+fn replay_record<R: Read, W: Write>(input: &mut R, out: &mut W) -> Result<(), Ending> {
+    match record::read_kind(input)? {
         0 => kinds::replay_refusal(input, out),
         1 => replay_plans::replay_plan(input, out),
         2 => replay_plans::replay_limit(input, out),
         3 => kinds::replay_import(input, out),
         4 => replay_plans::replay_bill(input, out),
-        other => line::stop_at_unknown(out, other),
+        other => Err(Ending::Unknown(other)),
     }
 }
 
@@ -32,7 +29,8 @@ fn main(rt: HostRuntime) {
     let mut input = rt.stdin();
     let mut out = io::writer(&rt);
     for _ in 0..u64::MAX {
-        if !replay_record(&mut input, &mut out) {
+        if let Err(stop) = replay_record(&mut input, &mut out) {
+            let _ = line::print_stop(&mut out, stop);
             break;
         }
     }

@@ -1,63 +1,59 @@
-// The lines that are printed. The functions answer whether they could be written.
-ghost use Rattle.std.specs.Prelude.{◌≡◌, false, IsTrue, take};
+// The lines that are printed.
+ghost use Rattle.std.specs.Prelude.{OnOk};
 ghost use Rattle.std.specs.Io.KnownBytes.{Appends};
-ghost use Rattle.replay_io.specs.Lines.{number_line, bytes_line, answer_line, counted_line};
+ghost use Rattle.replay_io.specs.Lines.{number_line, refused_line, bytes_line, answer_line, counted_line};
 
-use crate::record;
-use crate::record::ROOM;
+use crate::record::Ending;
+use std::io;
 use std::io::Write;
 
-// Ends a run whose record is cut short, or has more bytes than there is room for.
-pub fn stop_at_cut<W: Write>(out: &mut W) -> bool
-    ensures { result ≡ false }
-{
-    let _ = out.write_all(b"cut\n");
-    false
-}
-
-// Ends a run at a record of another kind.
-pub fn stop_at_unknown<W: Write>(out: &mut W, kind: u8) -> bool
-    ensures { result ≡ false }
-{
-    let _ = writeln!(out, "unknown kind {kind}");
-    false
-}
-
-pub fn print_number<W: Write>(out: &mut W, n: u32) -> bool
-    ensures { IsTrue result → Appends (W.contents out.old) (W.contents out.new) (number_line n) }
-{
-    writeln!(out, "{n}").is_ok()
-}
-
-// The first `len` bytes of `room` in hexadecimal.
-fn print_bytes<W: Write>(out: &mut W, len: u32, room: &[u8]) -> bool
-    ensures { IsTrue result → Appends (W.contents out.old) (W.contents out.new) (bytes_line (take len room.now)) }
-{
-    let n = record::room_for(len, room);
-    for byte in &room[..n] {
-        if write!(out, "{byte:02x}").is_err() {
-            return false;
-        }
+// What is printed where a run ends.
+pub fn print_stop<W: Write>(out: &mut W, stop: Ending) -> io::Result<()> {
+    match stop {
+        Ending::Done | Ending::Unwritten => Ok(()),
+        Ending::Cut => out.write_all(b"cut\n"),
+        Ending::Unknown(kind) => writeln!(out, "unknown kind {kind}"),
     }
-    out.write_all(b"\n").is_ok()
 }
 
-// `refused N`, or the plan of `len` bytes where the number is 0.
-pub fn print_answer<W: Write>(out: &mut W, number: u32, len: u32, plan: &[u8; ROOM]) -> bool
-    ensures { IsTrue result → Appends (W.contents out.old) (W.contents out.new) (answer_line number (take len plan.now)) }
+pub fn print_number<W: Write>(out: &mut W, n: u32) -> io::Result<()>
+    ensures { OnOk result (Appends (W.contents out.old) (W.contents out.new) (number_line n)) }
+{
+    writeln!(out, "{n}")
+}
+
+fn print_refused<W: Write>(out: &mut W, number: u32) -> io::Result<()>
+    ensures { OnOk result (Appends (W.contents out.old) (W.contents out.new) (refused_line number)) }
+{
+    writeln!(out, "refused {number}")
+}
+
+// In hexadecimal.
+fn print_bytes<W: Write>(out: &mut W, bytes: &[u8]) -> io::Result<()>
+    ensures { OnOk result (Appends (W.contents out.old) (W.contents out.new) (bytes_line bytes.now)) }
+{
+    for byte in bytes {
+        write!(out, "{byte:02x}")?;
+    }
+    out.write_all(b"\n")
+}
+
+// `refused N`, or the bytes where the number is 0.
+pub fn print_answer<W: Write>(out: &mut W, number: u32, bytes: &[u8]) -> io::Result<()>
+    ensures { OnOk result (Appends (W.contents out.old) (W.contents out.new) (answer_line number bytes.now)) }
 {
     if number != 0 {
-        return writeln!(out, "refused {number}").is_ok();
+        return print_refused(out, number);
     }
-    print_bytes(out, len, plan)
+    print_bytes(out, bytes)
 }
 
 // `refused N` where the answer is -N, else the first bytes of `room`, as many as it says.
-pub fn print_counted<W: Write>(out: &mut W, answer: i32, room: &[u8; ROOM]) -> bool
-    ensures { IsTrue result → Appends (W.contents out.old) (W.contents out.new) (counted_line answer room.now) }
+pub fn print_counted<W: Write>(out: &mut W, answer: i32, room: &[u8]) -> io::Result<()>
+    ensures { OnOk result (Appends (W.contents out.old) (W.contents out.new) (counted_line answer room.now)) }
 {
-    if answer >= 0 {
-        return print_answer(out, 0, answer as u32, room);
+    if answer < 0 {
+        return print_refused(out, answer.unsigned_abs());
     }
-    print_answer(out, answer.unsigned_abs(), 0, room)
+    print_bytes(out, &room[..room.len().min(answer as usize)])
 }

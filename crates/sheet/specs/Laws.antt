@@ -2,3 +2,5 @@ pub mod Depots
 pub mod Accepted
 pub mod Finite
 pub mod Stops
+pub mod Told
+pub mod Form

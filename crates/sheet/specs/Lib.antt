@@ -2,6 +2,8 @@ pub mod Fields
 pub mod Depots
 pub mod Ranges
 pub mod Refusal
+pub mod Told
+pub mod Method
 pub mod Accepted
 pub mod Values
 pub mod Finite

@@ -40,6 +40,14 @@ contents s =
     (unless (vehicles_in_range s) 7
     (unless (fleet_right s) 8 0)))
 
+-- the refusals 1 to 4, for which the header and the lengths are enough
+unfoldable pub form : List ℕ → ℕ → ℕ
+form s m =
+    unless (header_right s) 1
+    (unless (counts_right s) 2
+    (unless (method_right s) 3
+    (unless (lengths_right s m) 4 0)))
+
 -- the refusal of a sheet with a plan buffer of m bytes
 unfoldable pub refusal_of : List ℕ → ℕ → ℕ
 refusal_of s m =

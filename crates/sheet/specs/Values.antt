@@ -1,5 +1,5 @@
 -- docs/SCOPE.md#the-sheet. What a stop, a vehicle and a leg are, read from the sheet's bytes. For each enum, which of document 01's marks and values make which case.
-use Rattle.std.specs.Prelude.{ℕ, ◌+◌, ◌*◌, Bool, true, false, cond, List, Float}
+use Rattle.std.specs.Prelude.{ℕ, ◌+◌, ◌*◌, Bool, true, false, cond, List, Float, Option, Some, None}
 use Rattle.std.specs.Float.{binary64}
 use Rattle.std.specs.Float.Ieee.{of_bits, lt, div}
 use Rattle.wire.specs.Bytes.{u32_at, f64_at}
@@ -7,11 +7,7 @@ use Rattle.sheet.specs.declared.customer.Window.{Window}
 use Rattle.sheet.specs.declared.customer.Gate.{Gate}
 use Rattle.sheet.specs.declared.customer.Gate.TheVariants.{Open, Hard, Soft}
 use Rattle.sheet.specs.declared.customer.Stop.{Stop}
-use Rattle.sheet.specs.declared.vehicle.Limit.{Limit}
-use Rattle.sheet.specs.declared.vehicle.Limit.TheVariants.{Unlimited, Max}
 use Rattle.sheet.specs.declared.vehicle.VehicleBreak.{VehicleBreak}
-use Rattle.sheet.specs.declared.vehicle.Rest.{Rest}
-use Rattle.sheet.specs.declared.vehicle.Rest.TheVariants.{NoRest, Required}
 use Rattle.sheet.specs.declared.vehicle.Vehicle.{Vehicle}
 use Rattle.sheet.specs.Fields.{rows_of, times_of, row_at, x_field, y_field, row_marks, service_at, ready_at, due_at, penalty_at, vehicle_at, id_field, depot_field, vehicle_marks, cost_at, fixed_at, max_distance_at, max_duration_at, earliest_at, latest_at, rest_at, entry_at, marked}
 
@@ -43,19 +39,19 @@ stop_of s i = record {
 }
 
 -- a maximum is there where its mark is: 1 max distance, 2 max duration
-abbrev pub limit_of : Bool → Float → Limit
-limit_of false x = Unlimited
-limit_of true x = Max x
+abbrev pub limit_of : Bool → Float → Option Float
+limit_of false x = None
+limit_of true x = Some x
 
-unfoldable pub limit_at : ℕ → List ℕ → ℕ → ℕ → Limit
+unfoldable pub limit_at : ℕ → List ℕ → ℕ → ℕ → Option Float
 limit_at mark s at field = limit_of (marked mark (vehicle_marks s at)) (f64_at s field)
 
 -- a rest is required where its mark 4 is, with earliest, latest and rest duration
-abbrev pub rest_of : Bool → VehicleBreak → Rest
-rest_of false b = NoRest
-rest_of true b = Required b
+abbrev pub rest_of : Bool → VehicleBreak → Option VehicleBreak
+rest_of false b = None
+rest_of true b = Some b
 
-unfoldable pub rest_after : List ℕ → ℕ → Rest
+unfoldable pub rest_after : List ℕ → ℕ → Option VehicleBreak
 rest_after s at =
     rest_of (marked 4 (vehicle_marks s at))
     (record { earliest = f64_at s (earliest_at at); latest = f64_at s (latest_at at); duration = f64_at s (rest_at at) })

@@ -2,10 +2,12 @@
 #![tactic(auto)]
 
 ghost use Rattle.std.specs.Prelude.{◌≡◌, ◌<◌, ◌≤◌, length};
-ghost use Rattle.sheet.specs.Fields.{rows_of, vehicles_of, method_of, times_of, marked, header_size};
+ghost use Rattle.sheet.specs.Fields.{rows_of, vehicles_of, times_of, marked, header_size};
 
 pub mod customer;
 pub mod matrix;
+pub mod method;
+pub mod refusal;
 pub mod vehicle;
 
 // The sizes of the header, of a row and of a vehicle.
@@ -32,13 +34,6 @@ pub fn vehicles(sheet: &[u8]) -> usize
     ensures { result ≡ vehicles_of sheet.now }
 {
     wire::u16_at(sheet, 2) as usize
-}
-
-pub fn method(sheet: &[u8]) -> u8
-    requires { header_size ≤ length sheet.now }
-    ensures { result ≡ method_of sheet.now }
-{
-    sheet[4]
 }
 
 // How many tables follow the distances: 0 or 1 in an accepted sheet.

@@ -6,13 +6,6 @@ ghost use Rattle.sheet.specs.Fields.{vehicles_of, vehicle_at, vehicle_marks, veh
 ghost use Rattle.sheet.specs.Finite.{VehicleNumbers};
 ghost use Rattle.sheet.specs.Values.{limit_at, rest_after, vehicle_of, rests_home_at, fixed_in_distance};
 
-// A maximum that is there or not.
-#[derive(Clone, Copy)]
-pub enum Limit {
-    Unlimited,
-    Max(f64),
-}
-
 // A rest of `duration` that starts from `earliest` to `latest`.
 #[derive(Clone, Copy)]
 pub struct VehicleBreak {
@@ -22,43 +15,37 @@ pub struct VehicleBreak {
 }
 
 #[derive(Clone, Copy)]
-pub enum Rest {
-    NoRest,
-    Required(VehicleBreak),
-}
-
-#[derive(Clone, Copy)]
 pub struct Vehicle {
     pub id: u32,
     pub depot: u32,
     pub capacity: u32,
     pub cost_per_distance: f64,
     pub fixed_cost: f64,
-    pub max_distance: Limit,
-    pub max_duration: Limit,
-    pub rest: Rest,
+    pub max_distance: Option<f64>,
+    pub max_duration: Option<f64>,
+    pub rest: Option<VehicleBreak>,
 }
 
-fn limit_at(sheet: &[u8], at: usize, mark: u32, field: usize) -> Limit
+fn limit_at(sheet: &[u8], at: usize, mark: u32, field: usize) -> Option<f64>
     requires at_in_bounds { (at + 16 ≤ length sheet.now) × ((field + 8 ≤ length sheet.now) × (0 < mark)) }
     requires t { T (is_number sheet.now field) }
     ensures { result ≡ limit_at mark sheet.now at field }
 {
     if !crate::has_mark(mark, wire::u32_at(sheet, at + 12)) {
-        return Limit::Unlimited;
+        return None;
     }
-    Limit::Max(wire::f64_at(sheet, field))
+    Some(wire::f64_at(sheet, field))
 }
 
-fn rest_at(sheet: &[u8], at: usize) -> Rest
+fn rest_at(sheet: &[u8], at: usize) -> Option<VehicleBreak>
     requires vehicle_size_in_bounds { at + vehicle_size ≤ length sheet.now }
     requires vehicle_numbers { VehicleNumbers sheet.now at }
     ensures { result ≡ rest_after sheet.now at }
 {
     if !crate::has_mark(4, wire::u32_at(sheet, at + 12)) {
-        return Rest::NoRest;
+        return None;
     }
-    Rest::Required(VehicleBreak {
+    Some(VehicleBreak {
         earliest: wire::f64_at(sheet, at + 48),
         latest: wire::f64_at(sheet, at + 56),
         duration: wire::f64_at(sheet, at + 64),

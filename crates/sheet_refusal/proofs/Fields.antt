@@ -13,6 +13,9 @@ use Rattle.wire.specs.Laws.Bytes.{le_split}
 use Rattle.sheet.specs.Fields.{spare_of}
 use Rattle.numbers.specs.Range.{whole}
 use Rattle.numbers.specs.Laws.Range.{in_range_number}
+use Rattle.sheet.specs.declared.method.Method.{Method}
+use Rattle.sheet.specs.declared.method.Method.TheVariants.{Savings, Insertion, NearestNeighbor, NearestNeighborTw, Sweep}
+use Rattle.sheet.specs.Method.{code_of}
 use Rattle.sheet.specs.Ranges.{coordinate, demand, capacity, amount}
 
 pub capacity_test : (n : ℕ) → ltb n 0x8000_0000 ≡ capacity (signed n)
@@ -74,3 +77,11 @@ passed a b e f = subst T (sym (sym e ∙ f)) tt
 pub amount_number : (s : List ℕ) (at n : ℕ) → n ≡ u64_at s at → T (amount s at) → T (not (nan_bits binary64 n))
 unfolding amount
 amount_number s at n e t = rw e (in_range_number (u64_at s at) (whole (10 ^ 9)) t)
+
+-- a method's number is one of the five
+pub five : {n : ℕ} (method : Method) → code_of method ≡ n → leb n 4 ≡ true
+five Savings e = rw (← e)
+five Insertion e = rw (← e)
+five NearestNeighbor e = rw (← e)
+five NearestNeighborTw e = rw (← e)
+five Sweep e = rw (← e)

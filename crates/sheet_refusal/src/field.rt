@@ -32,16 +32,11 @@ pub fn marks(marks: u32) -> bool
 }
 
 // A vehicle's marks. A rest at home is a rest.
+#[tactic(auto, unfolding(sheet::specs::Ranges::vehicle_marking))]
 pub fn vehicle_marks(marks: u32) -> bool
     ensures { result ≡ vehicle_marking marks }
 {
-    if 15 < marks {
-        return false;
-    }
-    if !sheet::has_mark(8, marks) {
-        return true;
-    }
-    sheet::has_mark(4, marks)
+    marks <= 15 && (!sheet::has_mark(8, marks) || sheet::has_mark(4, marks))
 }
 
 // From 0 to 10^9.
@@ -65,6 +60,7 @@ pub fn optional(sheet: &[u8], at: usize, present: bool, max: f64) -> bool
 }
 
 // Two fields in order where their mark is, and all zero bits where not.
+#[tactic(auto, unfolding(sheet::specs::Ranges::interval, sheet::specs::Ranges::zero_bits))]
 pub fn interval(sheet: &[u8], at: usize, present: bool) -> bool
     requires { at + 16 ≤ length sheet.now }
     ensures { result ≡ Rattle.sheet.specs.Ranges.interval present sheet.now at }
@@ -72,10 +68,7 @@ pub fn interval(sheet: &[u8], at: usize, present: bool) -> bool
     if present {
         return ordered(sheet, at);
     }
-    if wire::u64_at(sheet, at) != 0 {
-        return false;
-    }
-    wire::u64_at(sheet, at + 8) == 0
+    wire::u64_at(sheet, at) == 0 && wire::u64_at(sheet, at + 8) == 0
 }
 
 fn ordered(sheet: &[u8], at: usize) -> bool
@@ -92,16 +85,11 @@ fn ordered(sheet: &[u8], at: usize) -> bool
 }
 
 // 0, or from 0.001 to 10^6.
+#[tactic(auto, unfolding(sheet::specs::Ranges::cost_per_distance, sheet::specs::Ranges::zero_bits, wire::specs::Bytes::f64_at))]
 pub fn cost_per_distance(sheet: &[u8], at: usize) -> bool
     requires { at + 8 ≤ length sheet.now }
     ensures { result ≡ cost_per_distance sheet.now at }
 {
     let bits = wire::u64_at(sheet, at);
-    if !numbers::in_range(bits, 1_000_000.0) {
-        return false;
-    }
-    if bits == 0 {
-        return true;
-    }
-    numbers::at_least(bits, 0.001)
+    numbers::in_range(bits, 1_000_000.0) && (bits == 0 || numbers::at_least(bits, 0.001))
 }

@@ -5,42 +5,38 @@ mod field;
 mod record;
 mod table;
 
-ghost use Rattle.std.specs.Prelude.{◌≡◌, ◌+◌, ◌*◌, ◌≤◌, length};
+ghost use Rattle.std.specs.Prelude.{◌≡◌, eqb, ℕ, ◌+◌, ◌*◌, ◌≤◌, length, OnOk};
 ghost use Rattle.sheet.specs.Accepted.{Sized};
-ghost use Rattle.sheet.specs.Fields.{rows_of, vehicles_of, times_of, header_size, most_rows, most_vehicles};
-ghost use Rattle.sheet.specs.Refusal.{header_right, counts_right, method_right, lengths_right, needs_vehicle, fleet_right, refusal_of};
+ghost use Rattle.sheet.specs.Fields.{rows_of, vehicles_of, times_of, spare_of, header_size, most_rows, most_vehicles};
+ghost use Rattle.sheet.specs.Refusal.{header_right, counts_right, lengths_right, needs_vehicle, fleet_right, form, refusal_of};
+ghost use Rattle.sheet.specs.Told.{told};
+ghost use Rattle.sheet.specs.Method.{Decodes};
 
+use sheet::method;
+use sheet::method::Method;
+use sheet::refusal::Refusal;
+
+// Whether the ten spare bytes are zero.
+fn spare_is_zero(sheet: &[u8]) -> bool
+    requires { header_size ≤ length sheet.now }
+    ensures { result ≡ eqb (spare_of sheet.now) 0 }
+{
+    wire::u16_at(sheet, 6) == 0 && wire::u64_at(sheet, 8) == 0
+}
+
+#[tactic(auto, unfolding(sheet::specs::Refusal::header_right))]
 pub fn header_right(sheet: &[u8]) -> bool
     ensures { result ≡ header_right sheet.now }
 {
-    if sheet.len() < sheet::HEADER_SIZE {
-        return false;
-    }
-    if 1 < sheet::times(sheet) {
-        return false;
-    }
-    if wire::u16_at(sheet, 6) != 0 {
-        return false;
-    }
-    wire::u64_at(sheet, 8) == 0
+    sheet::HEADER_SIZE <= sheet.len() && sheet::times(sheet) <= 1 && spare_is_zero(sheet)
 }
 
+#[tactic(auto, unfolding(sheet::specs::Refusal::counts_right))]
 fn counts_right(sheet: &[u8]) -> bool
     requires { header_size ≤ length sheet.now }
     ensures { result ≡ counts_right sheet.now }
 {
-    if sheet::MOST_ROWS < sheet::rows(sheet) {
-        return false;
-    }
-    sheet::vehicles(sheet) <= sheet::MOST_VEHICLES
-}
-
-// Whether the method is one of the five.
-fn method_right(sheet: &[u8]) -> bool
-    requires { header_size ≤ length sheet.now }
-    ensures { result ≡ method_right sheet.now }
-{
-    sheet::method(sheet) <= 4
+    sheet::rows(sheet) <= sheet::MOST_ROWS && sheet::vehicles(sheet) <= sheet::MOST_VEHICLES
 }
 
 // How many distances and times a sheet of these counts has.
@@ -51,6 +47,7 @@ fn entries(rows: usize, times: usize) -> usize
     (1 + times) * (rows * rows)
 }
 
+#[tactic(auto, unfolding(sheet::specs::Refusal::lengths_right))]
 fn lengths_right(sheet: &[u8], plan_len: usize) -> bool
     requires header_size_in_bounds { header_size ≤ length sheet.now }
     requires sheet_bound { (rows_of sheet.now ≤ most_rows) × ((vehicles_of sheet.now ≤ most_vehicles) × (times_of sheet.now ≤ 1)) }
@@ -58,74 +55,76 @@ fn lengths_right(sheet: &[u8], plan_len: usize) -> bool
 {
     let rows = sheet::rows(sheet);
     let entries = entries(rows, sheet::times(sheet) as usize);
-    if sheet.len()
-        != sheet::HEADER_SIZE
-            + sheet::ROW_SIZE * rows
-            + sheet::VEHICLE_SIZE * sheet::vehicles(sheet)
-            + 8 * entries
-    {
-        return false;
-    }
-    plan_len == 16 + 80 * rows
+    let sheet_len = sheet::HEADER_SIZE
+        + sheet::ROW_SIZE * rows
+        + sheet::VEHICLE_SIZE * sheet::vehicles(sheet)
+        + 8 * entries;
+    sheet.len() == sheet_len && plan_len == 16 + 80 * rows
 }
 
-fn needs_vehicle(method: u8) -> bool
-    ensures { result ≡ needs_vehicle method }
+// A method that the sheet does not have needs none.
+#[tactic(auto, unfolding(sheet::specs::Refusal::needs_vehicle))]
+fn needs_vehicle(method: Result<Method, Refusal>) -> bool
+    ensures { (byte : ℕ) → Decodes byte method → result ≡ needs_vehicle byte }
 {
-    if method == 0 {
-        return true;
-    }
-    if method == 1 {
-        return true;
-    }
-    method == 4
+    matches!(
+        method,
+        Ok(Method::Savings | Method::Insertion | Method::Sweep)
+    )
 }
 
+#[tactic(auto, unfolding(sheet::specs::Refusal::fleet_right))]
 fn fleet_right(sheet: &[u8]) -> bool
     requires { header_size ≤ length sheet.now }
     ensures { result ≡ fleet_right sheet.now }
 {
-    if sheet::vehicles(sheet) != 0 {
-        return true;
-    }
-    !needs_vehicle(sheet::method(sheet))
+    sheet::vehicles(sheet) != 0 || !needs_vehicle(method::method_of(sheet))
 }
 
 // The refusals 5 to 8 of a sheet whose fields all lie within its bytes.
-pub fn contents(sheet: &[u8]) -> u32
+#[tactic(auto, unfolding(sheet::specs::Refusal::contents))]
+pub fn contents(sheet: &[u8]) -> Result<(), Refusal>
     requires { Sized sheet.now }
-    ensures { result ≡ Rattle.sheet.specs.Refusal.contents sheet.now }
+    ensures { told result ≡ Rattle.sheet.specs.Refusal.contents sheet.now }
 {
     if !table::rows_in_range(sheet) {
-        return 5;
+        return Err(Refusal::Rows);
     }
     if !table::entries_in_range(sheet) {
-        return 6;
+        return Err(Refusal::Entries);
     }
     if !table::vehicles_in_range(sheet) {
-        return 7;
+        return Err(Refusal::Vehicles);
     }
     if !fleet_right(sheet) {
-        return 8;
+        return Err(Refusal::Fleet);
     }
-    0
+    Ok(())
 }
 
-// The refusal of a sheet with a plan buffer of `plan_len` bytes, and 0 if it is accepted.
-pub fn refusal(sheet: &[u8], plan_len: usize) -> u32
-    ensures { result ≡ refusal_of sheet.now plan_len }
+// The refusals 1 to 4, for which the header and the lengths are enough.
+#[tactic(auto, unfolding(sheet::specs::Refusal::form))]
+pub fn form(sheet: &[u8], plan_len: usize) -> Result<(), Refusal>
+    ensures form { told result ≡ form sheet.now plan_len }
+    ensures sized { OnOk result (Sized sheet.now) }
 {
     if !header_right(sheet) {
-        return 1;
+        return Err(Refusal::Header);
     }
     if !counts_right(sheet) {
-        return 2;
+        return Err(Refusal::Counts);
     }
-    if !method_right(sheet) {
-        return 3;
-    }
+    method::method_of(sheet)?;
     if !lengths_right(sheet, plan_len) {
-        return 4;
+        return Err(Refusal::Lengths);
     }
+    Ok(())
+}
+
+// Whether a sheet with a plan buffer of `plan_len` bytes is accepted.
+pub fn refusal(sheet: &[u8], plan_len: usize) -> Result<(), Refusal>
+    ensures { told result ≡ refusal_of sheet.now plan_len }
+{
+    form(sheet, plan_len)?;
     contents(sheet)
 }

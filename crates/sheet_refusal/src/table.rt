@@ -63,14 +63,11 @@ fn vehicle_right(sheet: &[u8], v: usize, depots: usize) -> bool
     requires v_bound { (v < vehicles_of sheet.now) × (depots ≡ depots_of sheet.now) }
     ensures { result ≡ (vehicle_in_range sheet.now (vehicle_at sheet.now v) && new_id sheet.now v) }
 {
-    if !record::vehicle_in_range(
+    record::vehicle_in_range(
         sheet,
         sheet::HEADER_SIZE + sheet::ROW_SIZE * sheet::rows(sheet) + sheet::VEHICLE_SIZE * v,
         depots,
-    ) {
-        return false;
-    }
-    new_id(sheet, v)
+    ) && new_id(sheet, v)
 }
 
 pub fn vehicles_in_range(sheet: &[u8]) -> bool

@@ -1,3 +1,2 @@
 pub mod Header
 pub mod Run
-pub mod Signed

@@ -1,35 +1,42 @@
 -- A run of writes, each from where the one before ends, is one write. Assumes nothing.
-use mathlib.Core.Path.{◌≡◌, sym, ap, ◌∙◌}
-use Prim.Native.Nat.{ℕ, ◌+◌, ◌≤◌}
+use mathlib.Core.Path.{◌≡◌, refl, sym, ap, ◌∙◌}
+use Prim.Native.Nat.{ℕ, ◌+◌, ◌*◌, ◌≤◌, ◌<◌}
 use native.Mathlib.Omega.{arith}
 use mathlib.Core.List.{List, ◌++◌}
-use lib.ListN.{length, length-append}
-use lib.IntN.{ℤ}
-use lib.Ieee.{Float}
+use native.Mathlib.Nat.{add-zero}
+use native.Mathlib.Numerals.{add-one}
+use lib.ListN.{length, length-append, take, get_or, take-append-drop}
+use lib.Seq.{length-take-le, take-suc, take_all}
+use lib.IntN.{ℤ, pos, negsuc}
+use lib.Ieee.{Float, nan, binary64, to_bits}
 use mir.Syntax.{w32}
 use mir.Val.{SFits, to_z, of_z}
 use mir.ValLaws.{to_z-of_z}
 use Rattle.wire.specs.Bytes.{bytes, write}
 use Rattle.wire.specs.Laws.Bytes.{length_bytes, write_write}
-use Rattle.sheet_writer.specs.Sheet.{unsigned, float_bytes}
+use Rattle.sheet_writer.specs.Sheet.{unsigned, float_bytes, records_bytes}
+use Rattle.sheet_writer.specs.Laws.Records.{length_records, records_more}
 
 -- t is s with the n bytes xs from `at` on
 pub record Wrote (n : ℕ) (s t : List ℕ) (at : ℕ) (xs : List ℕ) : Type 0 where
   pub long : length xs ≡ n
   pub same : t ≡ write s at xs
 
--- a number, a signed one as the code passes it on, and several f64
+-- a number, and several f64
 pub wrote : (n v : ℕ) {s t : List ℕ} {at : ℕ} → t ≡ write s at (bytes n v) → Wrote n s t at (bytes n v)
 wrote n v e = record { long = length_bytes n v; same = e }
 
+-- a signed one, as the code passes it on
 pub wrote_signed : (z : ℤ) → SFits w32 z → {s t : List ℕ} {at : ℕ} → t ≡ write s at (bytes 4 (unsigned (to_z w32 (of_z w32 z)))) → Wrote 4 s t at (bytes 4 (unsigned z))
 wrote_signed z f e = wrote 4 (unsigned z) (rw (to_z-of_z w32 z f) at e)
 
-pub wrote_three : (a b c : Float) {s t : List ℕ} {at : ℕ} → t ≡ write s at (float_bytes a ++ (float_bytes b ++ float_bytes c)) → Wrote 24 s t at (float_bytes a ++ (float_bytes b ++ float_bytes c))
-wrote_three a b c e = record { long = simp (length-append, length_bytes); same = e }
+-- two's complement
+pub cast_unsigned_is : (z : ℤ) → of_z w32 z ≡ unsigned z
+cast_unsigned_is (pos n) = refl
+cast_unsigned_is (negsuc n) = omega arith
 
-pub wrote_four : (a b c d : Float) {s t : List ℕ} {at : ℕ} → t ≡ write s at (float_bytes a ++ (float_bytes b ++ (float_bytes c ++ float_bytes d))) → Wrote 32 s t at (float_bytes a ++ (float_bytes b ++ (float_bytes c ++ float_bytes d)))
-wrote_four a b c d e = record { long = simp (length-append, length_bytes); same = e }
+pub wrote_floats : (xs : List Float) {s t : List ℕ} {at : ℕ} → t ≡ write s at (records_bytes float_bytes xs) → Wrote (8 * length xs) s t at (records_bytes float_bytes xs)
+wrote_floats xs e = record { long = length_records float_bytes 8 (λ x. length_bytes 8 (to_bits binary64 x)) xs; same = e }
 
 -- the second follows the first, which it is part of
 pub then : {n m at place : ℕ} {s t u xs ys : List ℕ} → Wrote n s t at xs → Wrote m t u place ys → place ≡ at + n → at + (n + m) ≤ length s → Wrote (n + m) s u at (xs ++ ys)
@@ -40,3 +47,21 @@ then {n} {m} {at} {place} {s} {t} {u} {xs} {ys} a b e room =
       long = length-append xs ys ∙ omega arith;
       same = b.same ∙ ap (λ (l : List ℕ). write l place ys) a.same ∙ ap (λ (k : ℕ). write (write s at xs) k ys) (e ∙ ap (◌+◌ at) (sym i)) ∙ write_write s at xs (omega arith) ys (omega arith);
     }
+
+-- ---- the loop over several f64: the first i of them stand there
+module _ (xs : List Float) (s : List ℕ) (at : ℕ) where
+  abbrev pub Floats : ℕ → List ℕ → Type 0
+  Floats i t = t ≡ write s at (records_bytes float_bytes (take i xs))
+
+  pub floats_begin : Floats 0 s
+  unfolding records_bytes write
+  floats_begin = rw add-zero (sym (take-append-drop at s))
+
+  pub floats_go_on : (i : ℕ) {t u : List ℕ} → Floats i t → u ≡ write t (at + 8 * i) (float_bytes (get_or xs i nan)) → i < length xs → at + 8 * length xs ≤ length s → Floats (i + 1) u
+  floats_go_on i e f h room =
+      let n : length (take i xs) ≡ i = length-take-le i xs (omega arith) in
+      let w = then (wrote_floats (take i xs) e) (wrote 8 (to_bits binary64 (get_or xs i nan)) f) (omega arith) (omega arith) in
+      w.same ∙ ap (write s at) (sym (rw (add-one, take-suc xs i nan h) (records_more float_bytes (take i xs) (get_or xs i nan))))
+
+  pub floats_end : (i : ℕ) {t : List ℕ} → Floats i t → length xs ≤ i → t ≡ write s at (records_bytes float_bytes xs)
+  floats_end i e h = e ∙ ap (λ (ys : List Float). write s at (records_bytes float_bytes ys)) (take_all i xs h)

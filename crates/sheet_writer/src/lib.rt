@@ -1,11 +1,11 @@
 // The sheet's bytes, written from the values of its fields.
 #![tactic(auto)]
 
-ghost use Rattle.std.specs.Prelude.{◌≡◌, ◌+◌, ◌≤◌, ◌<◌, not, ◌++◌, T, length};
+ghost use Rattle.std.specs.Prelude.{◌≡◌, ◌+◌, ◌*◌, ◌≤◌, ◌<◌, not, T, All, length};
 ghost use Rattle.std.specs.Float.Ieee.{is_nan};
 ghost use Rattle.wire.specs.Bytes.{bytes, write};
 ghost use Rattle.sheet.specs.Fields.{header_size, row_size, vehicle_size};
-ghost use Rattle.sheet_writer.specs.Sheet.{unsigned, float_bytes, header_record, row_record, vehicle_record};
+ghost use Rattle.sheet_writer.specs.Sheet.{unsigned, float_bytes, records_bytes, header_record, row_record, vehicle_record};
 ghost use Rattle.sheet_writer.specs.Numbered.{RowNumbered, VehicleNumbered};
 
 // A row as its record holds it.
@@ -51,44 +51,24 @@ pub fn put_header(sheet: &mut [u8], rows: usize, vehicles: usize, method: u8, ti
     wire::put_u64(sheet, 8, 0);
 }
 
-// Two's complement, without a cast that loses the sign.
-fn pattern(v: i32) -> u32
-    ensures { result ≡ unsigned v }
-{
-    if v >= 0 {
-        v as u32
-    } else {
-        0xffff_ffff - ((-1 - v) as u32)
-    }
-}
-
+// In two's complement.
+#[tactic(auto, using(crate::proofs::Run::cast_unsigned_is))]
 fn put_i32(sheet: &mut [u8], at: usize, v: i32)
     requires { at + 4 ≤ length sheet.old }
     ensures { sheet.new ≡ write sheet.old at (bytes 4 (unsigned v)) }
 {
-    wire::put_u32(sheet, at, pattern(v));
+    wire::put_u32(sheet, at, v.cast_unsigned());
 }
 
-// Four f64 one after another: a row's, and a vehicle's costs and maxima.
-fn put_four(sheet: &mut [u8], at: usize, first: f64, second: f64, third: f64, fourth: f64)
-    requires at_in_bounds { at + 32 ≤ length sheet.old }
-    requires t { T (not (is_nan first)) × T (not (is_nan second)) × T (not (is_nan third)) × T (not (is_nan fourth)) }
-    ensures { sheet.new ≡ write sheet.old at (float_bytes first ++ (float_bytes second ++ (float_bytes third ++ float_bytes fourth))) }
+// One after another.
+fn put_floats(sheet: &mut [u8], at: usize, values: &[f64])
+    requires at_in_bounds { at + 8 * length values.now ≤ length sheet.old }
+    requires numbers { All (λ x. T (not (is_nan x))) values.now }
+    ensures { sheet.new ≡ write sheet.old at (records_bytes float_bytes values.now) }
 {
-    wire::put_f64(sheet, at, first);
-    wire::put_f64(sheet, at + 8, second);
-    wire::put_f64(sheet, at + 16, third);
-    wire::put_f64(sheet, at + 24, fourth);
-}
-
-fn put_rest(sheet: &mut [u8], at: usize, earliest: f64, latest: f64, duration: f64)
-    requires at_in_bounds { at + 24 ≤ length sheet.old }
-    requires t { T (not (is_nan earliest)) × T (not (is_nan latest)) × T (not (is_nan duration)) }
-    ensures { sheet.new ≡ write sheet.old at (float_bytes earliest ++ (float_bytes latest ++ float_bytes duration)) }
-{
-    wire::put_f64(sheet, at, earliest);
-    wire::put_f64(sheet, at + 8, latest);
-    wire::put_f64(sheet, at + 16, duration);
+    for (i, &v) in values.iter().enumerate() {
+        wire::put_f64(sheet, at + 8 * i, v);
+    }
 }
 
 pub fn put_row(sheet: &mut [u8], at: usize, row: RowFields)
@@ -100,7 +80,11 @@ pub fn put_row(sheet: &mut [u8], at: usize, row: RowFields)
     put_i32(sheet, at + 4, row.y);
     put_i32(sheet, at + 8, row.demand);
     wire::put_u32(sheet, at + 12, row.marks);
-    put_four(sheet, at + 16, row.service, row.ready, row.due, row.penalty);
+    put_floats(
+        sheet,
+        at + 16,
+        &[row.service, row.ready, row.due, row.penalty],
+    );
 }
 
 pub fn put_vehicle(sheet: &mut [u8], at: usize, vehicle: VehicleFields)
@@ -112,19 +96,17 @@ pub fn put_vehicle(sheet: &mut [u8], at: usize, vehicle: VehicleFields)
     wire::put_u32(sheet, at + 4, vehicle.depot);
     put_i32(sheet, at + 8, vehicle.capacity);
     wire::put_u32(sheet, at + 12, vehicle.marks);
-    put_four(
+    put_floats(
         sheet,
         at + 16,
-        vehicle.cost_per_distance,
-        vehicle.fixed_cost,
-        vehicle.max_distance,
-        vehicle.max_duration,
-    );
-    put_rest(
-        sheet,
-        at + 48,
-        vehicle.earliest,
-        vehicle.latest,
-        vehicle.rest_duration,
+        &[
+            vehicle.cost_per_distance,
+            vehicle.fixed_cost,
+            vehicle.max_distance,
+            vehicle.max_duration,
+            vehicle.earliest,
+            vehicle.latest,
+            vehicle.rest_duration,
+        ],
     );
 }

@@ -1,21 +1,10 @@
 // The distances of rows that stand in a sheet, from their coordinates.
 #![tactic(auto)]
 
-ghost use Rattle.std.specs.Prelude.{◌≡◌, ◌+◌, ◌*◌, ◌<◌, ◌≤◌, nat_abs, ◌-ℤ◌};
+ghost use Rattle.std.specs.Prelude.{◌≡◌, ◌+◌, ◌*◌, ◌<◌};
 ghost use Rattle.square_root.specs.ClosestRoot.{ClosestRoot};
 ghost use Rattle.solomon_distances.specs.Distances.{squared_between, DistancesRoom, DistancesWritten};
 ghost use Rattle.solomon_distances.specs.Filled.{PointAt, FilledTo};
-
-// |a - b|
-fn difference(a: i32, b: i32) -> u64
-    requires { (nat_abs a ≤ 1000000) × (nat_abs b ≤ 1000000) }
-    ensures { (result ≡ nat_abs (a -ℤ b)) × (result ≤ 2000000) }
-{
-    if a < b {
-        return (b - a) as u64;
-    }
-    (a - b) as u64
-}
 
 // The squared distance of two rows.
 fn squared(sheet: &[u8], i: usize, j: usize) -> u64
@@ -24,8 +13,8 @@ fn squared(sheet: &[u8], i: usize, j: usize) -> u64
 {
     let from = sheet::HEADER_SIZE + sheet::ROW_SIZE * i;
     let to = sheet::HEADER_SIZE + sheet::ROW_SIZE * j;
-    let dx = difference(wire::i32_at(sheet, from), wire::i32_at(sheet, to));
-    let dy = difference(wire::i32_at(sheet, from + 4), wire::i32_at(sheet, to + 4));
+    let dx = u64::from(wire::i32_at(sheet, from).abs_diff(wire::i32_at(sheet, to)));
+    let dy = u64::from(wire::i32_at(sheet, from + 4).abs_diff(wire::i32_at(sheet, to + 4)));
     dx * dx + dy * dy
 }
 
@@ -41,7 +30,7 @@ fn entry(sheet: &[u8], rows: usize, at: usize, i: usize, j: usize) -> f64
     square_root::square_root(squared(sheet, i, j))
 }
 
-// Writes the table of distances of the first `rows` rows, row by row, from `at` on.
+// Writes the table of distances of the first `rows` rows, row by row, from `at` on. An entry's row, column and place all come of its index.
 pub fn write_distances(sheet: &mut [u8], rows: usize, at: usize)
     requires { DistancesRoom sheet.old rows at }
     ensures { DistancesWritten sheet.old rows at sheet.new }

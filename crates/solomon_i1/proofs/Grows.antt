@@ -1,4 +1,5 @@
 -- A round that grows in the table of stops: its stops stand first, those that are left after them. Assumes nothing.
+use Rattle.std.specs.Prelude.{Some, None}
 use mathlib.Core.Path.{◌≡◌, refl, sym, ap, ◌∙◌, subst}
 use Prim.Native.Nat.{ℕ, zero, suc, ◌+◌, ◌-◌, ◌≤◌, ◌<◌}
 use native.Mathlib.Omega.{arith}
@@ -16,8 +17,7 @@ use Rattle.sheet.specs.Fields.{rows_of}
 use Rattle.evaluation.specs.Routed.{Routed}
 use Rattle.constructive.specs.Unchecked.{Windowless}
 use Rattle.constructive.specs.declared.terms.Terms.{Terms}
-use Rattle.insertion.specs.declared.choice.Choice.{Choice}
-use Rattle.insertion.specs.declared.choice.Choice.TheVariants.{Nowhere, Best}
+use Rattle.insertion.specs.Choice.{Choice}
 use Rattle.insertion.specs.Trial.{Unwalked, Joinable}
 use Rattle.insertion.proofs.Sliding.{brought}
 use Rattle.solomon_i1_judging.specs.Choice.{best_of}
@@ -147,17 +147,17 @@ module _ (s : List ℕ) (t : Terms) (left₀ trial₀ left trial : List ℕ) (en
     chosen = sym (rw (front, back) at e)
 
     -- none can join: the round is grown
-    full : (n : ℕ) → c ≡ Nowhere → (route_in (grow_on s t n (growing g.route g.rest)) ≡ g.route) × (left_in (grow_on s t n (growing g.route g.rest)) ≡ g.rest)
+    full : (n : ℕ) → c ≡ None → (route_in (grow_on s t n (growing g.route g.rest)) ≡ g.route) × (left_in (grow_on s t n (growing g.route g.rest)) ≡ g.rest)
     unfolding grow_on grow
     full zero f = (refl, refl)
     full (suc n) f = rw (chosen, f, stays s t n g.route g.rest) (refl, refl)
 
-    pub grown_full : c ≡ Nowhere → (route_in round ≡ g.route) × (left_in round ≡ g.rest)
+    pub grown_full : c ≡ None → (route_in round ≡ g.route) × (left_in round ≡ g.rest)
     grown_full f = rw g.same (full (length g.rest) f)
 
     -- a stop joins
-    module _ (j k : ℕ) (cost : Float) (f : c ≡ Best j k cost) where
-      told : Chosen s t g.route g.rest (Best j k cost)
+    module _ (j k : ℕ) (cost : Float) (f : c ≡ Some (j, k, cost)) where
+      told : Chosen s t g.route g.rest (Some (j, k, cost))
       told = subst (Chosen s t g.route g.rest) (chosen ∙ f) (best_chosen s t g.route g.rest)
 
       inside : j < length g.rest

@@ -1,13 +1,12 @@
 -- docs/SCOPE.md#the-methods. Document 01, "solomon_i1.rs": "the seed is the farthest unrouted stop, the first of equals; the first least insertion wins. Stops set aside stand in the order met."
-use Rattle.std.specs.Prelude.{ℕ, zero, suc, ◌+◌, Bool, true, false, ◌&&◌, cond, List, [], ◌∷◌, leb, length, get_or, Float}
+use Rattle.std.specs.Prelude.{ℕ, zero, suc, ◌+◌, Bool, true, false, ◌&&◌, cond, List, [], ◌∷◌, leb, length, get_or, Float, Some, None}
 use Rattle.std.specs.Float.Ieee.{lt}
 use Rattle.lists.specs.Moved.{without, inserted}
 use Rattle.sheet.specs.Values.{nought, demand_of, distance_of}
 use Rattle.constructive.specs.Outcome.{Outcome, empty_outcome}
 use Rattle.constructive.specs.declared.terms.Terms.{Terms}
 use Rattle.constructive.specs.Terms.{terms_of}
-use Rattle.insertion.specs.declared.choice.Choice.{Choice}
-use Rattle.insertion.specs.declared.choice.Choice.TheVariants.{Nowhere, Best}
+use Rattle.insertion.specs.Choice.{Choice}
 use Rattle.insertion.specs.Place.{feasible_in}
 use Rattle.solomon_i1_judging.specs.Choice.{best_of}
 
@@ -45,8 +44,8 @@ pub data Growth : Type 0 where
 
 -- with the stop that was chosen, at its place
 abbrev pub grown_by : List ℕ → List ℕ → Choice → Growth
-grown_by route left Nowhere = grown route left
-grown_by route left (Best j k cost) = growing (inserted k (get_or left j 0) route) (without j left)
+grown_by route left None = grown route left
+grown_by route left (Some (j, k, cost)) = growing (inserted k (get_or left j 0) route) (without j left)
 
 unfoldable pub grow : List ℕ → Terms → Growth → Growth
 grow s t (growing route left) = grown_by route left (best_of s t route left)

@@ -41,7 +41,7 @@ fn grow_round(sheet: &[u8], terms: Terms, left: &mut [u16], trial: &mut [u16]) -
 {
     let mut end = 1;
     while end < left.len() {
-        let Choice::Best(j, k, _) = best_joining(sheet, terms, left, end, trial) else {
+        let Some((j, k, _)) = best_joining(sheet, terms, left, end, trial) else {
             return end;
         };
         tables::bring(left, k, end + j);

@@ -1,4 +1,5 @@
 -- The loops over the places of a round and over the stops unrouted. Assumes nothing.
+use Rattle.std.specs.Prelude.{None}
 use mathlib.Core.Path.{◌≡◌, sym, ap, ◌∙◌}
 use Prim.Native.Nat.{ℕ, suc, ◌+◌, ◌≤◌, ◌<◌}
 use native.Mathlib.Numerals.{add-one}
@@ -15,8 +16,7 @@ use Rattle.constructive.specs.Load.{load_of}
 use Rattle.constructive.specs.Unchecked.{Windowless}
 use Rattle.constructive.specs.declared.terms.Terms.{Terms}
 use Rattle.constructive.proofs.Loading.{load_few}
-use Rattle.insertion.specs.declared.choice.Choice.{Choice}
-use Rattle.insertion.specs.declared.choice.Choice.TheVariants.{Nowhere}
+use Rattle.insertion.specs.Choice.{Choice}
 use Rattle.insertion.specs.declared.place.Tried.{Tried}
 use Rattle.insertion.specs.Place.{try_places}
 use Rattle.insertion.specs.Trial.{Trial, Joinable}
@@ -47,7 +47,7 @@ pub record Stopping (s : List ℕ) (t : Terms) (route left : List ℕ) (tried : 
   pub last : end ≡ length left
   pub within : j ≤ end
   pub holds : Trial route (get_or trial tried.at 0) tried.at trial
-  pub same : try_stops s t route Nowhere 0 left ≡ try_stops s t route tried.choice j (drop j left)
+  pub same : try_stops s t route None 0 left ≡ try_stops s t route tried.choice j (drop j left)
 
 module _ (s : List ℕ) (t : Terms) (route left : List ℕ) (tried : Tried) (trial : List ℕ) (j end : ℕ) (g : Stopping s t route left tried trial j end) where
   pub stops : (tried' : Tried) (trial' : List ℕ) → j < end → tried'.choice ≡ try_stop s t route tried.choice j (get_or left j 0) → Trial route (get_or trial' tried'.at 0) tried'.at trial'
@@ -66,7 +66,7 @@ module _ (s : List ℕ) (t : Terms) (route left : List ℕ) (tried : Tried) (tri
             ∙ ap (λ (c : Choice). try_stops s t route c (j + 1) (drop (j + 1) left)) (sym e);
       }
 
-  pub stopped : end ≤ j → tried.choice ≡ try_stops s t route Nowhere 0 left
+  pub stopped : end ≤ j → tried.choice ≡ try_stops s t route None 0 left
   unfolding try_stops
   stopped h = let e : j ≡ length left = omega (arith, g.last, g.within) in sym (g.same ∙ rw (e, drop-length left))
 

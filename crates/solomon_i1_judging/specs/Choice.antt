@@ -1,8 +1,7 @@
 -- docs/SCOPE.md#the-methods. Document 01, "solomon_i1.rs": "the first least insertion wins".
-use Rattle.std.specs.Prelude.{ℕ, suc, ◌+◌, cond, List, [], ◌∷◌, length}
+use Rattle.std.specs.Prelude.{ℕ, suc, ◌+◌, cond, List, [], ◌∷◌, length, None}
 use Rattle.constructive.specs.declared.terms.Terms.{Terms}
-use Rattle.insertion.specs.declared.choice.Choice.{Choice}
-use Rattle.insertion.specs.declared.choice.Choice.TheVariants.{Nowhere}
+use Rattle.insertion.specs.Choice.{Choice}
 use Rattle.insertion.specs.Place.{try_places, carries}
 
 -- ---- one choice
@@ -16,4 +15,4 @@ try_stops s t route c j [] = c
 try_stops s t route c j (row ∷ rows) = try_stops s t route (try_stop s t route c j row) (j + 1) rows
 
 abbrev pub best_of : List ℕ → Terms → List ℕ → List ℕ → Choice
-best_of s t route left = try_stops s t route Nowhere 0 left
+best_of s t route left = try_stops s t route None 0 left

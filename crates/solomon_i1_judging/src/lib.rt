@@ -1,11 +1,10 @@
 // The best insertion of the stops unrouted: each stop that the round can load, at each place.
 #![tactic(auto)]
 
-ghost use Rattle.std.specs.Prelude.{◌≡◌, false, [], ◌∷◌, ℕ, suc, ◌+◌, ◌≤◌, ◌<◌, length, get_or};
+ghost use Rattle.std.specs.Prelude.{◌≡◌, false, [], ◌∷◌, ℕ, suc, ◌+◌, ◌≤◌, ◌<◌, length, get_or, None};
 ghost use Rattle.sheet.specs.Fields.{rows_of};
 ghost use Rattle.evaluation.specs.Routed.{Routed};
 ghost use Rattle.constructive.specs.Load.{load_of};
-ghost use Rattle.insertion.specs.declared.choice.Choice.TheVariants.{Nowhere};
 ghost use Rattle.insertion.specs.Place.{row_before, row_after, detour, judge, better_place, try_places};
 ghost use Rattle.insertion.specs.Trial.{Trial, Joinable, soft_cost, alone_cost, prices_of, judge_trial};
 ghost use Rattle.solomon_i1_judging.specs.Choice.{try_stop, try_stops, best_of};
@@ -13,7 +12,6 @@ ghost use Rattle.solomon_i1_judging.specs.Figures.{figures_of};
 
 use constructive::load;
 use constructive::terms::Terms;
-use evaluation::RouteEval;
 use insertion::choice::Choice;
 use insertion::place::{Prices, Tried};
 use insertion::{choice, place, trial};
@@ -59,7 +57,7 @@ fn weigh(
 {
     let limits = terms.limits;
     let eval = evaluation::route_eval(sheet, trial, terms.depot, limits);
-    let RouteEval::Allowed(figures) = eval else {
+    let Some(figures) = eval else {
         return best;
     };
     let cost = evaluation::priced_distance(figures) - prices.round;
@@ -91,7 +89,7 @@ fn try_hard(
     if !choice::wins(cost, best) {
         return tried;
     }
-    let won = Choice::Best(j, k, cost);
+    let won = Some((j, k, cost));
     if !terms.constrained {
         return Tried {
             choice: won,
@@ -214,9 +212,9 @@ fn try_stops(
     requires joinable { Joinable sheet.now terms route.now left.now }
     requires trial { Trial route.now (get_or trial.old (length route.now) 0) (length route.now) trial.old }
     requires figures_value { figures ≡ figures_of sheet.now terms route.now }
-    ensures { result ≡ try_stops sheet.now terms route.now Nowhere 0 left.now }
+    ensures { result ≡ try_stops sheet.now terms route.now None 0 left.now }
 {
-    let none = Choice::Nowhere;
+    let none = None;
     let mut tried = Tried {
         choice: none,
         at: route.len(),

@@ -1,8 +1,5 @@
 -- The tests of a row's numbers, in the forms that the code has them. Assumes nothing.
 use mathlib.Core.Path.{◌≡◌, refl}
-use Prim.Native.Nat.{◌≤◌}
-use borrow.Author.Tests.{leb-true}
-use native.Mathlib.Omega.{arith}
 use mathlib.Core.Bool.{true, false≢true}
 use lib.Dec.{leb}
 use lib.IntN.{ℤ, pos, negsuc, nat_abs}
@@ -14,11 +11,6 @@ pub demand_up_to : (z : ℤ) → demand z ≡ is_up_to 1000000 z
 unfolding demand
 demand_up_to (pos n) = refl
 demand_up_to (negsuc n) = refl
-
--- what is from 0 to a billion fits a signed field
-pub up_to_fits : (z : ℤ) → is_up_to 1000000000 z ≡ true → nat_abs z ≤ 0x7fff_ffff
-up_to_fits (pos n) h = let l : n ≤ 1000000000 = leb-true n 1000000000 h in omega arith
-up_to_fits (negsuc n) h = absurd (false≢true h)
 
 -- of numbers from 0 on, the order is that of their sizes
 pub up_to_order : (y z : ℤ) → is_up_to 1000000000 y ≡ true → is_up_to 1000000000 z ≡ true → le_z y z ≡ leb (nat_abs y) (nat_abs z)

@@ -18,7 +18,7 @@ use Rattle.solomon_text.specs.Laws.Lines.{digit_line_first, no_digit_line}
 use Rattle.solomon_import.specs.declared.rows.RowLines.{RowLines}
 use Rattle.solomon_import.specs.Instance.{are_row_lines, is_instance, form_right, customer_of, customers_of, capacity_of}
 use Rattle.solomon_import.specs.Import.{capacity_range}
-use Rattle.solomon_import.specs.Reading.{lines_from, RowLinesFound, text_refusal, rows_refusal, TextRead}
+use Rattle.solomon_import.specs.Reading.{lines_from, InForm, text_refusal, rows_refusal}
 use Rattle.solomon_import.proofs.RowLines.{Onward, line_and_rest}
 
 -- a place of a text's lines that count: the text's end, or a line with a digit
@@ -66,37 +66,26 @@ no_instance [] h = refl
 no_instance (v ∷ []) h = refl
 no_instance (v ∷ row ∷ rows) h = rw h refl
 
-pub refused_vehicle : (text : List ℕ) → holds_numbers 2 (first_or (number_lines text)) ≡ false → TextRead text (record { refusal = 11; rows = 0 })
+pub refused_vehicle : (text : List ℕ) → holds_numbers 2 (first_or (number_lines text)) ≡ false → 11 ≡ text_refusal text
 unfolding text_refusal form_right
-refused_vehicle text h = record { told = rw (no_instance (number_lines text) h) refl; counted = λ e. absurd (omega arith) }
+refused_vehicle text h = rw (no_instance (number_lines text) h) refl
 
 length_customers : (text : List ℕ) → length (customers_of text) ≡ length (after_first (number_lines text))
 unfolding customers_of
 length_customers text = length-map (after_first (number_lines text)) customer_of
 
 -- row lines in form: each refusal by what was found; otherwise 11
-module _ (text : List ℕ) (h : holds_numbers 2 (first_or (number_lines text)) ≡ true) (found : RowLines) (f : RowLinesFound (after_first (number_lines text)) found) where
-  in_form : found.right ≡ true → text_refusal text ≡ rows_refusal found (capacity_range (capacity_of text))
-  unfolding text_refusal rows_refusal form_right customers_of
-  in_form r =
-      let n : length (map customer_of (after_first (number_lines text))) ≡ found.count = length_customers text ∙ sym (f.counted r) in
-      rw (instance_parts (number_lines text) h, ← f.form, ← f.counted r, n, ← f.range r) refl
+module _ (text : List ℕ) (h : holds_numbers 2 (first_or (number_lines text)) ≡ true) where
+  pub refused_rows : are_row_lines 0 (after_first (number_lines text)) ≡ false → 11 ≡ text_refusal text
+  unfolding text_refusal form_right
+  refused_rows r = rw (instance_parts (number_lines text) h, r) refl
 
-  not_in_form : found.right ≡ false → text_refusal text ≡ rows_refusal found (capacity_range (capacity_of text))
-  unfolding text_refusal rows_refusal form_right
-  not_in_form r = rw (instance_parts (number_lines text) h, ← f.form, r) refl
+  module _ (found : RowLines) (f : InForm (after_first (number_lines text)) found) where
+    pub told_by_rows : {n : ℕ} → n ≡ rows_refusal found (capacity_range (capacity_of text)) → n ≡ text_refusal text
+    unfolding text_refusal rows_refusal form_right customers_of
+    told_by_rows e =
+        let l : length (map customer_of (after_first (number_lines text))) ≡ found.count = length_customers text ∙ sym f.counted in
+        e ∙ rw (instance_parts (number_lines text) h, f.form, ← f.counted, l, ← f.range) refl
 
-  told_by_lem : (b : Bool) → found.right ≡ b → text_refusal text ≡ rows_refusal found (capacity_range (capacity_of text))
-  told_by_lem true r = in_form r
-  told_by_lem false r = not_in_form r
-
-  refused_form : found.right ≡ false → rows_refusal found (capacity_range (capacity_of text)) ≡ 0 → ⊥
-  unfolding rows_refusal
-  refused_form r e = let g : ◌≡◌ {A = ℕ} 11 0 = subst (λ (b : Bool). unless (b && ltb 0 found.count) 11 (unless (leb found.count most_rows) 12 (unless found.in_range 5 (unless (capacity_range (capacity_of text)) 7 0))) ≡ 0) r e in absurd (omega arith)
-
-  counted_by : (b : Bool) → found.right ≡ b → rows_refusal found (capacity_range (capacity_of text)) ≡ 0 → found.count ≡ length (customers_of text)
-  counted_by true r e = f.counted r ∙ sym (length_customers text)
-  counted_by false r e = absurd (refused_form r e)
-
-  pub text_read : (n : ℕ) → n ≡ rows_refusal found (capacity_range (capacity_of text)) → TextRead text (record { refusal = n; rows = found.count })
-  text_read n e = record { told = e ∙ sym (told_by_lem found.right refl); counted = λ z. counted_by found.right refl (sym e ∙ z) }
+    pub rows_counted : found.count ≡ length (customers_of text)
+    rows_counted = f.counted ∙ sym (length_customers text)

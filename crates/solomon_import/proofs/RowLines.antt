@@ -3,7 +3,7 @@ use mathlib.Core.Path.{◌≡◌, refl, sym, ap, ◌∙◌}
 use Prim.Native.Nat.{ℕ, ◌+◌, ◌≤◌, ◌<◌}
 use native.Mathlib.Nat.{zero-add}
 use native.Mathlib.Omega.{arith}
-use mathlib.Core.Bool.{Bool, true, false, ◌&&◌, and_assoc, and-true, false≢true}
+use mathlib.Core.Bool.{Bool, true, false, ◌&&◌, and_assoc, and-true}
 use mathlib.Core.List.{List, [], ◌∷◌, map}
 use lib.Dec.{T}
 use lib.ListN.{length, drop}
@@ -12,7 +12,7 @@ use Rattle.solomon_text.specs.Lines.{lines_of, first_line, after_first, has_digi
 use Rattle.solomon_text.specs.Laws.Lines.{digit_line_first, no_digit_line}
 use Rattle.solomon_import.specs.Instance.{is_row_line, are_row_lines, customer_of}
 use Rattle.solomon_import.specs.Import.{customer_range, customers_range}
-use Rattle.solomon_import.specs.Reading.{lines_from, RowLinesFound}
+use Rattle.solomon_import.specs.Reading.{lines_from, InForm}
 
 -- the lines from `from` to `at` are row lines, so many, and whether they are in range
 pub record RowsRead (text : List ℕ) (from at count : ℕ) (in_range_lem : Bool) : Type 0 where
@@ -58,18 +58,15 @@ module _ (text : List ℕ) (from at count : ℕ) (in_range_lem : Bool) (r : Rows
   unfolding are_row_lines
   row_refused h = r.form ∙ ap (are_row_lines count) (digit_line_first (drop at text) (r.digit l)) ∙ ap (λ (b : Bool). b && are_row_lines (count + 1) (digit_lines (after_first (lines_of (drop at text))))) h
 
-  pub refused_found : is_row_line count line ≡ false → RowLinesFound (lines_from text from) (record { right = false; count = 0; in_range = false })
-  refused_found h = record { form = sym (row_refused h); counted = λ f. absurd (false≢true f); range = λ f. absurd (false≢true f) }
-
 -- the text's end
-pub all_read : (text : List ℕ) (from at count : ℕ) (in_range_lem : Bool) → RowsRead text from at count in_range_lem → length text ≤ at → RowLinesFound (lines_from text from) (record { right = true; count = count; in_range = in_range_lem })
+pub all_read : (text : List ℕ) (from at count : ℕ) (in_range_lem : Bool) → RowsRead text from at count in_range_lem → length text ≤ at → InForm (lines_from text from) (record { count = count; in_range = in_range_lem })
 unfolding are_row_lines customers_range
 all_read text from at count in_range_lem r g =
     let w = r.within in
     let e : at ≡ length text = omega arith in
     let n : lines_from text at ≡ [] = ap (λ (k : ℕ). digit_lines (lines_of (drop k text))) e ∙ ap (λ (t : List ℕ). digit_lines (lines_of t)) (drop-length text) ∙ no_digit_line in
     record {
-      form = sym (r.form ∙ ap (are_row_lines count) n);
-      counted = λ _. sym (r.counted ∙ ap (λ (ls : List (List ℕ)). count + length ls) n ∙ (omega arith));
-      range = λ _. sym (r.range ∙ ap (λ (ls : List (List ℕ)). in_range_lem && customers_range (map customer_of ls)) n ∙ and-true in_range_lem);
+      form = r.form ∙ ap (are_row_lines count) n;
+      counted = sym (r.counted ∙ ap (λ (ls : List (List ℕ)). count + length ls) n ∙ (omega arith));
+      range = sym (r.range ∙ ap (λ (ls : List (List ℕ)). in_range_lem && customers_range (map customer_of ls)) n ∙ and-true in_range_lem);
     }

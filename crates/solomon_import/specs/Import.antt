@@ -1,10 +1,12 @@
 -- docs/SCOPE.md#the-importer. Document 02, Three: what the importer answers a text with. Number and bytes are read from the text and the buffer alone.
-use Rattle.std.specs.Prelude.{◌≡◌, ℕ, zero, suc, ◌+◌, ◌*◌, ◌^◌, ◌<◌, Bool, true, ◌&&◌, List, [], ◌∷◌, leb, ℤ, pos, negsuc, nat_abs, ◌-ℤ◌, length, get_or, take, Float}
+use Rattle.std.specs.Prelude.{◌≡◌, ℕ, zero, suc, ◌+◌, ◌-◌, ◌*◌, ◌^◌, ◌<◌, Bool, true, ◌&&◌, List, [], ◌∷◌, leb, ℤ, pos, negsuc, nat_abs, ◌-ℤ◌, length, get_or, take, Float, Result, Ok, Err}
 use Rattle.wire.specs.Bytes.{write}
 use Rattle.numbers.specs.Range.{whole}
 use Rattle.solomon_text.specs.Numbers.{is_up_to}
 use Rattle.sheet.specs.Fields.{header_size, row_size, vehicle_size, most_rows, plan_length}
 use Rattle.sheet.specs.Ranges.{coordinate, demand}
+use Rattle.sheet.specs.declared.refusal.Refusal.{Refusal}
+use Rattle.sheet.specs.Told.{number_of}
 use Rattle.sheet.specs.Refusal.{unless, refusal_of}
 use Rattle.sheet_writer.specs.Sheet.{SheetFields, sheet_bytes}
 use Rattle.sheet_writer.specs.declared.RowFields.{RowFields}
@@ -134,6 +136,11 @@ pub record SheetWritten (text lent out : List ℕ) : Type 0 where
 abbrev pub import_number : ℕ → ℕ → ℤ
 import_number zero long = pos long
 import_number (suc n) long = negsuc n
+
+-- the number for a result
+abbrev pub import_answer : Result ℕ Refusal → ℤ
+import_answer (Ok long) = pos long
+import_answer (Err refusal) = negsuc (number_of refusal - 1)
 
 -- the bytes after it: "A refused call writes no lent byte."
 abbrev pub ImportBytes : ℕ → List ℕ → List ℕ → List ℕ → Type 0

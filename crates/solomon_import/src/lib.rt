@@ -5,9 +5,11 @@ mod reading;
 mod rows;
 mod writing;
 
-ghost use Rattle.std.specs.Prelude.{◌≡◌, ◌-◌, ◌≤◌, ◌<◌, negsuc};
+ghost use Rattle.std.specs.Prelude.{◌≡◌, ◌^◌, ◌≤◌, ◌<◌, IfOk};
 ghost use Rattle.sheet.specs.Fields.{most_rows};
-ghost use Rattle.solomon_import.specs.Import.{import_length, ImportAnswered, ImportAccepted};
+ghost use Rattle.solomon_import.specs.Import.{import_length, import_answer, ImportAnswered, ImportAccepted};
+
+use sheet::refusal::Refusal;
 
 // Bytes of the sheet of so many rows and one vehicle.
 fn import_length(rows: usize) -> usize
@@ -17,27 +19,17 @@ fn import_length(rows: usize) -> usize
     sheet::HEADER_SIZE + sheet::ROW_SIZE * rows + sheet::VEHICLE_SIZE + 8 * (rows * rows)
 }
 
-// A refusal's number below zero.
-fn below_zero(number: u32) -> i32
-    requires { (0 < number) × (number ≤ 12) }
-    ensures { result ≡ negsuc (number - 1) }
+// The sheet's length, and the sheet at the start of `sheet`.
+pub fn import(text: &[u8], sheet: &mut [u8]) -> Result<usize, Refusal>
+    ensures import_answered { ImportAnswered text.now sheet.old (import_answer result) sheet.new }
+    ensures import_accepted { ImportAccepted (import_answer result) sheet.new }
+    ensures import_long { IfOk result (λ long. long < 2 ^ 31) }
 {
-    -(number as i32)
-}
-
-// The sheet's length, or the refusal's number below zero.
-pub fn import(text: &[u8], sheet: &mut [u8]) -> i32
-    ensures import_answered { ImportAnswered text.now sheet.old result sheet.new }
-    ensures import_accepted { ImportAccepted result sheet.new }
-{
-    let found = reading::read(text);
-    if found.refusal != 0 {
-        return below_zero(found.refusal);
-    }
-    let long = import_length(found.rows);
+    let rows = reading::read(text)?;
+    let long = import_length(rows);
     if sheet.len() < long {
-        return -4;
+        return Err(Refusal::Lengths);
     }
-    writing::write_sheet(text, found.rows, sheet);
-    long as i32
+    writing::write_sheet(text, rows, sheet);
+    Ok(long)
 }

@@ -1,5 +1,6 @@
 // What a text holds, and the refusals that do not depend on the buffer.
 ghost use Rattle.std.specs.Prelude.{◌≡◌, ◌≤◌, ◌<◌, T, length, drop};
+ghost use Rattle.sheet.specs.Told.{told};
 ghost use Rattle.solomon_text.specs.Lines.{first_or, after_first, first_line, has_digit, number_lines};
 ghost use Rattle.solomon_text.specs.Numbers.{holds_numbers};
 ghost use Rattle.solomon_import.specs.Instance.{capacity_of};
@@ -8,14 +9,8 @@ ghost use Rattle.solomon_import.specs.Reading.{lines_from, rows_refusal, TextRea
 
 use crate::rows;
 use crate::rows::RowLines;
+use sheet::refusal::Refusal;
 use solomon_text::{lines, words};
-
-// The refusal, 0 if there is none, and then how many rows the text has.
-#[derive(Clone, Copy)]
-pub struct TextReading {
-    pub refusal: u32,
-    pub rows: usize,
-}
 
 fn vehicle_line_right(text: &[u8]) -> bool
     ensures { result ≡ holds_numbers 2 (first_or (number_lines text.now)) }
@@ -54,40 +49,35 @@ pub fn first_row_line(text: &[u8]) -> usize
     lines::next_digit_line(text, lines::next_line(text, at))
 }
 
-fn rows_refusal(found: RowLines, capacity: bool) -> u32
-    ensures { result ≡ rows_refusal found capacity }
+#[tactic(auto, unfolding(crate::specs::Reading::rows_refusal))]
+fn rows_refusal(found: RowLines, capacity: bool) -> Result<(), Refusal>
+    ensures { told result ≡ rows_refusal found capacity }
 {
-    if !found.right {
-        return 11;
-    }
     if found.count == 0 {
-        return 11;
+        return Err(Refusal::Text);
     }
     if sheet::MOST_ROWS < found.count {
-        return 12;
+        return Err(Refusal::TextRows);
     }
     if !found.in_range {
-        return 5;
+        return Err(Refusal::Rows);
     }
     if !capacity {
-        return 7;
+        return Err(Refusal::Vehicles);
     }
-    0
+    Ok(())
 }
 
-pub fn read(text: &[u8]) -> TextReading
+// How many rows the text has.
+pub fn read(text: &[u8]) -> Result<usize, Refusal>
     ensures { TextRead text.now result }
 {
     if !vehicle_line_right(text) {
-        return TextReading {
-            refusal: 11,
-            rows: 0,
-        };
+        return Err(Refusal::Text);
     }
-    let found = rows::row_lines(text, first_row_line(text));
-    let refusal = rows_refusal(found, capacity_in_range(text));
-    TextReading {
-        refusal: refusal,
-        rows: found.count,
-    }
+    let Some(found) = rows::row_lines(text, first_row_line(text)) else {
+        return Err(Refusal::Text);
+    };
+    rows_refusal(found, capacity_in_range(text))?;
+    Ok(found.count)
 }

@@ -22,7 +22,7 @@ fn row_fields(line: &[u8], marks: u32) -> RowFields
         x: words::value(line, 1),
         y: words::value(line, 2),
         demand: words::value(line, 3),
-        marks: marks,
+        marks,
         service: words::value(line, 6) as f64,
         ready: words::value(line, 4) as f64,
         due: words::value(line, 5) as f64,
@@ -36,7 +36,7 @@ fn vehicle_fields(capacity: i32) -> VehicleFields
     VehicleFields {
         id: 0,
         depot: 0,
-        capacity: capacity,
+        capacity,
         marks: 0,
         cost_per_distance: 1.0,
         fixed_cost: 0.0,

@@ -1,6 +1,7 @@
 // Lines of a text, by where they start and end.
 ghost use Rattle.std.specs.Prelude.{◌≡◌, ◌-◌, ◌≤◌, ◌<◌, T, length, take, drop};
-ghost use Rattle.solomon_text.specs.Lines.{is_feed, lines_of, first_line, after_first, has_digit, digit_lines, number_lines};
+ghost use Rattle.std.specs.List.{list_any};
+ghost use Rattle.solomon_text.specs.Lines.{is_digit, is_feed, lines_of, first_line, after_first, has_digit, digit_lines, number_lines};
 ghost use Rattle.solomon_text.specs.Laws.Parts.{FirstPart};
 
 // The first LF from `at` on; the text's end if there is none.
@@ -8,14 +9,10 @@ fn feed(text: &[u8], at: usize) -> usize
     requires { at ≤ length text.now }
     ensures { FirstPart is_feed text.now at result }
 {
-    let mut i = at;
-    while i < text.len() {
-        if text[i] == b'\n' {
-            return i;
-        }
-        i += 1;
-    }
-    i
+    at + text[at..]
+        .iter()
+        .position(|&b| b == b'\n')
+        .unwrap_or(text.len() - at)
 }
 
 // Where the line that starts at `at` ends: before its LF or CR LF, or at the text's end.
@@ -49,14 +46,9 @@ pub fn next_line(text: &[u8], at: usize) -> usize
 }
 
 fn has_digit(line: &[u8]) -> bool
-    ensures { result ≡ has_digit line.now }
+    ensures { result ≡ list_any is_digit line.now }
 {
-    for i in 0..line.len() {
-        if crate::is_digit(line[i]) {
-            return true;
-        }
-    }
-    false
+    line.iter().any(u8::is_ascii_digit)
 }
 
 // The first line from the one at `at` on that has a digit; the text's end if there is none.
@@ -79,7 +71,7 @@ pub fn next_digit_line(text: &[u8], at: usize) -> usize
 pub fn first_number_line(text: &[u8]) -> usize
     ensures { (result ≤ length text.now) × (number_lines text.now ≡ digit_lines (lines_of (drop result text.now))) × (result < length text.now → T (has_digit (first_line (drop result text.now)))) }
 {
-    if text.len() == 0 {
+    if text.is_empty() {
         return 0;
     }
     next_digit_line(text, next_line(text, 0))

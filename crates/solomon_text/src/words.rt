@@ -1,9 +1,9 @@
 // Words of a line, which are whole numbers.
-ghost use Rattle.std.specs.Prelude.{◌≡◌, ◌^◌, ◌≤◌, ◌<◌, leb, nat_abs, length, drop, get_or, []};
+ghost use Rattle.std.specs.Prelude.{◌≡◌, ◌^◌, ◌≤◌, ◌<◌, leb, not, nat_abs, length, drop, get_or, []};
 ghost use Rattle.solomon_text.specs.Lines.{is_blank, words_of};
 ghost use Rattle.solomon_text.specs.Numbers.{holds_numbers, word_at, number_at, equals, is_up_to};
 ghost use Rattle.solomon_text.specs.Laws.Parts.{FirstPart};
-ghost use Rattle.solomon_text.specs.Laws.Words.{AtWord, NextWord};
+ghost use Rattle.solomon_text.specs.Laws.Words.{AtWord};
 ghost use Rattle.solomon_text.specs.Kept.{KeptNumber};
 
 use crate::number;
@@ -11,22 +11,18 @@ use crate::number;
 fn is_blank(b: u8) -> bool
     ensures { result ≡ is_blank b }
 {
-    b == b' ' || b == b'\t'
+    matches!(b, b' ' | b'\t')
 }
 
 // The first word from `at` on; the line's end if there is none.
 fn word_start(line: &[u8], at: usize) -> usize
     requires { at ≤ length line.now }
-    ensures { NextWord line.now at result }
+    ensures { FirstPart (λ b. not (is_blank b)) line.now at result }
 {
-    let mut i = at;
-    while i < line.len() {
-        if !is_blank(line[i]) {
-            return i;
-        }
-        i += 1;
-    }
-    i
+    at + line[at..]
+        .iter()
+        .position(|&b| !is_blank(b))
+        .unwrap_or(line.len() - at)
 }
 
 // The first blank from `at` on; the line's end if there is none.
@@ -34,14 +30,10 @@ fn word_end(line: &[u8], at: usize) -> usize
     requires { at ≤ length line.now }
     ensures { FirstPart is_blank line.now at result }
 {
-    let mut i = at;
-    while i < line.len() {
-        if is_blank(line[i]) {
-            return i;
-        }
-        i += 1;
-    }
-    i
+    at + line[at..]
+        .iter()
+        .position(|&b| is_blank(b))
+        .unwrap_or(line.len() - at)
 }
 
 // Whether the line holds n whole numbers and nothing else but spaces and tabs.
@@ -90,10 +82,7 @@ pub fn number_is(line: &[u8], n: usize, k: usize) -> bool
     ensures { result ≡ equals k (number_at line.now n) }
 {
     let number = number_at(line, n);
-    if number.negative {
-        return false;
-    }
-    number.size == k as u64
+    !number.negative && number.size == k as u64
 }
 
 // Whether its size is at most `most`.
@@ -111,10 +100,7 @@ pub fn is_up_to(line: &[u8], n: usize, most: u64) -> bool
     ensures { result ≡ is_up_to most (number_at line.now n) }
 {
     let number = number_at(line, n);
-    if number.negative {
-        return false;
-    }
-    number.size <= most
+    !number.negative && number.size <= most
 }
 
 // The number itself.
@@ -124,8 +110,5 @@ pub fn value(line: &[u8], n: usize) -> i32
 {
     let number = number_at(line, n);
     let size = number.size as i32;
-    if number.negative {
-        return -size;
-    }
-    size
+    if number.negative { -size } else { size }
 }

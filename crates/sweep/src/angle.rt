@@ -2,7 +2,7 @@
 ghost use Rattle.std.specs.Prelude.{◌≡◌, ◌<◌, ◌-ℤ◌};
 ghost use Rattle.sheet.specs.Fields.{rows_of};
 ghost use Rattle.sheet.specs.Accepted.{Accepted};
-ghost use Rattle.sweep.specs.Angle.{direction_of, Short, part_of, turns_left, below, sweeps_before};
+ghost use Rattle.sweep.specs.Angle.{direction_of, Short, part_of, turns_left, below};
 
 // From the depot to a stop.
 #[derive(Clone, Copy)]
@@ -17,7 +17,7 @@ fn offset(from: i32, to: i32) -> i64
     to as i64 - from as i64
 }
 
-fn direction_to(sheet: &[u8], depot: usize, row: usize) -> Direction
+pub fn direction_to(sheet: &[u8], depot: usize, row: usize) -> Direction
     requires accepted { Accepted sheet.now }
     requires depot_bound { (depot < rows_of sheet.now) × (row < rows_of sheet.now) }
     ensures { result ≡ direction_of sheet.now depot row }
@@ -53,7 +53,7 @@ fn turns_left(a: Direction, b: Direction) -> bool
 }
 
 // Whether the angle of `a` is below that of `b`: by the part of the circle, and within one by the cross product.
-fn is_below(a: Direction, b: Direction) -> bool
+pub fn is_below(a: Direction, b: Direction) -> bool
     requires { Short a × Short b }
     ensures { result ≡ below a b }
 {
@@ -63,16 +63,4 @@ fn is_below(a: Direction, b: Direction) -> bool
         return p < q;
     }
     turns_left(a, b)
-}
-
-// Whether one stop goes before another.
-pub fn is_before(sheet: &[u8], depot: usize, a: u16, b: u16) -> bool
-    requires accepted { Accepted sheet.now }
-    requires depot_bound { (depot < rows_of sheet.now) × ((a < rows_of sheet.now) × (b < rows_of sheet.now)) }
-    ensures { result ≡ sweeps_before sheet.now depot a b }
-{
-    is_below(
-        direction_to(sheet, depot, a as usize),
-        direction_to(sheet, depot, b as usize),
-    )
 }

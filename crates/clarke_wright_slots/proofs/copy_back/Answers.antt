@@ -1,5 +1,4 @@
 -- `clarke_wright_slots::copy_back` meets its contract. Assumes nothing.
-use Prim.Native.Nat.{◌-◌}
 use native.Mathlib.Omega.{arith}
 use Rattle.clarke_wright_slots.proofs.Copying.{back_begins, back_long, back_goes_on, back_ends}
 use Rattle.clarke_wright_slots.proofs.copy_back.Goals as goal

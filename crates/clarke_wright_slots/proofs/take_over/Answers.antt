@@ -15,4 +15,4 @@ pub bounds-loads-from-2 : goal.bounds-loads-from-2
 bounds-loads-from-2 c = let l = c.args.loads.now in omega (arith, length-set l c.args.into (get_or l c.args.into 0 + get_or l c.args.from 0), c.requires.roomy_2)
 
 pub returns : goal.returns
-returns c = taken c.args.cells.now c.args.lens.now c.args.loads.now c.args.slots.now c.args.into c.args.from c.args.stops.now _ _ (omega (arith, c.requires.roomy, c.requires.stops_len_bound)) c.copy.ensures c.relabel.ensures
+returns c = rw c.copy_from_slice.ensures.after (taken c.args.cells.now c.args.lens.now c.args.loads.now c.args.slots.now c.args.into c.args.from c.args.stops.now _ (omega (arith, c.requires.roomy, c.requires.stops_len_bound)) c.relabel.ensures)

@@ -1,16 +1,12 @@
 -- `evaluation::cost` meets its contract. Assumes nothing.
-use lib.Ieee.{nan_bits, of_bits}
+use lib.Ieee.{of_bits}
 use Rattle.evaluation.specs.Feasible.{cost_of}
 use Rattle.evaluation.proofs.cost.Goals as goal
 
-pub float_from_bits-result : goal.float_from_bits-result
-unfolding nan_bits
-float_from_bits-result c = tt
-
-pub returns-in-Allowed : goal.returns-in-Allowed
+pub returns-in-Some : goal.returns-in-Some
 unfolding cost_of
-returns-in-Allowed c = rw c.in-Allowed.is c.priced_distance.ensures
+returns-in-Some c = rw c.in-Some.is c.priced_distance.ensures
 
-pub returns-in-NotAllowed : goal.returns-in-NotAllowed
+pub returns-in-None : goal.returns-in-None
 unfolding cost_of of_bits
-returns-in-NotAllowed c = rw c.in-NotAllowed.is
+returns-in-None c = rw c.in-None.is

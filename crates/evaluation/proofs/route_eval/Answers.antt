@@ -5,6 +5,6 @@ use Rattle.evaluation.specs.Feasible.{route_eval}
 use Rattle.evaluation.proofs.ByRest.{by_rest}
 use Rattle.evaluation.proofs.route_eval.Goals as goal
 
-pub returns-in-NoRest : goal.returns-in-NoRest
+pub returns-in-None : goal.returns-in-None
 unfolding route_eval
-returns-in-NoRest c = c.eval_by.ensures ∙ ap eval_of (by_rest _ _ _ _ _ _ c.in-NoRest.is refl c.walk.ensures)
+returns-in-None c = c.eval_by.ensures ∙ ap eval_of (by_rest _ _ _ _ _ _ c.in-None.is refl c.walk.ensures)

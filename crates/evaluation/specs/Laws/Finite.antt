@@ -1,5 +1,5 @@
 -- On an accepted sheet every figure of a round is finite, not negative and no NaN, so that it can be compared and written. Assumes nothing.
-use Rattle.std.specs.Prelude.{◌≡◌, refl, ℕ, suc, ◌+◌, ◌*◌, ◌^◌, ◌≤◌, ◌<◌, Bool, not, cond, T, get_or, Float}
+use Rattle.std.specs.Prelude.{◌≡◌, refl, ℕ, suc, ◌+◌, ◌*◌, ◌^◌, ◌≤◌, ◌<◌, Bool, not, cond, T, get_or, Float, Option, Some, None}
 use Rattle.std.proofs.Common.{sym, suc-le-suc, zero-lt-suc, le_trans, le_of_eq, mul_right_comm, mul-le-mul_right, le_of_mul-le-mul_right, arith}
 use Rattle.std.proofs.Math.Path.{subst}
 use Rattle.std.proofs.Math.Bool.{true, false}
@@ -16,19 +16,10 @@ use Rattle.sheet.specs.Laws.Finite.{StopBounded, BreakBounded, RestBounded, stop
 use Rattle.sheet.specs.Values.{stop_of, distance_of, time_of}
 use Rattle.sheet.specs.declared.customer.Stop.{Stop}
 use Rattle.sheet.specs.declared.vehicle.VehicleBreak.{VehicleBreak}
-use Rattle.sheet.specs.declared.vehicle.Rest.{Rest}
-use Rattle.sheet.specs.declared.vehicle.Rest.TheVariants.{NoRest as restless, Required}
-use Rattle.evaluation_clock.specs.declared.label.RestAnswer.{RestAnswer}
-use Rattle.evaluation_clock.specs.declared.label.RestAnswer.TheVariants.{NoRest, Before}
+use Rattle.evaluation_clock.specs.RestAnswer.{RestAnswer}
 use Rattle.evaluation_clock.specs.declared.label.Label.{Label}
-use Rattle.evaluation_clock.specs.declared.label.Served.{Served}
-use Rattle.evaluation_clock.specs.declared.label.Served.TheVariants.{Done, Refused}
 use Rattle.evaluation_clock.specs.declared.clock.Schedule.{Schedule}
-use Rattle.evaluation_clock.specs.declared.clock.Scheduled.{Scheduled}
-use Rattle.evaluation_clock.specs.declared.clock.Scheduled.TheVariants.{Found, NotFound}
 use Rattle.evaluation.specs.declared.limits.RouteLimits.{RouteLimits}
-use Rattle.evaluation.specs.declared.RouteEval.{RouteEval}
-use Rattle.evaluation.specs.declared.RouteEval.TheVariants.{Allowed, NotAllowed}
 use Rattle.evaluation_clock.specs.Sums.{◌⊕◌}
 use Rattle.evaluation.specs.Routed.{Routed}
 use Rattle.evaluation_clock.specs.Serve.{rest_start, later_of, at_depot}
@@ -41,32 +32,32 @@ use Rattle.evaluation.specs.Laws.Verdict.{verdict_scheduled}
 use Rattle.evaluation_clock.specs.Laws.Bounds.{Times, one_time, AnswerBounded, LabelBounded, ServedBounded, serve_bounded, rested_bounded}
 
 -- ---- one stop of the clock
-pub step_bounded : (a b : ℕ) (x : Served) (travel : Float) (s : Stop) → a ≤ 996 → b + 1000 < 2 ^ 40 → ServedBounded a b x → Times 1 travel → StopBounded s → ServedBounded (a + 4) (b + 1000) (step_of x travel s)
+pub step_bounded : (a b : ℕ) (x : Option Label) (travel : Float) (s : Stop) → a ≤ 996 → b + 1000 < 2 ^ 40 → ServedBounded a b x → Times 1 travel → StopBounded s → ServedBounded (a + 4) (b + 1000) (step_of x travel s)
 unfolding step_of
-step_bounded a b (Done l) travel s h k ok leg sok = serve_bounded a b l travel s h k ok leg sok
-step_bounded a b Refused travel s h k ok leg sok = tt
+step_bounded a b (Some l) travel s h k ok leg sok = serve_bounded a b l travel s h k ok leg sok
+step_bounded a b None travel s h k ok leg sok = tt
 
-step_rested_bounded : (a b : ℕ) (x : Served) (travel : Float) (s : Stop) (place : ℕ) (r : VehicleBreak) → a ≤ 996 → b + 1000 < 2 ^ 40 → ServedBounded a b x → Times 1 travel → StopBounded s → BreakBounded r
+step_rested_bounded : (a b : ℕ) (x : Option Label) (travel : Float) (s : Stop) (place : ℕ) (r : VehicleBreak) → a ≤ 996 → b + 1000 < 2 ^ 40 → ServedBounded a b x → Times 1 travel → StopBounded s → BreakBounded r
     → ServedBounded (a + 4) (b + 1000) (step_rested x travel s place r)
 unfolding step_rested
-step_rested_bounded a b (Done l) travel s place r h k ok leg sok rok = rested_bounded a b l travel s h k ok leg sok place r rok
-step_rested_bounded a b Refused travel s place r h k ok leg sok rok = tt
+step_rested_bounded a b (Some l) travel s place r h k ok leg sok rok = rested_bounded a b l travel s h k ok leg sok place r rok
+step_rested_bounded a b None travel s place r h k ok leg sok rok = tt
 
-earlier_bounded : (a b : ℕ) (x y : Served) → ServedBounded a b x → ServedBounded a b y → ServedBounded a b (earlier_of x y)
+earlier_bounded : (a b : ℕ) (x y : Option Label) → ServedBounded a b x → ServedBounded a b y → ServedBounded a b (earlier_of x y)
 unfolding earlier_of
-earlier_bounded a b Refused y u v = v
-earlier_bounded a b (Done x) Refused u v = u
-earlier_bounded a b (Done x) (Done y) u v = go (wins_over y x)
+earlier_bounded a b None y u v = v
+earlier_bounded a b (Some x) None u v = u
+earlier_bounded a b (Some x) (Some y) u v = go (wins_over y x)
   where
-    go : (t : Bool) → ServedBounded a b (cond t (Done y) (Done x))
+    go : (t : Bool) → ServedBounded a b (cond t (Some y) (Some x))
     go true = v
     go false = u
 
-taken_bounded : (a b : ℕ) (r : Rest) (x y : Served) (travel : Float) (s : Stop) (place : ℕ) → a ≤ 996 → b + 1000 < 2 ^ 40 → RestBounded r → ServedBounded a b x → ServedBounded a b y → Times 1 travel → StopBounded s
+taken_bounded : (a b : ℕ) (r : Option VehicleBreak) (x y : Option Label) (travel : Float) (s : Stop) (place : ℕ) → a ≤ 996 → b + 1000 < 2 ^ 40 → RestBounded r → ServedBounded a b x → ServedBounded a b y → Times 1 travel → StopBounded s
     → ServedBounded (a + 4) (b + 1000) (taken_of r x y travel s place)
 unfolding taken_of
-taken_bounded a b restless x y travel s place h k rok u v leg sok = tt
-taken_bounded a b (Required r) x y travel s place h k rok u v leg sok =
+taken_bounded a b None x y travel s place h k rok u v leg sok = tt
+taken_bounded a b (Some r) x y travel s place h k rok u v leg sok =
     earlier_bounded (a + 4) (b + 1000) (step_of y travel s) (step_rested x travel s place r)
     (step_bounded a b y travel s h k v leg sok) (step_rested_bounded a b x travel s place r h k u leg sok rok)
 
@@ -91,15 +82,15 @@ pub record ScheduleBounded (k : Schedule) : Type 0 where
   pub cost : Upto (2 ^ 67) k.lateness_cost
   pub rest : Upto (2 ^ 40) (rest_start k.rest)
 
-abbrev pub ScheduledBounded : Scheduled → Type 0
-ScheduledBounded (Found k) = ScheduleBounded k
-ScheduledBounded NotFound = Unit
+abbrev pub ScheduledBounded : Option Schedule → Type 0
+ScheduledBounded (Some k) = ScheduleBounded k
+ScheduledBounded None = Unit
 
 -- at most 101 stops: fewer than a thousand times, and late by fewer than 2 ^ 17 of them
 module _ (a b n : ℕ) (distance back : Float) (h : a < 1000) (k : b ≤ 2 ^ 17) (m : n ≤ 1000) (far : Times n distance) (leg : Times 1 back) where
   start_upto : (r : RestAnswer) → AnswerBounded a r → Upto (2 ^ 40) (rest_start r)
-  start_upto NoRest u = zero_upto (2 ^ 40)
-  start_upto (Before place x) u = widen (a * 2 ^ 30) (2 ^ 40) x (omega arith) u
+  start_upto None u = zero_upto (2 ^ 40)
+  start_upto (Some (place, x)) u = widen (a * 2 ^ 30) (2 ^ 40) x (omega arith) u
 
   home_bounded : (l : Label) (r : RestAnswer) → LabelBounded a b l → AnswerBounded a r → ScheduleBounded (home_schedule l distance back r)
   home_bounded l r ok rok = record {
@@ -110,29 +101,29 @@ module _ (a b n : ℕ) (distance back : Float) (h : a < 1000) (k : b ≤ 2 ^ 17)
     rest = start_upto r rok;
   }
 
-  unrested_bounded : (x : Served) → ServedBounded a b x → ScheduledBounded (unrested x distance back)
+  unrested_bounded : (x : Option Label) → ServedBounded a b x → ScheduledBounded (unrested x distance back)
   unfolding unrested
-  unrested_bounded (Done l) ok = home_bounded l NoRest ok tt
-  unrested_bounded Refused ok = tt
+  unrested_bounded (Some l) ok = home_bounded l None ok tt
+  unrested_bounded None ok = tt
 
-  end_bounded : (x : Served) → ServedBounded a b x → ScheduledBounded (end_of x distance back)
+  end_bounded : (x : Option Label) → ServedBounded a b x → ScheduledBounded (end_of x distance back)
   unfolding end_of
-  end_bounded (Done l) ok = home_bounded l l.rest ok ok.rest
-  end_bounded Refused ok = tt
+  end_bounded (Some l) ok = home_bounded l l.rest ok ok.rest
+  end_bounded None ok = tt
 
-  homeward_bounded : (r : VehicleBreak) (x y : Served) → ServedBounded a b x → ServedBounded a b y → ScheduledBounded (homeward r x y distance back)
+  homeward_bounded : (r : VehicleBreak) (x y : Option Label) → ServedBounded a b x → ServedBounded a b y → ScheduledBounded (homeward r x y distance back)
   unfolding homeward
-  homeward_bounded r Refused y u v = end_bounded y v
-  homeward_bounded r (Done l) y u v = go (le (l.time ⊕ back) r.earliest)
+  homeward_bounded r None y u v = end_bounded y v
+  homeward_bounded r (Some l) y u v = go (le (l.time ⊕ back) r.earliest)
     where
-      go : (t : Bool) → ScheduledBounded (cond t (Found (home_schedule l distance back NoRest)) (end_of y distance back))
-      go true = home_bounded l NoRest u tt
+      go : (t : Bool) → ScheduledBounded (cond t (Some (home_schedule l distance back None)) (end_of y distance back))
+      go true = home_bounded l None u tt
       go false = end_bounded y v
 
-  returned_bounded : (r : Rest) (x y : Served) → ServedBounded a b x → ServedBounded a b y → ScheduledBounded (returned r x y distance back)
+  returned_bounded : (r : Option VehicleBreak) (x y : Option Label) → ServedBounded a b x → ServedBounded a b y → ScheduledBounded (returned r x y distance back)
   unfolding returned
-  returned_bounded restless x y u v = unrested_bounded x u
-  returned_bounded (Required r) x y u v = homeward_bounded r x y u v
+  returned_bounded None x y u v = unrested_bounded x u
+  returned_bounded (Some r) x y u v = homeward_bounded r x y u v
 
 pub start_bounded : LabelBounded 0 0 at_depot
 start_bounded = record { time = zero_upto (0 * 2 ^ 30); lateness = zero_upto (0 * 2 ^ 30); cost = zero_upto (0 * 2 ^ 50); rest = tt }
@@ -162,18 +153,18 @@ module _ (s : List ℕ) (depot : ℕ) (fine : Accepted s) (D : depot < rows_of s
       (moved_bounded a b p.clock (time_of s prev row) (stop_of s row) row (omega arith) (omega arith) ok (leg_time prev row from here) (stop_bounded s fine row here))
       (further n p.distance prev row (omega arith) from here far)
 
-abbrev pub EvalBounded : RouteEval → Type 0
-EvalBounded (Allowed k) = ScheduleBounded k
-EvalBounded NotAllowed = Unit
+abbrev pub EvalBounded : Option Schedule → Type 0
+EvalBounded (Some k) = ScheduleBounded k
+EvalBounded None = Unit
 
 pub priced_bounded : (k : Schedule) → ScheduleBounded k → Upto (2 ^ 68) (priced_distance k)
 priced_bounded k ok =
     add_upto (2 ^ 40) (2 ^ 67) (2 ^ 68) k.distance k.lateness_cost ok.distance ok.cost (omega arith) (exact_scaled 1 68 (omega arith) (omega arith))
 
-cost_of_number : (e : RouteEval) → EvalBounded e → T (not (is_nan (cost_of e)))
+cost_of_number : (e : Option Schedule) → EvalBounded e → T (not (is_nan (cost_of e)))
 unfolding cost_of is_nan
-cost_of_number (Allowed k) ok = no_nan (2 ^ 68) (priced_distance k) (priced_bounded k ok)
-cost_of_number NotAllowed ok = tt
+cost_of_number (Some k) ok = no_nan (2 ^ 68) (priced_distance k) (priced_bounded k ok)
+cost_of_number None ok = tt
 
 -- ---- with the rest at home
 le_upto : (m n : ℕ) (x y : Float) → Upto m x → Upto n y → T (le x y) → Upto n x
@@ -212,38 +203,38 @@ mended_bounded limits b place k r ok e =
 
 -- ---- a round of an accepted sheet, for a vehicle whose rest is in range, as `vehicle_bounded` has it
 module _ (s : List ℕ) (depot : ℕ) (route : List ℕ) (ok : Routed s depot route) where
-  pub scheduled_bounded : (rest : Rest) → RestBounded rest → ScheduledBounded (scheduled_of s depot rest route)
+  pub scheduled_bounded : (rest : Option VehicleBreak) → RestBounded rest → ScheduledBounded (scheduled_of s depot rest route)
   unfolding scheduled_of
   scheduled_bounded rest u =
       walked_bounded s depot ok.sheet ok.home route 0 0 0 (start_at rest depot) (omega (arith, ok.few)) (omega (arith, ok.few)) (omega (arith, ok.few)) ok.row ok.home
       (record { rest = u; before = start_bounded; after = tt }) (zero_upto (0 * 2 ^ 30))
 
-  held_bounded : (limits : RouteLimits) (x : Scheduled) → ScheduledBounded x → EvalBounded (eval_of (held_to limits x))
+  held_bounded : (limits : RouteLimits) (x : Option Schedule) → ScheduledBounded x → EvalBounded (eval_of (held_to limits x))
   unfolding held_to
-  held_bounded limits NotFound u = tt
-  held_bounded limits (Found k) u = go (allow_of limits k.distance k.duration)
+  held_bounded limits None u = tt
+  held_bounded limits (Some k) u = go (allow_of limits k.distance k.duration)
     where
       go : (t : Bool) → EvalBounded (eval_of (cond t (allowed k) (over_limit k)))
       go true = u
       go false = tt
 
-  home_bounded_by : (limits : RouteLimits) (place : ℕ) (v : Verdict) → EvalBounded (eval_of v) → (rest : Rest) → RestBounded rest → (plain : Scheduled) → ScheduledBounded plain → EvalBounded (eval_of (mended limits rest place plain v))
-  home_bounded_by limits place v u restless r plain w = u
-  home_bounded_by limits place v u (Required b) r plain w = marked limits.at_home
+  home_bounded_by : (limits : RouteLimits) (place : ℕ) (v : Verdict) → EvalBounded (eval_of v) → (rest : Option VehicleBreak) → RestBounded rest → (plain : Option Schedule) → ScheduledBounded plain → EvalBounded (eval_of (mended limits rest place plain v))
+  home_bounded_by limits place v u None r plain w = u
+  home_bounded_by limits place v u (Some b) r plain w = marked limits.at_home
     where
       fit : (k : Schedule) → ScheduleBounded k → (t : Bool) → mends limits b k.distance k.duration ≡ t → EvalBounded (eval_of (cond t (allowed (rested_home b place k)) v))
       fit k ok true e = mended_bounded limits b place k r ok e
       fit k ok false e = u
 
-      walked : (x : Scheduled) → ScheduledBounded x → EvalBounded (eval_of (mended_by limits b place x v))
-      walked NotFound ok = u
-      walked (Found k) ok = fit k ok (mends limits b k.distance k.duration) refl
+      walked : (x : Option Schedule) → ScheduledBounded x → EvalBounded (eval_of (mended_by limits b place x v))
+      walked None ok = u
+      walked (Some k) ok = fit k ok (mends limits b k.distance k.duration) refl
 
       marked : (t : Bool) → EvalBounded (eval_of (cond t (mended_by limits b place plain v) v))
       marked true = walked plain w
       marked false = u
 
-  or_home_bounded : (limits : RouteLimits) (rest : Rest) (place : ℕ) (plain : Scheduled) (v : Verdict) → EvalBounded (eval_of v) → RestBounded rest → ScheduledBounded plain → EvalBounded (eval_of (or_home limits rest place plain v))
+  or_home_bounded : (limits : RouteLimits) (rest : Option VehicleBreak) (place : ℕ) (plain : Option Schedule) (v : Verdict) → EvalBounded (eval_of v) → RestBounded rest → ScheduledBounded plain → EvalBounded (eval_of (or_home limits rest place plain v))
   unfolding or_home
   or_home_bounded limits rest place plain (allowed k) u r w = u
   or_home_bounded limits rest place plain (over_limit k) u r w = home_bounded_by limits place (over_limit k) u rest r plain w
@@ -253,8 +244,8 @@ module _ (s : List ℕ) (depot : ℕ) (route : List ℕ) (ok : Routed s depot ro
   unfolding route_eval
   eval_bounded limits u =
       subst (λ (v : Verdict). EvalBounded (eval_of v)) (sym (verdict_scheduled s depot limits route))
-      (or_home_bounded limits limits.rest (1 + length route) (scheduled_of s depot restless route) (held_to limits (scheduled_of s depot limits.rest route))
-      (held_bounded limits (scheduled_of s depot limits.rest route) (scheduled_bounded limits.rest u)) u (scheduled_bounded restless tt))
+      (or_home_bounded limits limits.rest (1 + length route) (scheduled_of s depot None route) (held_to limits (scheduled_of s depot limits.rest route))
+      (held_bounded limits (scheduled_of s depot limits.rest route) (scheduled_bounded limits.rest u)) u (scheduled_bounded None tt))
 
   -- an effective cost can be compared: it is a number, or the infinity of a round that is not allowed
   pub cost_number : (limits : RouteLimits) → RestBounded limits.rest → T (not (is_nan (effective_cost s depot limits route)))

@@ -1,5 +1,5 @@
 -- What the limits of a vehicle of the sheet are. They are unfolded here alone. Assumes nothing.
-use Rattle.std.specs.Prelude.{◌≡◌, refl, ℕ, ◌^◌, ◌<◌, Bool, true, false, ◌&&◌, cond, List, T, Float}
+use Rattle.std.specs.Prelude.{◌≡◌, refl, ℕ, ◌^◌, ◌<◌, Bool, true, false, ◌&&◌, cond, List, T, Float, Option, Some, None}
 use Rattle.std.proofs.Common.{sym, subst, lt_of_lt_of_le, arith}
 use Rattle.std.specs.Float.Ieee.{lt, le}
 use Rattle.numbers.specs.Laws.Upto.{Upto, widen, lt→le}
@@ -11,8 +11,6 @@ use Rattle.sheet.specs.Laws.Finite.{GateBounded, LimitBounded, stop_bounded}
 use Rattle.sheet.specs.Values.{rests_home_at, stop_of, vehicle_of}
 use Rattle.sheet.specs.declared.customer.Gate.{Gate}
 use Rattle.sheet.specs.declared.customer.Gate.TheVariants.{Open, Hard, Soft}
-use Rattle.sheet.specs.declared.vehicle.Limit.{Limit}
-use Rattle.sheet.specs.declared.vehicle.Limit.TheVariants.{Unlimited, Max}
 use Rattle.evaluation.specs.Limits.{latest_return, lower_of, limits_at, within_of, allow_of}
 
 -- the rest is the vehicle's own
@@ -25,7 +23,7 @@ unfolding limits_at
 limits_home s v = refl
 
 -- when the vehicle's rounds have to be home, by its own depot's row
-abbrev pub return_of : List ℕ → ℕ → Limit
+abbrev pub return_of : List ℕ → ℕ → Option Float
 return_of s v = latest_return (stop_of s (vehicle_of s v).depot).gate
 
 -- what is allowed: "Over a marked maximum fails."
@@ -40,26 +38,26 @@ home_row s v a h r = lt_of_lt_of_le (a.vehicle v h).depot (depots_few s r)
 
 -- ---- two limits in one
 -- what keeps the lower keeps both
-lower_keeps : (a b : Limit) (c : ℕ) (z : Float) → LimitBounded a → LimitBounded b → Upto c z → T (within_of (lower_of a b) z) → T (within_of a z) × T (within_of b z)
-lower_keeps Unlimited b c z u v w h = (tt, h)
-lower_keeps (Max x) Unlimited c z u v w h = (h, tt)
-lower_keeps (Max x) (Max y) c z u v w h = go (lt y x) refl h
+lower_keeps : (a b : Option Float) (c : ℕ) (z : Float) → LimitBounded a → LimitBounded b → Upto c z → T (within_of (lower_of a b) z) → T (within_of a z) × T (within_of b z)
+lower_keeps None b c z u v w h = (tt, h)
+lower_keeps (Some x) None c z u v w h = (h, tt)
+lower_keeps (Some x) (Some y) c z u v w h = go (lt y x) refl h
   where
-    go : (t : Bool) → lt y x ≡ t → T (within_of (cond t (Max y) (Max x)) z) → T (le z x) × T (le z y)
+    go : (t : Bool) → lt y x ≡ t → T (within_of (cond t (Some y) (Some x)) z) → T (le z x) × T (le z y)
     go true e h = (le_through c (10 ^ 12) (10 ^ 12) z y x w v u h (lt→le y x (subst T (sym e) tt)), h)
     go false e h = (h, le_through c (10 ^ 12) (10 ^ 12) z x y w u v h (not_below_le (10 ^ 12) (10 ^ 12) x y u v e))
 
 -- and what keeps both keeps the lower
-lower_kept : (a b : Limit) (z : Float) → T (within_of a z) → T (within_of b z) → T (within_of (lower_of a b) z)
-lower_kept Unlimited b z h k = k
-lower_kept (Max x) Unlimited z h k = h
-lower_kept (Max x) (Max y) z h k = go (lt y x)
+lower_kept : (a b : Option Float) (z : Float) → T (within_of a z) → T (within_of b z) → T (within_of (lower_of a b) z)
+lower_kept None b z h k = k
+lower_kept (Some x) None z h k = h
+lower_kept (Some x) (Some y) z h k = go (lt y x)
   where
-    go : (t : Bool) → T (within_of (cond t (Max y) (Max x)) z)
+    go : (t : Bool) → T (within_of (cond t (Some y) (Some x)) z)
     go true = k
     go false = h
 
-pub lower_within : (a b : Limit) (c : ℕ) (z : Float) → LimitBounded a → LimitBounded b → Upto c z → within_of (lower_of a b) z ≡ (within_of a z && within_of b z)
+pub lower_within : (a b : Option Float) (c : ℕ) (z : Float) → LimitBounded a → LimitBounded b → Upto c z → within_of (lower_of a b) z ≡ (within_of a z && within_of b z)
 lower_within a b c z u v w = go (within_of (lower_of a b) z) (within_of a z) (within_of b z) (lower_keeps a b c z u v w) (lower_kept a b z)
   where
     go : (p q r : Bool) → (T p → T q × T r) → (T q → T r → T p) → p ≡ (q && r)

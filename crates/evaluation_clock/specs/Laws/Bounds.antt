@@ -1,7 +1,7 @@
 -- The floats of one stop stay finite: each is at most a count of units of 2 ^ 30 (costs: of 2 ^ 50), and the count grows by a little with each stop.
 -- So none is a NaN, an infinity or negative. The first part holds the only laws that unfold what a window says of an arrival. Assumes nothing.
 use Rattle.std.proofs.Common.{subst, one-mul, arith}
-use Rattle.std.specs.Prelude.{ℕ, ◌+◌, ◌*◌, ◌^◌, ◌≤◌, ◌<◌, Bool, cond, Float}
+use Rattle.std.specs.Prelude.{ℕ, ◌+◌, ◌*◌, ◌^◌, ◌≤◌, ◌<◌, Bool, cond, Float, Option, Some, None}
 use Rattle.std.proofs.Math.Bool.{true, false}
 use Rattle.std.proofs.Math.Dec.{T}
 use Rattle.std.specs.Float.{binary64}
@@ -16,11 +16,8 @@ use Rattle.sheet.specs.declared.customer.Gate.{Gate}
 use Rattle.sheet.specs.declared.customer.Gate.TheVariants.{Open, Hard, Soft}
 use Rattle.sheet.specs.declared.customer.Stop.{Stop}
 use Rattle.sheet.specs.declared.vehicle.VehicleBreak.{VehicleBreak}
-use Rattle.evaluation_clock.specs.declared.label.RestAnswer.{RestAnswer}
-use Rattle.evaluation_clock.specs.declared.label.RestAnswer.TheVariants.{NoRest, Before}
+use Rattle.evaluation_clock.specs.RestAnswer.{RestAnswer}
 use Rattle.evaluation_clock.specs.declared.label.Label.{Label}
-use Rattle.evaluation_clock.specs.declared.label.Served.{Served}
-use Rattle.evaluation_clock.specs.declared.label.Served.TheVariants.{Done, Refused}
 use Rattle.evaluation_clock.specs.Sums.{◌⊕◌, ◌⊖◌, ◌⊗◌}
 use Rattle.evaluation_clock.specs.Window.{violated_of, waiting_of, lateness_of}
 use Rattle.evaluation_clock.specs.Serve.{leaving_at, late_by, rested_at, departure_of, pass, visit_of, later_of, serve_of, serve_rested}
@@ -63,8 +60,8 @@ late_positive w arrival n ok u f g t =
 
 -- ---- a label
 abbrev pub AnswerBounded : ℕ → RestAnswer → Type 0
-AnswerBounded n NoRest = Unit
-AnswerBounded n (Before place start) = Times n start
+AnswerBounded n None = Unit
+AnswerBounded n (Some (place, start)) = Times n start
 
 -- a times at most, late by b of them at most
 pub record LabelBounded (a b : ℕ) (l : Label) : Type 0 where
@@ -73,13 +70,13 @@ pub record LabelBounded (a b : ℕ) (l : Label) : Type 0 where
   pub cost : Costs b l.lateness_cost
   pub rest : AnswerBounded a l.rest
 
-abbrev pub ServedBounded : ℕ → ℕ → Served → Type 0
-ServedBounded a b (Done l) = LabelBounded a b l
-ServedBounded a b Refused = Unit
+abbrev pub ServedBounded : ℕ → ℕ → Option Label → Type 0
+ServedBounded a b (Some l) = LabelBounded a b l
+ServedBounded a b None = Unit
 
 pub answer_widen : (a b : ℕ) (r : RestAnswer) → a ≤ b → AnswerBounded a r → AnswerBounded b r
-answer_widen a b NoRest h u = tt
-answer_widen a b (Before place x) h u = widen_units 30 a b x h u
+answer_widen a b None h u = tt
+answer_widen a b (Some (place, x)) h u = widen_units 30 a b x h u
 
 pub label_widen : (a b c d : ℕ) (l : Label) → a ≤ c → b ≤ d → LabelBounded a b l → LabelBounded c d l
 label_widen a b c d l h k ok = record {
@@ -89,9 +86,9 @@ label_widen a b c d l h k ok = record {
   rest = answer_widen a c l.rest h ok.rest;
 }
 
-served_widen : (a b c d : ℕ) (x : Served) → a ≤ c → b ≤ d → ServedBounded a b x → ServedBounded c d x
-served_widen a b c d (Done l) h k ok = label_widen a b c d l h k ok
-served_widen a b c d Refused h k ok = tt
+served_widen : (a b c d : ℕ) (x : Option Label) → a ≤ c → b ≤ d → ServedBounded a b x → ServedBounded c d x
+served_widen a b c d (Some l) h k ok = label_widen a b c d l h k ok
+served_widen a b c d None h k ok = tt
 
 -- ---- one stop: the wait and the service add two times, and the lateness grows by the arrival at most
 departure_bounded : (w : Window) (arrival service : Float) (n : ℕ) → n < 2 ^ 40 → WindowBounded w → Times n arrival → Times 1 service → Times (n + 1 + 1) (departure_of w arrival service)
@@ -133,14 +130,14 @@ module _ (a b n : ℕ) (l : Label) (arrival : Float) (s : Stop) (an : a ≤ n) (
       (widen_units 30 (n + 1) (n + 1 + 1) (arrival ⊕ s.service) (omega arith) (add_units 30 n 1 arrival s.service (omega arith) (omega arith) here serving))
   pass_bounded (Hard w) gok = go (violated_of w arrival)
     where
-      go : (t : Bool) → ServedBounded (n + 1 + 1) (b + n) (cond t Refused (Done (leaving_at l (departure_of w arrival s.service))))
+      go : (t : Bool) → ServedBounded (n + 1 + 1) (b + n) (cond t None (Some (leaving_at l (departure_of w arrival s.service))))
       go true = tt
       go false = in_time_bounded w gok
   pass_bounded (Soft w p) gok = go (violated_of w arrival) (λ (t : T (violated_of w arrival)). t)
     where
       go : (t : Bool) → (T t → T (violated_of w arrival)) → ServedBounded (n + 1 + 1) (b + n) (cond t
-          (Done (leaving_at (late_by l p (lateness_of w arrival)) (departure_of w arrival s.service)))
-          (Done (leaving_at l (departure_of w arrival s.service))))
+          (Some (leaving_at (late_by l p (lateness_of w arrival)) (departure_of w arrival s.service)))
+          (Some (leaving_at l (departure_of w arrival s.service))))
       go true f = late_bounded w p gok.0 gok.1 (f tt)
       go false f = in_time_bounded w gok.0
 
@@ -178,7 +175,7 @@ module _ (a b : ℕ) (l : Label) (travel : Float) (s : Stop) (an : a ≤ 996) (b
     unfolding serve_rested start
     rested_bounded = go (lt r.latest start)
       where
-        go : (t : Bool) → ServedBounded (a + 4) (b + 1000) (cond t Refused (visit_of (rested_at l place start) (start ⊕ r.duration) s))
+        go : (t : Bool) → ServedBounded (a + 4) (b + 1000) (cond t None (visit_of (rested_at l place start) (start ⊕ r.duration) s))
         go true = tt
         go false =
             visit_bounded (a + 1) b (a + 2) (rested_at l place start) (start ⊕ r.duration) s (omega arith) (omega arith) (omega arith) rested_label

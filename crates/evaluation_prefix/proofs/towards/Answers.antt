@@ -10,5 +10,5 @@ over-requires-clause-routed c = part_routed _ _ _ c.args.round.now c.args.from.s
 pub over-requires-clause-missed_value : goal.over-requires-clause-missed_value
 over-requires-clause-missed_value c = (c.if-from.false, omega (arith, c.requires.stops_le_k, c.requires.routed.few))
 
-pub returns-in-NoRest : goal.returns-in-NoRest
-returns-in-NoRest c = ((λ depot g. nearer _ _ _ _ _ g _ _ c.requires.stops_le_k.0 c.requires.stops_le_k.1 c.in-NoRest.is c.if-from.false c.over.ensures), omega (arith, there _ c.args.round.now _ _ _ c.requires.stops_le_k.0 c.requires.stops_le_k.1 c.over.ensures))
+pub returns-in-None : goal.returns-in-None
+returns-in-None c = ((λ depot g. nearer _ _ _ _ _ g _ _ c.requires.stops_le_k.0 c.requires.stops_le_k.1 c.in-None.is c.if-from.false c.over.ensures), omega (arith, there _ c.args.round.now _ _ _ c.requires.stops_le_k.0 c.requires.stops_le_k.1 c.over.ensures))

@@ -1,48 +1,10 @@
 -- `evaluator::build_route` meets its contract. Assumes nothing.
-use mathlib.Core.Path.{refl}
-use Prim.Native.Nat.{◌<◌}
-use native.Mathlib.Omega.{arith}
-use lib.ListN.{length}
 use Rattle.evaluator.specs.Record.{build_route}
-use Rattle.evaluator.proofs.Going.{begins, driven, ends, goes_on}
 use Rattle.evaluator.proofs.build_route.Goals as goal
 
-pub place_rest-placed-requires : goal.place_rest-placed-requires
-place_rest-placed-requires c = c.requires
-
-pub loop-i-init : goal.loop-i-init
-loop-i-init c = (refl, rw c.new-progress.ensures (begins c.args.sheet.now c.args.depot c.place_rest-placed.result c.args.route.now c.requires))
-
-pub offset_bounds-route-i : goal.offset_bounds-route-i
-offset_bounds-route-i c = omega arith
-
-pub bounds-route-i : goal.bounds-route-i
-bounds-route-i c = omega (arith, c.loop-i.invariant.0)
-
-pub overflow_cast-route : goal.overflow_cast-route
-overflow_cast-route c = omega (arith, c.shared_slice_known-in-loop-i-1.given c.loop-i.i)
-
-pub visited-progress-requires : goal.visited-progress-requires
-visited-progress-requires c = let h : c.loop-i.i < length c.args.route.now = omega (arith, c.loop-i.invariant.0) in record {
-  driven = driven c.args.sheet.now c.args.depot c.place_rest-placed.result c.args.route.now c.requires c.loop-i.progress c.loop-i.i c.loop-i.invariant.1 h;
-  row_bound = c.requires.row c.loop-i.i h;
-}
-
-pub overflow_step-i : goal.overflow_step-i
-overflow_step-i c = omega arith
-
-pub loop-i-smaller : goal.loop-i-smaller
-loop-i-smaller c = omega arith
-
-pub loop-i-preserved : goal.loop-i-preserved
-loop-i-preserved c = (c.loop-i.invariant.0, goes_on c.args.sheet.now c.args.depot c.place_rest-placed.result c.args.route.now c.requires c.loop-i.progress c.visited-progress.result c.loop-i.i c.loop-i.invariant.1 (omega (arith, c.loop-i.invariant.0)) c.visited-progress.ensures)
-
-pub record-requires-clause-accepted : goal.record-requires-clause-accepted
-record-requires-clause-accepted c = c.requires.sheet
-
-pub record-requires-clause-prev_bound : goal.record-requires-clause-prev_bound
-record-requires-clause-prev_bound c = (c.loop-i.invariant.1.from, c.requires.home)
+pub record-requires : goal.record-requires
+record-requires c = record { accepted = c.requires.sheet; prev_bound = (c.progress_after.ensures.prev_bound, c.requires.home) }
 
 pub returns : goal.returns
 unfolding build_route
-returns c = rw (c.«record».ensures, ends c.args.sheet.now c.args.depot c.place_rest-placed.result c.args.route.now c.requires c.loop-i.progress c.loop-i.i c.loop-i.invariant.1 (omega (arith, c.loop-i.invariant.0, c.loop-i-test)), c.place_rest-placed.ensures)
+returns c = rw (c.«record».ensures, c.progress_after.ensures.value, c.place_rest-placed.ensures)

@@ -5,12 +5,12 @@ use Rattle.evaluator.proofs.ready_for.Goals as goal
 
 pub returns-then-at-place : goal.returns-then-at-place
 unfolding ready_for
-returns-then-at-place c = rw (c.in-Before.is, eq-eqb _ _ c.if-at-place.true)
+returns-then-at-place c = rw (c.in-Some.is, eq-eqb _ _ c.if-at-place.true)
 
-pub returns-in-NoRest : goal.returns-in-NoRest
+pub returns-in-None : goal.returns-in-None
 unfolding ready_for
-returns-in-NoRest c = rw c.in-NoRest.is
+returns-in-None c = rw c.in-None.is
 
 pub returns-else-at-place : goal.returns-else-at-place
 unfolding ready_for
-returns-else-at-place c = rw (c.in-Before.is, ne_eqb _ _ c.if-at-place.false)
+returns-else-at-place c = rw (c.in-Some.is, ne_eqb _ _ c.if-at-place.false)

@@ -1,6 +1,6 @@
 -- Every figure of a record is finite and not negative on every accepted sheet, so that it can be written. Times are counted in units of 2 ^ 30, costs of
 -- lateness in units of 2 ^ 50, a plan's price in units of 2 ^ 70: no count comes near 2 ^ 53, where it would be rounded. Assumes nothing.
-use Rattle.std.specs.Prelude.{◌≡◌, Bool, cond, ltb, eqb, length, get_or, Float}
+use Rattle.std.specs.Prelude.{◌≡◌, Bool, cond, ltb, eqb, length, get_or, Float, Option, Some, None}
 use Rattle.std.proofs.Math.Path.{sym, ap, subst}
 use Rattle.std.proofs.Common.{◌∙◌, add-mul, add-zero, zero-add, zero-mul, mul-one, mul-le-mul_left, inl, inr, le-ltb}
 use Prim.Native.Nat.{ℕ, suc, ◌+◌, ◌-◌, ◌*◌, ◌^◌, ◌≤◌, ◌<◌, zero-le, suc-le-suc}
@@ -18,8 +18,6 @@ use Rattle.sheet.specs.Fields.{rows_of, most_rows}
 use Rattle.sheet.specs.Accepted.{Accepted}
 use Rattle.sheet.specs.Values.{stop_of, distance_of, time_of}
 use Rattle.sheet.specs.Laws.Finite.{GateBounded, RestBounded, VehicleBounded, stop_bounded, distance_bounded, time_bounded}
-use Rattle.sheet.specs.declared.vehicle.Rest.{Rest}
-use Rattle.sheet.specs.declared.vehicle.Rest.TheVariants.{NoRest as Unrested, Required}
 use Rattle.sheet.specs.declared.vehicle.Vehicle.{Vehicle}
 use Rattle.sheet.specs.declared.customer.Gate.{Gate}
 use Rattle.sheet.specs.declared.customer.Gate.TheVariants.{Open, Hard, Soft}
@@ -34,15 +32,13 @@ use Rattle.evaluation.specs.Laws.Verdict.{held_none, held_rest}
 use Rattle.evaluation.specs.declared.limits.RouteLimits.{RouteLimits}
 use Rattle.evaluation.specs.Routed.{Routed}
 use Rattle.evaluation_clock.specs.declared.clock.Schedule.{Schedule}
-use Rattle.evaluation_clock.specs.declared.clock.Scheduled.{Scheduled}
-use Rattle.evaluation_clock.specs.declared.clock.Scheduled.TheVariants.{Found, NotFound}
-use Rattle.evaluation_clock.specs.declared.label.RestAnswer.{RestAnswer}
-use Rattle.evaluation_clock.specs.declared.label.RestAnswer.TheVariants.{NoRest, Before}
+use Rattle.evaluation_clock.specs.RestAnswer.{RestAnswer}
 use Rattle.evaluator.specs.declared.Progress.{Progress}
 use Rattle.evaluator.specs.declared.Placed.{Placed}
 use Rattle.evaluator.specs.declared.Record.{Record}
 use Rattle.evaluator.specs.Laws.Home.{Told, kept_or_mended}
 use Rattle.evaluator.specs.Record.{placed_by, placed_of, ready_for, departs_at, late_after, cost_after, begin_of, visited_of, progress_of, record_of, build_route, route_cost, price_start, price_with}
+use Rattle.sheet.specs.declared.vehicle.VehicleBreak.{VehicleBreak}
 
 -- ---- a visit, of a stop that the vehicle is ready for at `ready`
 module _ (n : ℕ) (ready : Float) (few : n < 2 ^ 40) (here : Times n ready) where
@@ -79,8 +75,8 @@ module _ (n : ℕ) (ready : Float) (few : n < 2 ^ 40) (here : Times n ready) whe
 
 -- ---- the record so far, after i stops, where the rest starts at k units at the most
 abbrev pub StartBounded : ℕ → RestAnswer → Type 0
-StartBounded k NoRest = Unit
-StartBounded k (Before at start) = Times k start
+StartBounded k None = Unit
+StartBounded k (Some (at, start)) = Times k start
 
 -- what a stop adds to the lateness at the most
 abbrev late : ℕ → ℕ
@@ -98,8 +94,8 @@ begin_bounded k depot = record { arrival = zero_upto _; departure = zero_upto _;
 
 ready_bounded : (k n : ℕ) (r : RestAnswer) (duration : Float) (place : ℕ) (arrival : Float) → k < 2 ^ 30 → k + 1 ≤ n → StartBounded k r → Times 1 duration → Times n arrival → Times n (ready_for r duration place arrival)
 unfolding ready_for
-ready_bounded k n NoRest duration place arrival h l u v w = w
-ready_bounded k n (Before at start) duration place arrival h l u v w =
+ready_bounded k n None duration place arrival h l u v w = w
+ready_bounded k n (Some (at, start)) duration place arrival h l u v w =
     pick_upto (n * 2 ^ 30) (eqb at place) (start ⊕ duration) arrival (widen_units 30 (k + 1) n (start ⊕ duration) l (add_units 30 k 1 start duration (omega arith) (omega arith) u v)) w
 
 module _ (s : List ℕ) (a : Accepted s) (k : ℕ) (small : k < 2 ^ 20) (t : Placed) (start : StartBounded k t.answer) (resting : Times 1 t.duration) where
@@ -157,17 +153,17 @@ record_of_bounded s a k depot t p n small few home from start resting b = record
 
 -- ---- the rest that a round takes starts within 2 ^ 40, which is 1024 units
 start_bounded_by : (r : RestAnswer) → Upto (2 ^ 40) (rest_start r) → StartBounded 1024 r
-start_bounded_by NoRest v = tt
-start_bounded_by (Before at start) v = v
+start_bounded_by None v = tt
+start_bounded_by (Some (at, start)) v = v
 
-answer_bounded : (limits : RouteLimits) (x : Scheduled) → ScheduledBounded x → StartBounded 1024 (placed_rest (held_to limits x))
-answer_bounded limits NotFound u = rw (held_none limits) tt
-answer_bounded limits (Found k) u = subst (StartBounded 1024) (sym (held_rest limits k)) (start_bounded_by k.rest u.rest)
+answer_bounded : (limits : RouteLimits) (x : Option Schedule) → ScheduledBounded x → StartBounded 1024 (placed_rest (held_to limits x))
+answer_bounded limits None u = rw (held_none limits) tt
+answer_bounded limits (Some k) u = subst (StartBounded 1024) (sym (held_rest limits k)) (start_bounded_by k.rest u.rest)
 
 module _ (s : List ℕ) (depot : ℕ) (route : List ℕ) (ok : Routed s depot route) where
-  rest_bounded : (v : Verdict) → StartBounded 1024 (placed_rest v) → (rest : Rest) → RestBounded rest → StartBounded 1024 (placed_by rest v).answer × Times 1 (placed_by rest v).duration
-  rest_bounded v a Unrested u = (tt, zero_upto (1 * 2 ^ 30))
-  rest_bounded v a (Required b) u = (a, one_time b.duration u.duration)
+  rest_bounded : (v : Verdict) → StartBounded 1024 (placed_rest v) → (rest : Option VehicleBreak) → RestBounded rest → StartBounded 1024 (placed_by rest v).answer × Times 1 (placed_by rest v).duration
+  rest_bounded v a None u = (tt, zero_upto (1 * 2 ^ 30))
+  rest_bounded v a (Some b) u = (a, one_time b.duration u.duration)
 
   -- where the verdict has it, a round mended by it at home too
   verdict_bounded : (limits : RouteLimits) → RestBounded limits.rest → StartBounded 1024 (placed_rest (verdict_on s depot limits route))
@@ -177,7 +173,7 @@ module _ (s : List ℕ) (depot : ℕ) (route : List ℕ) (ok : Routed s depot ro
       go (inl e) = subst (λ (v : Verdict). StartBounded 1024 (placed_rest v)) (sym e) (answer_bounded limits (scheduled_of s depot limits.rest route) (scheduled_bounded s depot route ok limits.rest u))
       go (inr m) =
           let w = m.how in
-          let c = subst ScheduledBounded w.walked (scheduled_bounded s depot route ok Unrested tt) in
+          let c = subst ScheduledBounded w.walked (scheduled_bounded s depot route ok None tt) in
           let k = mended_bounded limits w.b (1 + length route) w.j (subst RestBounded w.resting u) c w.fits in
           subst (λ (v : Verdict). StartBounded 1024 (placed_rest v)) (sym m.is) (start_bounded_by m.k.rest (subst (λ (k : Schedule). Upto (2 ^ 40) (rest_start k.rest)) w.is k.rest))
 

@@ -1,5 +1,5 @@
 -- A pick is a stop of those pending, a round, and a place of that round where the stop may stand; the round that is dropped is one of the rounds. Assumes nothing.
-use Rattle.std.specs.Prelude.{◌≡◌, refl, Bool, not, ◌||◌, cond, Float, length}
+use Rattle.std.specs.Prelude.{◌≡◌, refl, Bool, not, ◌||◌, cond, Float, length, Some, None}
 use Rattle.std.proofs.Common.{sym, ◌∙◌, subst, add-zero, zero-add, zero-lt-suc}
 use Rattle.std.proofs.Math.Path.{ap}
 use Prim.Native.Nat.{ℕ, zero, suc, ◌+◌, ◌≤◌, ◌<◌, suc-le-suc}
@@ -13,11 +13,9 @@ use Rattle.lists.specs.Moved.{inserted}
 use Rattle.constructive.specs.Outcome.{Round, round_at}
 use Rattle.constructive.specs.Rounds.{passes}
 use Rattle.insertion.specs.Lawful.{load_fits, lawful_place}
-use Rattle.insertion.specs.declared.choice.Choice.{Choice}
-use Rattle.insertion.specs.declared.choice.Choice.TheVariants.{Nowhere, Best}
+use Rattle.insertion.specs.Choice.{Choice}
 use Rattle.insertion.specs.Place.{judged, wins, better_place}
-use Rattle.fleet.specs.declared.Pick.{Pick}
-use Rattle.fleet.specs.declared.Pick.TheVariants.{Nothing, Put}
+use Rattle.fleet.specs.Pick.{Pick}
 use Rattle.fleet.specs.Cheapest.{insertion_cost, judge_at, places_from, takes, in_round, insertion_from, cheapest_insertion, cheaper, pick_with, pick_from, pick_of}
 use Rattle.fleet.specs.Limit.{lesser, Least, least_with, least_from, victim_of}
 
@@ -39,15 +37,15 @@ place_lawful s soft rounds row i k p =
     and_i within (passes s 0 v (inserted k row stops)) (and_l within (not soft || passes s 0 v stops) p.taken) p.passed
 
 abbrev pub Chosen : List ℕ → Bool → List Round → ℕ → Choice → Type 0
-Chosen s soft rounds row Nowhere = Unit
-Chosen s soft rounds row (Best i k cost) = Place s soft rounds row i k
+Chosen s soft rounds row None = Unit
+Chosen s soft rounds row (Some (i, k, cost)) = Place s soft rounds row i k
 
 module _ (s : List ℕ) (soft : Bool) (rounds : List Round) (row : ℕ) where
   better_chosen : (c : Choice) (i k : ℕ) (b : Bool) (cost : Float) → (T b → Place s soft rounds row i k) → Chosen s soft rounds row c → Chosen s soft rounds row (better_place c i k (judged b cost))
   better_chosen c i k false cost f u = u
   better_chosen c i k true cost f u = go (wins cost c)
     where
-      go : (b : Bool) → Chosen s soft rounds row (cond b (Best i k cost) c)
+      go : (b : Bool) → Chosen s soft rounds row (cond b (Some (i, k, cost)) c)
       go true = f tt
       go false = u
 
@@ -82,19 +80,19 @@ module _ (s : List ℕ) (soft : Bool) (rounds : List Round) (row : ℕ) where
       (subst (λ (q : Round). Chosen s soft rounds row (in_round s soft row c i q)) (sym here) (round_chosen c i (omega (arith, h)) u))
 
   pub insertion_chosen : Chosen s soft rounds row (cheapest_insertion s soft rounds row)
-  insertion_chosen = rounds_chosen rounds Nowhere 0 (omega arith) (λ k h. ap (round_at rounds) (sym (zero-add k))) tt
+  insertion_chosen = rounds_chosen rounds None 0 (omega arith) (λ k h. ap (round_at rounds) (sym (zero-add k))) tt
 
 -- ---- the stops pending
 abbrev pub Picked : List ℕ → Bool → List Round → List ℕ → Pick → Type 0
-Picked s soft rounds pending Nothing = Unit
-Picked s soft rounds pending (Put j i k cost) = (j < length pending) × Place s soft rounds (get_or pending j 0) i k
+Picked s soft rounds pending None = Unit
+Picked s soft rounds pending (Some (j, i, k, cost)) = (j < length pending) × Place s soft rounds (get_or pending j 0) i k
 
 module _ (s : List ℕ) (soft : Bool) (rounds : List Round) (pending : List ℕ) where
   with_picked : (p : Pick) (j : ℕ) (c : Choice) → j < length pending → Chosen s soft rounds (get_or pending j 0) c → Picked s soft rounds pending p → Picked s soft rounds pending (pick_with p j c)
-  with_picked p j Nowhere h e u = u
-  with_picked p j (Best i k cost) h e u = go (cheaper cost p)
+  with_picked p j None h e u = u
+  with_picked p j (Some (i, k, cost)) h e u = go (cheaper cost p)
     where
-      go : (b : Bool) → Picked s soft rounds pending (cond b (Put j i k cost) p)
+      go : (b : Bool) → Picked s soft rounds pending (cond b (Some (j, i, k, cost)) p)
       go true = (h, e)
       go false = u
 
@@ -111,7 +109,7 @@ module _ (s : List ℕ) (soft : Bool) (rounds : List Round) (pending : List ℕ)
       (with_picked p j c (omega (arith, h)) (subst (λ (i : ℕ). Chosen s soft rounds i c) here (insertion_chosen s soft rounds row)) u)
 
   pub pick_picked : Picked s soft rounds pending (pick_of s soft rounds pending)
-  pick_picked = rows_picked pending Nothing 0 (omega arith) (λ k h. ap (λ (n : ℕ). get_or pending n 0) (sym (zero-add k))) tt
+  pick_picked = rows_picked pending None 0 (omega arith) (λ k h. ap (λ (n : ℕ). get_or pending n 0) (sym (zero-add k))) tt
 
 -- ---- the round that is dropped
 pub record Among (rounds : List Round) (l : Least) : Type 0 where

@@ -1,5 +1,5 @@
 -- What each stop put into a round keeps, and each round dropped, the limiter keeps. Assumes nothing.
-use Rattle.std.specs.Prelude.{◌≡◌, Bool, cond, List, get_or}
+use Rattle.std.specs.Prelude.{◌≡◌, Bool, cond, List, get_or, Some, None}
 use Rattle.std.proofs.Math.Path.{refl}
 use Prim.Native.Nat.{ℕ, zero, suc, ◌<◌}
 use Rattle.std.proofs.Common.{arith}
@@ -9,8 +9,7 @@ use Rattle.std.proofs.Math.ListN.{length}
 use borrow.Author.Tests.{ltb-true}
 use Rattle.lists.specs.Moved.{without}
 use Rattle.constructive.specs.Outcome.{Outcome}
-use Rattle.fleet.specs.declared.Pick.{Pick}
-use Rattle.fleet.specs.declared.Pick.TheVariants.{Nothing, Put}
+use Rattle.fleet.specs.Pick.{Pick}
 use Rattle.fleet.specs.Cheapest.{pick_of}
 use Rattle.fleet.specs.Limit.{put_in, Refit, refit_by, refit, refit_on, drop_round, limit_on}
 use Rattle.fleet.specs.Laws.Bounds.{Place, Picked, pick_picked}
@@ -22,8 +21,8 @@ module _ (s : List ℕ) (soft : Bool) (P : Refit → Type 0) where
       → P (record { rounds = put_in i k (get_or x.pending j 0) x.rounds; pending = without j x.pending })
 
   refit_by_kept : Refits → (x : Refit) (p : Pick) → Picked s soft x.rounds x.pending p → P x → P (refit_by x p)
-  refit_by_kept f x Nothing h u = u
-  refit_by_kept f x (Put j i k cost) h u = f x j i k h.0 h.1 u
+  refit_by_kept f x None h u = u
+  refit_by_kept f x (Some (j, i, k, cost)) h u = f x j i k h.0 h.1 u
 
   pub refit_on_kept : Refits → (n : ℕ) (x : Refit) → P x → P (refit_on s soft n x)
   unfolding refit_on refit

@@ -27,10 +27,10 @@ pub returns-in_default : goal.returns-in_default
 returns-in_default c = rests _ _ _ _ _ _ _ _ _ _ c.loop-j.invariant _ c.choose.ensures c.in_default.is
 
 pub put_in-requires : goal.put_in-requires
-put_in-requires c = enters _ _ _ _ _ _ _ _ _ _ c.loop-j.invariant _ c.choose.ensures _ _ _ _ c.in-Put.is
+put_in-requires c = enters _ _ _ _ _ _ _ _ _ _ c.loop-j.invariant _ c.choose.ensures _ _ _ _ c.in-Some.is
 
 pub loop-j-smaller : goal.loop-j-smaller
-loop-j-smaller c = fewer _ _ _ _ _ _ _ _ _ _ c.loop-j.invariant _ c.choose.ensures _ _ _ _ c.in-Put.is _ _ c.put_in.ensures c.put_in.auto.stops
+loop-j-smaller c = fewer _ _ _ _ _ _ _ _ _ _ c.loop-j.invariant _ c.choose.ensures _ _ _ _ c.in-Some.is _ _ c.put_in.ensures c.put_in.auto.stops
 
 pub loop-j-preserved : goal.loop-j-preserved
-loop-j-preserved c = goes_on _ _ _ _ _ _ _ _ _ _ c.loop-j.invariant _ c.choose.ensures _ _ _ _ c.in-Put.is _ _ c.put_in.ensures c.put_in.auto.stops _ c.put_in.auto.ends c.choose.auto.trial
+loop-j-preserved c = goes_on _ _ _ _ _ _ _ _ _ _ c.loop-j.invariant _ c.choose.ensures _ _ _ _ c.in-Some.is _ _ c.put_in.ensures c.put_in.auto.stops _ c.put_in.auto.ends c.choose.auto.trial

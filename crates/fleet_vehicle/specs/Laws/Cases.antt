@@ -1,14 +1,12 @@
 -- Three vehicles, two of one id, computed from the definition.
-use Rattle.std.specs.Prelude.{◌≡◌, refl, ℕ, List, [], ◌∷◌}
+use Rattle.std.specs.Prelude.{◌≡◌, refl, ℕ, List, [], ◌∷◌, None}
 use Rattle.sheet.specs.declared.vehicle.Vehicle.{Vehicle}
-use Rattle.sheet.specs.declared.vehicle.Limit.TheVariants.{Unlimited}
-use Rattle.sheet.specs.declared.vehicle.Rest.TheVariants.{NoRest}
 use Rattle.sheet.specs.Values.{nought}
 use Rattle.fleet_vehicle.specs.Find.{with_id, fleet_vehicle}
 
 -- by its id and its capacity
 abbrev carrying : ℕ → ℕ → Vehicle
-carrying id capacity = record { id = id; depot = 0; capacity = capacity; cost_per_distance = nought; fixed_cost = nought; max_distance = Unlimited; max_duration = Unlimited; rest = NoRest }
+carrying id capacity = record { id = id; depot = 0; capacity = capacity; cost_per_distance = nought; fixed_cost = nought; max_distance = None; max_duration = None; rest = None }
 
 abbrev three : List Vehicle
 three = carrying 7 1 ∷ carrying 8 2 ∷ carrying 8 3 ∷ []

@@ -1,11 +1,10 @@
 -- How a place is judged: what costs no less than the best so far need not be walked, and without soft windows the walk alone decides. Assumes nothing.
-use Rattle.std.specs.Prelude.{◌≡◌, ℕ, Bool, ◌&&◌, cond, List, Float}
+use Rattle.std.specs.Prelude.{◌≡◌, ℕ, Bool, ◌&&◌, cond, List, Float, Some}
 use Rattle.std.proofs.Math.Path.{refl}
 use Rattle.std.proofs.Math.Bool.{true, false}
 use Rattle.lists.specs.Moved.{inserted}
 use Rattle.constructive.specs.declared.terms.Terms.{Terms}
-use Rattle.insertion.specs.declared.choice.Choice.{Choice}
-use Rattle.insertion.specs.declared.choice.Choice.TheVariants.{Best}
+use Rattle.insertion.specs.Choice.{Choice}
 use Rattle.insertion.specs.Place.{feasible_in, detour, judged, judge, wins, better_place}
 
 -- ---- whatever the walk says
@@ -13,7 +12,7 @@ pub dear_skipped : (c : Choice) (j k : ℕ) (b : Bool) (cost : Float) → wins c
 dear_skipped c j k true cost e = rw e
 dear_skipped c j k false cost e = refl
 
-pub cheap_walked : (c : Choice) (j k : ℕ) (b : Bool) (cost : Float) → wins cost c ≡ true → better_place c j k (judged b cost) ≡ cond b (Best j k cost) c
+pub cheap_walked : (c : Choice) (j k : ℕ) (b : Bool) (cost : Float) → wins cost c ≡ true → better_place c j k (judged b cost) ≡ cond b (Some (j, k, cost)) c
 cheap_walked c j k true cost e = rw e
 cheap_walked c j k false cost e = refl
 

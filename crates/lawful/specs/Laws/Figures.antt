@@ -1,6 +1,6 @@
 -- "on whole numbers below 2^53 the sums are exact": the figures of a round's schedule and of its record are those of the walk over natural numbers
 -- with the rest where they have it. Assumes nothing.
-use Rattle.std.specs.Prelude.{◌≡◌, Bool, cond, ◌⊎◌}
+use Rattle.std.specs.Prelude.{◌≡◌, Bool, cond, ◌⊎◌, Option, Some, None, is_some}
 use Rattle.std.proofs.Math.Path.{refl, sym, ap, subst}
 use Rattle.std.proofs.Common.{◌∙◌, zero-add, add-zero, add_assoc, inl, inr, eq-eqb, ne_eqb, le-ltb}
 use Prim.Native.Nat.{ℕ, suc, ◌+◌, ◌≤◌, ◌<◌, zero-le}
@@ -16,25 +16,16 @@ use Rattle.wire.specs.Bytes.{f64_at}
 use Rattle.sheet.specs.Fields.{rows_of, vehicles_of, most_rows}
 use Rattle.sheet.specs.Accepted.{Accepted}
 use Rattle.sheet.specs.Values.{nought, distance_of, time_of, stop_of, rest_of, rest_after, vehicle_of}
-use Rattle.sheet.specs.declared.vehicle.Rest.{Rest}
-use Rattle.sheet.specs.declared.vehicle.Rest.TheVariants.{NoRest as restless, Required}
 use Rattle.sheet.specs.declared.vehicle.VehicleBreak.{VehicleBreak}
 use Rattle.evaluation_clock.specs.declared.label.Label.{Label}
-use Rattle.evaluation_clock.specs.declared.label.Served.{Served}
-use Rattle.evaluation_clock.specs.declared.label.Served.TheVariants.{Done, Refused}
-use Rattle.evaluation_clock.specs.declared.label.RestAnswer.{RestAnswer}
-use Rattle.evaluation_clock.specs.declared.label.RestAnswer.TheVariants.{NoRest, Before}
+use Rattle.evaluation_clock.specs.RestAnswer.{RestAnswer}
 use Rattle.evaluation_clock.specs.declared.clock.Schedule.{Schedule}
-use Rattle.evaluation_clock.specs.declared.clock.Scheduled.{Scheduled}
-use Rattle.evaluation_clock.specs.declared.clock.Scheduled.TheVariants.{Found, NotFound}
 use Rattle.evaluation_clock.specs.Sums.{◌⊕◌}
-use Rattle.evaluation.specs.declared.RouteEval.{RouteEval}
-use Rattle.evaluation.specs.declared.RouteEval.TheVariants.{Allowed, NotAllowed}
 use Rattle.evaluation.specs.Routed.{Routed}
 use Rattle.evaluation.specs.Limits.{limits_at}
 use Rattle.evaluation.specs.Laws.Limits.{limits_rest}
 use Rattle.evaluation.specs.Verdict.{home_start, mends, rested_home}
-use Rattle.evaluation.specs.Feasible.{route_eval, is_allowed}
+use Rattle.evaluation.specs.Feasible.{route_eval}
 use Rattle.evaluation.specs.Laws.Walk.{plain_walk}
 use Rattle.evaluation.specs.Laws.Verdict.{Mended, allowed_feasible, allowed_figures}
 use Rattle.evaluation_clock.specs.Serve.{rest_place, at_depot, rested_at, later_of, pass, serve_of, serve_rested}
@@ -59,18 +50,18 @@ gone t e = let z : ◌≡◌ {A = ℕ} 0 1 = cc in omega arith
 
 -- ---- a stop keeps the rest that a label has
 module _ (l : Label) (travel : Float) (i : ℕ) (s : List ℕ) where
-  step_keeps : (m : Label) → serve_of l travel (stop_of s i) ≡ Done m → m.rest ≡ l.rest
+  step_keeps : (m : Label) → serve_of l travel (stop_of s i) ≡ Some m → m.rest ≡ l.rest
   unfolding serve_of
   step_keeps m e = sym (passed (stop_of s i).gate (l.time ⊕ travel) (stop_of s i).service l m e).rest
 
-  rested_keeps : (b : VehicleBreak) (place : ℕ) (m : Label) → serve_rested l travel (stop_of s i) place b ≡ Done m → m.rest ≡ Before place (later_of (l.time ⊕ travel) b.earliest)
+  rested_keeps : (b : VehicleBreak) (place : ℕ) (m : Label) → serve_rested l travel (stop_of s i) place b ≡ Some m → m.rest ≡ Some (place, (later_of (l.time ⊕ travel) b.earliest))
   unfolding serve_rested
   rested_keeps b place m e = go (lt b.latest start) e
     where
       start : Float
       start = later_of (l.time ⊕ travel) b.earliest
 
-      go : (t : Bool) → cond t Refused (pass (rested_at l place start) (start ⊕ b.duration) (stop_of s i).service (stop_of s i).gate) ≡ Done m → m.rest ≡ Before place start
+      go : (t : Bool) → cond t None (pass (rested_at l place start) (start ⊕ b.duration) (stop_of s i).service (stop_of s i).gate) ≡ Some m → m.rest ≡ Some (place, start)
       go true e = absurd (not_done m e)
       go false e = sym (passed (stop_of s i).gate (start ⊕ b.duration) (stop_of s i).service (rested_at l place start) m e).rest
 
@@ -115,12 +106,12 @@ module _ (s : List ℕ) (v : ℕ) (round : List ℕ) where
   }
 
   -- a label after one stop more, whose rest stands as `r` says
-  behind_next : (n i : ℕ) (is : List ℕ) (r : RestAnswer) (w : Walk) (z : Served) → rest_place r ≤ n → Same n w z → duration_n s v (rest_place r) round ≡ walk_n s v 0 w i is → RestExact s v round r
-      → ((m : Label) → z ≡ Done m → m.rest ≡ r) → IfDone (Behind n i is) z
-  behind_next n i is r failed Refused p u e x f = tt
-  behind_next n i is r failed (Done m) p u e x f = absurd u
-  behind_next n i is r (left t) Refused p u e x f = absurd u
-  behind_next n i is r (left t) (Done m) p u e x f =
+  behind_next : (n i : ℕ) (is : List ℕ) (r : RestAnswer) (w : Walk) (z : Option Label) → rest_place r ≤ n → Same n w z → duration_n s v (rest_place r) round ≡ walk_n s v 0 w i is → RestExact s v round r
+      → ((m : Label) → z ≡ Some m → m.rest ≡ r) → IfDone (Behind n i is) z
+  behind_next n i is r failed None p u e x f = tt
+  behind_next n i is r failed (Some m) p u e x f = absurd u
+  behind_next n i is r (left t) None p u e x f = absurd u
+  behind_next n i is r (left t) (Some m) p u e x f =
       let q = sym (f m refl) in
       record { past = subst (λ (y : RestAnswer). rest_place y ≤ n) q p; time = t; tracks = u; walk = subst (λ (y : RestAnswer). duration_n s v (rest_place y) round ≡ walk_n s v 0 (left t) i is) q e; rest = subst (RestExact s v round) q x }
 
@@ -133,21 +124,21 @@ module _ (s : List ℕ) (v : ℕ) (round : List ℕ) where
       leg : Amount (time_n s prev i) (time_of s prev i)
       leg = time_amount s a whole prev i from to
 
-      carried : (y : Served) → IfDone (Behind n prev (i ∷ is)) y → IfDone (Behind (suc n) i is) (step_of y (time_of s prev i) (stop_of s i))
+      carried : (y : Option Label) → IfDone (Behind n prev (i ∷ is)) y → IfDone (Behind (suc n) i is) (step_of y (time_of s prev i) (stop_of s i))
       unfolding step_of walk_n
-      carried Refused b = tt
-      carried (Done l) b =
+      carried None b = tt
+      carried (Some l) b =
           behind_next (suc n) i is l.rest (stop_n false s v prev i (left b.time)) _ (omega (arith, b.past))
-          (step_same s v i (row_amounts s a whole i to) resting n few prev leg (left b.time) (Done l) b.tracks) b.walk b.rest (step_keeps l (time_of s prev i) i s)
+          (step_same s v i (row_amounts s a whole i to) resting n few prev leg (left b.time) (Some l) b.tracks) b.walk b.rest (step_keeps l (time_of s prev i) i s)
 
-      here : (w : Walk) (x : Served) → Same n w x → Ahead n w prev (i ∷ is) → IfDone (Behind (suc n) i is) (step_rested x (time_of s prev i) (stop_of s i) (suc n) (break_of s v))
+      here : (w : Walk) (x : Option Label) → Same n w x → Ahead n w prev (i ∷ is) → IfDone (Behind (suc n) i is) (step_rested x (time_of s prev i) (stop_of s i) (suc n) (break_of s v))
       unfolding step_rested walk_n rest_start_n f64_at
-      here w Refused u k = tt
-      here failed (Done l) u k = absurd u
-      here (left t) (Done l) u k =
+      here w None u k = tt
+      here failed (Some l) u k = absurd u
+      here (left t) (Some l) u k =
           let begins = later_of (l.time ⊕ time_of s prev i) (break_of s v).earliest in
-          behind_next (suc n) i is (Before (suc n) begins) (stop_n true s v prev i (left t)) _ (omega arith)
-          (step_rested_lem s v i (row_amounts s a whole i to) resting n few prev leg (suc n) (left t) (Done l) u)
+          behind_next (suc n) i is (Some ((suc n), begins)) (stop_n true s v prev i (left t)) _ (omega arith)
+          (step_rested_lem s v i (row_amounts s a whole i to) resting n few prev leg (suc n) (left t) (Some l) u)
           (sym (ap (λ (m : ℕ). duration_n s v m round) (add-zero (suc n))) ∙ k.walks 0)
           (record {
             start = subst (λ (m : ℕ). Is m begins) (sym (sym (ap (λ (m : ℕ). rest_start_n s v m (left 0) (home_of s v) round) (add-zero (suc n))) ∙ k.starts 0))
@@ -157,7 +148,7 @@ module _ (s : List ℕ) (v : ℕ) (round : List ℕ) where
           })
           (rested_keeps l (time_of s prev i) i s (break_of s v) (suc n))
 
-      taken : (mark : Bool) (w : Walk) (x y : Served) → Same n w x → Ahead n w prev (i ∷ is) → IfDone (Behind n prev (i ∷ is)) y
+      taken : (mark : Bool) (w : Walk) (x y : Option Label) → Same n w x → Ahead n w prev (i ∷ is) → IfDone (Behind n prev (i ∷ is)) y
           → IfDone (Behind (suc n) i is) (taken_of (rest_of mark (break_of s v)) x y (time_of s prev i) (stop_of s i) (suc n))
       unfolding taken_of
       taken false w x y u k b = tt
@@ -166,15 +157,15 @@ module _ (s : List ℕ) (v : ℕ) (round : List ℕ) where
 
     -- ---- home
     -- a schedule's figures, `far` being the distance; none where there is none
-    abbrev Ends : ℕ → Scheduled → Type 0
-    Ends far NotFound = Unit
-    Ends far (Found k) = far ≡ travel_n s v (home_of s v) round → FiguresExact s v round k
+    abbrev Ends : ℕ → Option Schedule → Type 0
+    Ends far None = Unit
+    Ends far (Some k) = far ≡ travel_n s v (home_of s v) round → FiguresExact s v round k
 
     module _ (n far prev : ℕ) (few : n ≤ most_rows) (all : n ≡ length round) (distance : Float) (from : prev < rows_of s) (total : Is far distance) where
       abbrev back : Float
       back = time_of s prev (home_of s v)
 
-      home_behind : (l : Label) → Behind n prev [] l → Ends far (Found (home_schedule l distance back l.rest))
+      home_behind : (l : Label) → Behind n prev [] l → Ends far (Some (home_schedule l distance back l.rest))
       unfolding walk_n
       home_behind l b e = record {
         place = omega (arith, b.past);
@@ -185,7 +176,7 @@ module _ (s : List ℕ) (v : ℕ) (round : List ℕ) where
         rest = b.rest;
       }
 
-      home_ahead : (w : Walk) (l : Label) → Same n w (Done l) → Ahead n w prev [] → Ends far (Found (home_schedule l distance back NoRest))
+      home_ahead : (w : Walk) (l : Label) → Same n w (Some l) → Ahead n w prev [] → Ends far (Some (home_schedule l distance back None))
       unfolding walk_n rest_start_n
       home_ahead failed l u k e = absurd u
       home_ahead (left t) l u k e = record {
@@ -197,23 +188,23 @@ module _ (s : List ℕ) (v : ℕ) (round : List ℕ) where
         rest = record { start = nought_is; written = of_bits-fits binary64 0 };
       }
 
-      home_rested : (y : Served) → IfDone (Behind n prev []) y → Ends far (end_of y distance back)
+      home_rested : (y : Option Label) → IfDone (Behind n prev []) y → Ends far (end_of y distance back)
       unfolding end_of
-      home_rested Refused b = tt
-      home_rested (Done l) b = home_behind l b
+      home_rested None b = tt
+      home_rested (Some l) b = home_behind l b
 
-      home_exact : (mark : Bool) (w : Walk) (x y : Served) → Same n w x → Ahead n w prev [] → IfDone (Behind n prev []) y → Ends far (returned (rest_of mark (break_of s v)) x y distance back)
+      home_exact : (mark : Bool) (w : Walk) (x y : Option Label) → Same n w x → Ahead n w prev [] → IfDone (Behind n prev []) y → Ends far (returned (rest_of mark (break_of s v)) x y distance back)
       unfolding returned unrested homeward
-      home_exact false w Refused y u k b = tt
-      home_exact false w (Done l) y u k b = home_ahead w l u k
-      home_exact true w Refused y u k b = home_rested y b
-      home_exact true w (Done l) y u k b = go (le (l.time ⊕ back) (break_of s v).earliest)
+      home_exact false w None y u k b = tt
+      home_exact false w (Some l) y u k b = home_ahead w l u k
+      home_exact true w None y u k b = home_rested y b
+      home_exact true w (Some l) y u k b = go (le (l.time ⊕ back) (break_of s v).earliest)
         where
-          go : (t : Bool) → Ends far (cond t (Found (home_schedule l distance back NoRest)) (end_of y distance back))
+          go : (t : Bool) → Ends far (cond t (Some (home_schedule l distance back None)) (end_of y distance back))
           go true = home_ahead w l u k
           go false = home_rested y b
 
-    walk_exact : (mark : Bool) (n d place prev : ℕ) (w : Walk) (x y : Served) (distance : Float) (is : List ℕ) → n + length is ≤ most_rows → n + length is ≡ length round → place ≡ suc n → prev < rows_of s → Rows s is
+    walk_exact : (mark : Bool) (n d place prev : ℕ) (w : Walk) (x y : Option Label) (distance : Float) (is : List ℕ) → n + length is ≤ most_rows → n + length is ≡ length round → place ≡ suc n → prev < rows_of s → Rows s is
         → Same n w x → Ahead n w prev is → IfDone (Behind n prev is) y → Driven n d distance
         → Ends (d + travel_n s v prev is) (home_from s (home_of s v) (walked_over s (position_at (rest_of mark (break_of s v)) place prev x y distance) is))
     unfolding home_from drive_to moved_of travel_n
@@ -231,44 +222,44 @@ module _ (s : List ℕ) (v : ℕ) (round : List ℕ) where
 
 -- ---- the whole round
 -- a duration is one that bits stand for
-abbrev writable : Scheduled → Bool
-writable NotFound = true
-writable (Found k) = fits binary64 k.duration
+abbrev writable : Option Schedule → Bool
+writable None = true
+writable (Some k) = fits binary64 k.duration
 
-same_rest : (mark : Bool) (b c : VehicleBreak) → rest_of mark b ≡ Required c → b ≡ c
+same_rest : (mark : Bool) (b c : VehicleBreak) → rest_of mark b ≡ Some c → b ≡ c
 same_rest true b c e = cc
 same_rest false b c e = let z : ◌≡◌ {A = ℕ} 0 1 = cc in absurd (omega arith)
 
 module _ (s : List ℕ) (v : ℕ) (is : List ℕ) (whole : Whole s) (is-vehicle : v < vehicles_of s) (round : Routed s (home_of s v) is) where
-  pub schedule_exact : (k : Schedule) → scheduled_of s (home_of s v) (limits_at s v).rest is ≡ Found k → FiguresExact s v is k
+  pub schedule_exact : (k : Schedule) → scheduled_of s (home_of s v) (limits_at s v).rest is ≡ Some k → FiguresExact s v is k
   unfolding scheduled_of vehicle_of rest_after
   schedule_exact k e =
       subst (Ends s v is round.sheet whole is-vehicle round.home (0 + travel_n s v (home_of s v) is))
-      (sym (ap (λ (r : Rest). scheduled_of s (home_of s v) r is) (limits_rest s v)) ∙ e)
-      (walk_exact s v is round.sheet whole is-vehicle round.home (rests s v) 0 0 1 (home_of s v) (left 0) (Done at_depot) Refused nought is (omega (arith, round.few)) (zero-add (length is)) refl round.home
+      (sym (ap (λ (r : Option VehicleBreak). scheduled_of s (home_of s v) r is) (limits_rest s v)) ∙ e)
+      (walk_exact s v is round.sheet whole is-vehicle round.home (rests s v) 0 0 1 (home_of s v) (left 0) (Some at_depot) None nought is (omega (arith, round.few)) (zero-add (length is)) refl round.home
       (rows_of_lem s is round.row) (start s v is whole is-vehicle round)
       (record { none = refl; walks = λ j. ap (λ (m : ℕ). duration_n s v m is) (omega arith); starts = λ j. ap (λ (m : ℕ). rest_start_n s v m (left 0) (home_of s v) is) (omega arith) }) tt
       (undriven s v is whole is-vehicle round))
       (zero-add (travel_n s v (home_of s v) is))
 
   -- a round that the rest at home mends: the walk without a rest, and then the rest
-  module _ (j : Schedule) (walked : scheduled_of s (home_of s v) restless is ≡ Found j) (fit : mends (limits_at s v) (break_of s v) j.distance j.duration ≡ true) where
-    return_fits : T (writable (Found j))
+  module _ (j : Schedule) (walked : scheduled_of s (home_of s v) None is ≡ Some j) (fit : mends (limits_at s v) (break_of s v) j.distance j.duration ≡ true) where
+    return_fits : T (writable (Some j))
     unfolding unrested
-    return_fits = go p.clock.before (plain_walk s (home_of s v) restless is ∙ walked)
+    return_fits = go p.clock.before (plain_walk s (home_of s v) None is ∙ walked)
       where
         p : Position
-        p = walked_over s (start_at restless (home_of s v)) is
+        p = walked_over s (start_at None (home_of s v)) is
 
-        go : (x : Served) → unrested x (p.distance ⊕ distance_of s p.clock.prev (home_of s v)) (time_of s p.clock.prev (home_of s v)) ≡ Found j → T (writable (Found j))
-        go Refused e = let z : ◌≡◌ {A = ℕ} 0 1 = cc in absurd (omega arith)
-        go (Done l) e = subst (λ (x : Scheduled). T (writable x)) e (add-fits binary64 _ _)
+        go : (x : Option Label) → unrested x (p.distance ⊕ distance_of s p.clock.prev (home_of s v)) (time_of s p.clock.prev (home_of s v)) ≡ Some j → T (writable (Some j))
+        go None e = let z : ◌≡◌ {A = ℕ} 0 1 = cc in absurd (omega arith)
+        go (Some l) e = subst (λ (x : Option Schedule). T (writable x)) e (add-fits binary64 _ _)
 
     home_figures : FiguresExact s v is (rested_home (break_of s v) (suc (length is)) j)
     unfolding mends f64_at
     home_figures = go (duration_n s v 0 is) refl (subst (Comes (travel_n s v (home_of s v) is) (duration_n s v 0 is)) walked (unrested_comes s v is whole is-vehicle round))
       where
-        go : (w : Walk) → duration_n s v 0 is ≡ w → Comes (travel_n s v (home_of s v) is) w (Found j) → FiguresExact s v is (rested_home (break_of s v) (suc (length is)) j)
+        go : (w : Walk) → duration_n s v 0 is ≡ w → Comes (travel_n s v (home_of s v) is) w (Some j) → FiguresExact s v is (rested_home (break_of s v) (suc (length is)) j)
         go failed e u = absurd u
         go (left t) e u =
             let back = j.duration in
@@ -286,7 +277,7 @@ module _ (s : List ℕ) (v : ℕ) (is : List ℕ) (whole : Whole s) (is-vehicle 
               };
             }
 
-  mended_exact : (k : Schedule) → Mended (limits_at s v) (limits_at s v).rest (1 + length is) (scheduled_of s (home_of s v) restless is) k → FiguresExact s v is k
+  mended_exact : (k : Schedule) → Mended (limits_at s v) (limits_at s v).rest (1 + length is) (scheduled_of s (home_of s v) None is) k → FiguresExact s v is k
   unfolding vehicle_of rest_after
   mended_exact k m =
       let same : break_of s v ≡ m.b = same_rest (rests s v) (break_of s v) m.b (sym (limits_rest s v) ∙ m.resting) in
@@ -298,11 +289,11 @@ module _ (s : List ℕ) (v : ℕ) (is : List ℕ) (whole : Whole s) (is-vehicle 
   pub record_exact : T (lawful s v is) → FiguresExact s v is (figures (build_route s (home_of s v) (limits_at s v) is))
   record_exact t = go (route_eval s (home_of s v) (limits_at s v) is) refl (allowed_feasible s (home_of s v) (limits_at s v) is ∙ feasible_lawful s v is whole is-vehicle round)
     where
-      by : (k : Schedule) → (scheduled_of s (home_of s v) (limits_at s v).rest is ≡ Found k) ⊎ Mended (limits_at s v) (limits_at s v).rest (1 + length is) (scheduled_of s (home_of s v) restless is) k → FiguresExact s v is k
+      by : (k : Schedule) → (scheduled_of s (home_of s v) (limits_at s v).rest is ≡ Some k) ⊎ Mended (limits_at s v) (limits_at s v).rest (1 + length is) (scheduled_of s (home_of s v) None is) k → FiguresExact s v is k
       by k (inl e) = schedule_exact k e
       by k (inr m) = mended_exact k m
 
-      go : (r : RouteEval) → route_eval s (home_of s v) (limits_at s v) is ≡ r → is_allowed r ≡ lawful s v is → FiguresExact s v is (figures (build_route s (home_of s v) (limits_at s v) is))
-      go NotAllowed e f = absurd (subst T (sym f) t)
-      go (Allowed k) e f =
+      go : (r : Option Schedule) → route_eval s (home_of s v) (limits_at s v) is ≡ r → is_some r ≡ lawful s v is → FiguresExact s v is (figures (build_route s (home_of s v) (limits_at s v) is))
+      go None e f = absurd (subst T (sym f) t)
+      go (Some k) e f =
           subst (FiguresExact s v is) (sym (eval_agree s (home_of s v) (limits_at s v) is k e)) (by k (allowed_figures s (home_of s v) (limits_at s v) is k e))

@@ -1,5 +1,5 @@
 -- The f64 walk of a round, and its clock with a rest, are those over natural numbers, where the numbers are whole and no window is soft. Assumes nothing.
-use Rattle.std.specs.Prelude.{◌≡◌, ℕ, suc, ◌+◌, ◌*◌, ◌≤◌, ◌<◌, Bool, cond, leb, length, Float}
+use Rattle.std.specs.Prelude.{◌≡◌, ℕ, suc, ◌+◌, ◌*◌, ◌≤◌, ◌<◌, Bool, cond, leb, length, Float, Option, Some, None}
 use Rattle.std.proofs.Common.{add_assoc, arith}
 use Rattle.std.proofs.Math.Bool.{true, false}
 use mathlib.Core.List.{List, [], ◌∷◌}
@@ -7,14 +7,7 @@ use Rattle.std.specs.Float.Ieee.{le}
 use Rattle.sheet.specs.Fields.{rows_of, vehicles_of, most_rows}
 use Rattle.sheet.specs.Accepted.{Accepted}
 use Rattle.sheet.specs.Values.{distance_of, time_of, stop_of}
-use Rattle.sheet.specs.declared.vehicle.Rest.{Rest}
-use Rattle.sheet.specs.declared.vehicle.Rest.TheVariants.{NoRest as restless, Required}
 use Rattle.evaluation_clock.specs.declared.label.Label.{Label}
-use Rattle.evaluation_clock.specs.declared.label.Served.{Served}
-use Rattle.evaluation_clock.specs.declared.label.Served.TheVariants.{Done, Refused}
-use Rattle.evaluation_clock.specs.declared.label.RestAnswer.TheVariants.{NoRest}
-use Rattle.evaluation_clock.specs.declared.clock.Scheduled.{Scheduled}
-use Rattle.evaluation_clock.specs.declared.clock.Scheduled.TheVariants.{Found, NotFound}
 use Rattle.evaluation_clock.specs.Sums.{◌⊕◌}
 use Rattle.evaluation_clock.specs.Clock.{step_of, taken_of, moved_of, home_schedule as broughtHome, unrested, end_of, homeward as homewardOf, returned}
 use Rattle.evaluation.specs.Walk.{Position, drive_to, walked_over, home_from}
@@ -26,13 +19,15 @@ use Rattle.lawful.specs.Laws.Whole.{add_whole, le_whole, later_whole}
 use Rattle.lawful.specs.Laws.Amounts.{Amount, RestAmounts, row_amounts, rest_amounts, distance_amount, time_amount}
 use Rattle.lawful.specs.Laws.Windows.{Tracks, Same}
 use Rattle.lawful.specs.Laws.Stops.{break_of, step_same, step_rested_lem, earlier_same}
+use Rattle.sheet.specs.declared.vehicle.VehicleBreak.{VehicleBreak}
+use Rattle.evaluation_clock.specs.declared.clock.Schedule.{Schedule}
 
 -- a duration and a distance, and the schedule they stand for
-abbrev pub Comes : ℕ → Walk → Scheduled → Type 0
-Comes far failed NotFound = Unit
-Comes far failed (Found k) = ⊥
-Comes far (left t) NotFound = ⊥
-Comes far (left t) (Found k) = Is t k.duration × Is far k.distance
+abbrev pub Comes : ℕ → Walk → Option Schedule → Type 0
+Comes far failed None = Unit
+Comes far failed (Some k) = ⊥
+Comes far (left t) None = ⊥
+Comes far (left t) (Some k) = Is t k.duration × Is far k.distance
 
 abbrev pub Rows : List ℕ → List ℕ → Type 0
 Rows s [] = Unit
@@ -50,7 +45,7 @@ drive n d leg x y few u v =
     record { is = add_whole d leg x y u.is v.is (omega arith); near = omega arith }
 
 -- a position, its row, its labels and its distance given each by itself
-abbrev pub position_at : Rest → ℕ → ℕ → Served → Served → Float → Position
+abbrev pub position_at : Option VehicleBreak → ℕ → ℕ → Option Label → Option Label → Float → Position
 position_at resting place prev x y distance = record { clock = record { rest = resting; before = x; after = y; prev = prev; place = place }; distance = distance }
 
 module _ (s : List ℕ) (v : ℕ) (a : Accepted s) (whole : Whole s) (is-vehicle : v < vehicles_of s) (at_home : home_of s v < rows_of s) where
@@ -66,30 +61,30 @@ module _ (s : List ℕ) (v : ℕ) (a : Accepted s) (whole : Whole s) (is-vehicle
         let e = u.early in
         add_whole t (time_n s prev (home_of s v)) l.time (time_of s prev (home_of s v)) u.time b.is (omega arith)
 
-    unrested_home : (w : Walk) (x : Served) → Same n w x → Comes far (home_n s v prev w) (unrested x distance (time_of s prev (home_of s v)))
+    unrested_home : (w : Walk) (x : Option Label) → Same n w x → Comes far (home_n s v prev w) (unrested x distance (time_of s prev (home_of s v)))
     unfolding unrested
-    unrested_home failed Refused u = tt
-    unrested_home failed (Done l) u = absurd u
-    unrested_home (left t) Refused u = absurd u
-    unrested_home (left t) (Done l) u = (home_time t l u, total)
+    unrested_home failed None u = tt
+    unrested_home failed (Some l) u = absurd u
+    unrested_home (left t) None u = absurd u
+    unrested_home (left t) (Some l) u = (home_time t l u, total)
 
-    rested_home_lem : (w : Walk) (x : Served) → Same n w x → Comes far (home_n s v prev w) (end_of x distance (time_of s prev (home_of s v)))
+    rested_home_lem : (w : Walk) (x : Option Label) → Same n w x → Comes far (home_n s v prev w) (end_of x distance (time_of s prev (home_of s v)))
     unfolding end_of
-    rested_home_lem failed Refused u = tt
-    rested_home_lem failed (Done l) u = absurd u
-    rested_home_lem (left t) Refused u = absurd u
-    rested_home_lem (left t) (Done l) u = (home_time t l u, total)
+    rested_home_lem failed None u = tt
+    rested_home_lem failed (Some l) u = absurd u
+    rested_home_lem (left t) None u = absurd u
+    rested_home_lem (left t) (Some l) u = (home_time t l u, total)
 
-    clock_home : (w z : Walk) (x y : Served) → Same n w x → Same n z y
+    clock_home : (w z : Walk) (x y : Option Label) → Same n w x → Same n z y
         → Comes far (homeward_n s v (home_n s v prev w) (home_n s v prev z)) (homewardOf (break_of s v) x y distance (time_of s prev (home_of s v)))
     unfolding homewardOf
-    clock_home failed z Refused y p q = rested_home_lem z y q
-    clock_home failed z (Done l) y p q = absurd p
-    clock_home (left t) z Refused y p q = absurd p
-    clock_home (left t) z (Done l) y p q =
+    clock_home failed z None y p q = rested_home_lem z y q
+    clock_home failed z (Some l) y p q = absurd p
+    clock_home (left t) z None y p q = absurd p
+    clock_home (left t) z (Some l) y p q =
         rw (le_whole (t + time_n s prev (home_of s v)) (earliest_n s v) (l.time ⊕ time_of s prev (home_of s v)) (break_of s v).earliest (home_time t l p) rest.earliest.is) (go (leb (t + time_n s prev (home_of s v)) (earliest_n s v)))
       where
-        go : (b : Bool) → Comes far (cond b (left (t + time_n s prev (home_of s v))) (home_n s v prev z)) (cond b (Found (broughtHome l distance (time_of s prev (home_of s v)) NoRest)) (end_of y distance (time_of s prev (home_of s v))))
+        go : (b : Bool) → Comes far (cond b (left (t + time_n s prev (home_of s v))) (home_n s v prev z)) (cond b (Some (broughtHome l distance (time_of s prev (home_of s v)) None)) (end_of y distance (time_of s prev (home_of s v))))
         go true = (home_time t l p, total)
         go false = rested_home_lem z y q
 
@@ -110,22 +105,22 @@ module _ (s : List ℕ) (v : ℕ) (a : Accepted s) (whole : Whole s) (is-vehicle
 
   -- ---- the walk
   -- without a rest
-  pub walk_comes : (n d place prev : ℕ) (w : Walk) (x y : Served) (distance : Float) (is : List ℕ) → n + length is ≤ most_rows → prev < rows_of s → Rows s is
-      → Same n w x → Driven n d distance → Comes (d + travel_n s v prev is) (walk_n s v 0 w prev is) (home_from s (home_of s v) (walked_over s (position_at restless place prev x y distance) is))
+  pub walk_comes : (n d place prev : ℕ) (w : Walk) (x y : Option Label) (distance : Float) (is : List ℕ) → n + length is ≤ most_rows → prev < rows_of s → Rows s is
+      → Same n w x → Driven n d distance → Comes (d + travel_n s v prev is) (walk_n s v 0 w prev is) (home_from s (home_of s v) (walked_over s (position_at None place prev x y distance) is))
   unfolding walk_n home_from returned drive_to moved_of taken_of travel_n
   walk_comes n d place prev w x y distance [] few from rows u r =
       unrested_home n _ prev (omega arith) _ from (drive n d (distance_n s prev (home_of s v)) distance _ (omega arith) r (distance_amount s a whole prev (home_of s v) from at_home)).is w x u
   walk_comes n d place prev w x y distance (i ∷ is) few from rows u r =
       rw (← add_assoc)
-      (walk_comes (suc n) (d + distance_n s prev i) (place + 1) i (stop_n false s v prev i w) (step_of x (time_of s prev i) (stop_of s i)) Refused (distance ⊕ distance_of s prev i) is
+      (walk_comes (suc n) (d + distance_n s prev i) (place + 1) i (stop_n false s v prev i w) (step_of x (time_of s prev i) (stop_of s i)) None (distance ⊕ distance_of s prev i) is
       (omega arith) rows.0 rows.1
       (step_same s v i (row_amounts s a whole i rows.0) rest n (omega arith) prev (time_amount s a whole prev i from rows.0) w x u)
       (drive n d (distance_n s prev i) distance (distance_of s prev i) (omega arith) r (distance_amount s a whole prev i from rows.0)))
 
   -- with a rest
-  pub clock_comes : (n d place prev : ℕ) (w z : Walk) (x y : Served) (distance : Float) (is : List ℕ) → n + length is ≤ most_rows → prev < rows_of s → Rows s is
+  pub clock_comes : (n d place prev : ℕ) (w z : Walk) (x y : Option Label) (distance : Float) (is : List ℕ) → n + length is ≤ most_rows → prev < rows_of s → Rows s is
       → Same n w x → Same n z y → Driven n d distance
-      → Comes (d + travel_n s v prev is) (onward_n s v (record { before = w; after = z }) prev is) (home_from s (home_of s v) (walked_over s (position_at (Required (break_of s v)) place prev x y distance) is))
+      → Comes (d + travel_n s v prev is) (onward_n s v (record { before = w; after = z }) prev is) (home_from s (home_of s v) (walked_over s (position_at (Some (break_of s v)) place prev x y distance) is))
   unfolding onward_n push_n home_from returned drive_to moved_of taken_of travel_n
   clock_comes n d place prev w z x y distance [] few from rows p q r =
       clock_home n _ prev (omega arith) _ from (drive n d (distance_n s prev (home_of s v)) distance _ (omega arith) r (distance_amount s a whole prev (home_of s v) from at_home)).is w z x y p q
@@ -135,7 +130,7 @@ module _ (s : List ℕ) (v : ℕ) (a : Accepted s) (whole : Whole s) (is-vehicle
       let skip = step_same s v i row rest n (omega arith) prev leg in
       let c = push_n s v prev i (record { before = w; after = z }) in
       rw (← add_assoc)
-      (clock_comes (suc n) (d + distance_n s prev i) (place + 1) i c.before c.after (step_of x (time_of s prev i) (stop_of s i)) (taken_of (Required (break_of s v)) x y (time_of s prev i) (stop_of s i) place) (distance ⊕ distance_of s prev i) is
+      (clock_comes (suc n) (d + distance_n s prev i) (place + 1) i c.before c.after (step_of x (time_of s prev i) (stop_of s i)) (taken_of (Some (break_of s v)) x y (time_of s prev i) (stop_of s i) place) (distance ⊕ distance_of s prev i) is
       (omega arith) rows.0 rows.1 (skip w x p)
       (earlier_same (suc n) _ _ _ _ (skip z y q) (step_rested_lem s v i row rest n (omega arith) prev leg place w x p))
       (drive n d (distance_n s prev i) distance (distance_of s prev i) (omega arith) r (distance_amount s a whole prev i from rows.0)))

@@ -1,5 +1,5 @@
 -- A stop of the sheet in f64 is its stop over natural numbers, with a rest before it and without. Assumes nothing.
-use Rattle.std.specs.Prelude.{◌≡◌, refl, ℕ, suc, ◌+◌, ◌*◌, ◌≤◌, Bool, true, false, ◌&&◌, ◌||◌, cond, List, ltb, Float}
+use Rattle.std.specs.Prelude.{◌≡◌, refl, ℕ, suc, ◌+◌, ◌*◌, ◌≤◌, Bool, true, false, ◌&&◌, ◌||◌, cond, List, ltb, Float, Option, Some, None}
 use Rattle.std.proofs.Common.{ap, ◌∙◌, arith}
 use Rattle.std.specs.Float.Ieee.{lt, eq}
 use Rattle.wire.specs.Bytes.{f64_at}
@@ -7,8 +7,6 @@ use Rattle.sheet.specs.Fields.{row_at, row_marks, penalty_at, vehicle_at, earlie
 use Rattle.sheet.specs.Values.{nought, gate_at, window_at, stop_of, time_of}
 use Rattle.sheet.specs.declared.vehicle.VehicleBreak.{VehicleBreak}
 use Rattle.evaluation_clock.specs.declared.label.Label.{Label}
-use Rattle.evaluation_clock.specs.declared.label.Served.{Served}
-use Rattle.evaluation_clock.specs.declared.label.Served.TheVariants.{Done, Refused}
 use Rattle.evaluation_clock.specs.Sums.{◌⊕◌}
 use Rattle.evaluation_clock.specs.Serve.{rested_at, visit_of, later_of, rest_from, serve_of, serve_rested}
 use Rattle.evaluation_clock.specs.Clock.{step_of, step_rested, wins_over, earlier_of}
@@ -35,7 +33,7 @@ module _ (s : List ℕ) (v i : ℕ) (row : RowAmounts s i) (rest : RestAmounts s
       → Same (suc n) (departs s i (rest_begun (latest_n s v) start (rest_n s v))) (rest_from l (stop_of s i) place (break_of s v) x)
   rest_same start l place x u h free = rw (lt_whole (latest_n s v) start (break_of s v).latest x rest.latest.is u) (go (ltb (latest_n s v) start))
     where
-      go : (t : Bool) → Same (suc n) (departs s i (cond t failed (left (start + rest_n s v)))) (cond t Refused (visit_of (rested_at l place x) (x ⊕ (break_of s v).duration) (stop_of s i)))
+      go : (t : Bool) → Same (suc n) (departs s i (cond t failed (left (start + rest_n s v)))) (cond t None (visit_of (rested_at l place x) (x ⊕ (break_of s v).duration) (stop_of s i)))
       go true = tt
       go false =
           let k = rest.duration.small in
@@ -62,19 +60,19 @@ module _ (s : List ℕ) (v i : ℕ) (row : RowAmounts s i) (rest : RestAmounts s
         (later_upto (t + leg) (earliest_n s v) (3_000_000_000 * n + 1_000_000_000) arriving (omega arith)) u.cost
 
   module _ (prev : ℕ) (leg : Amount (time_n s prev i) (time_of s prev i)) where
-    pub step_same : (w : Walk) (x : Served) → Same n w x → Same (suc n) (stop_n false s v prev i w) (step_of x (time_of s prev i) (stop_of s i))
+    pub step_same : (w : Walk) (x : Option Label) → Same n w x → Same (suc n) (stop_n false s v prev i w) (step_of x (time_of s prev i) (stop_of s i))
     unfolding stop_n step_of
-    step_same failed Refused u = tt
-    step_same failed (Done l) u = absurd u
-    step_same (left t) Refused u = absurd u
-    step_same (left t) (Done l) u = serve_same t (time_n s prev i) l (time_of s prev i) u leg
+    step_same failed None u = tt
+    step_same failed (Some l) u = absurd u
+    step_same (left t) None u = absurd u
+    step_same (left t) (Some l) u = serve_same t (time_n s prev i) l (time_of s prev i) u leg
 
-    pub step_rested_lem : (place : ℕ) (w : Walk) (x : Served) → Same n w x → Same (suc n) (stop_n true s v prev i w) (step_rested x (time_of s prev i) (stop_of s i) place (break_of s v))
+    pub step_rested_lem : (place : ℕ) (w : Walk) (x : Option Label) → Same n w x → Same (suc n) (stop_n true s v prev i w) (step_rested x (time_of s prev i) (stop_of s i) place (break_of s v))
     unfolding stop_n step_rested
-    step_rested_lem place failed Refused u = tt
-    step_rested_lem place failed (Done l) u = absurd u
-    step_rested_lem place (left t) Refused u = absurd u
-    step_rested_lem place (left t) (Done l) u = serve_rested_lem t (time_n s prev i) l (time_of s prev i) u leg place
+    step_rested_lem place failed None u = tt
+    step_rested_lem place failed (Some l) u = absurd u
+    step_rested_lem place (left t) None u = absurd u
+    step_rested_lem place (left t) (Some l) u = serve_rested_lem t (time_n s prev i) l (time_of s prev i) u leg place
 
 -- ---- the earlier of two: no lateness costs anything, so the time alone decides
 time_alone : (p q : Bool) → (p || (q && false)) ≡ p
@@ -88,16 +86,16 @@ ahead_whole n a b x y u v =
     ∙ time_alone (lt y.time x.time) (eq y.time x.time)
     ∙ lt_whole b a y.time x.time v.time u.time
 
-pub earlier_same : (n : ℕ) (w u : Walk) (x y : Served) → Same n w x → Same n u y → Same n (earlier_n w u) (earlier_of x y)
+pub earlier_same : (n : ℕ) (w u : Walk) (x y : Option Label) → Same n w x → Same n u y → Same n (earlier_n w u) (earlier_of x y)
 unfolding earlier_n earlier_of
-earlier_same n failed u Refused y p q = q
-earlier_same n failed u (Done x) y p q = absurd p
-earlier_same n (left a) u Refused y p q = absurd p
-earlier_same n (left a) failed (Done x) Refused p q = p
-earlier_same n (left a) failed (Done x) (Done y) p q = absurd q
-earlier_same n (left a) (left b) (Done x) Refused p q = absurd q
-earlier_same n (left a) (left b) (Done x) (Done y) p q = rw (ahead_whole n a b x y p q) (go (ltb b a))
+earlier_same n failed u None y p q = q
+earlier_same n failed u (Some x) y p q = absurd p
+earlier_same n (left a) u None y p q = absurd p
+earlier_same n (left a) failed (Some x) None p q = p
+earlier_same n (left a) failed (Some x) (Some y) p q = absurd q
+earlier_same n (left a) (left b) (Some x) None p q = absurd q
+earlier_same n (left a) (left b) (Some x) (Some y) p q = rw (ahead_whole n a b x y p q) (go (ltb b a))
   where
-    go : (t : Bool) → Same n (cond t (left b) (left a)) (cond t (Done y) (Done x))
+    go : (t : Bool) → Same n (cond t (left b) (left a)) (cond t (Some y) (Some x))
     go true = q
     go false = p

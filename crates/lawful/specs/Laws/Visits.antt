@@ -1,5 +1,5 @@
 -- The arrivals, departures and loads that `build_route` writes down of a round with a lawful schedule are those of the walk over natural numbers. Assumes nothing.
-use Rattle.std.specs.Prelude.{◌≡◌, Bool, cond, T, ltb, eqb, length, Float}
+use Rattle.std.specs.Prelude.{◌≡◌, Bool, cond, T, ltb, eqb, length, Float, Option, Some, None}
 use Rattle.std.proofs.Math.Path.{refl, sym, subst}
 use Rattle.std.proofs.Common.{ap, ◌∙◌, add_assoc, zero-add, arith, eqb→eq, eq-eqb, ne_eqb}
 use Prim.Native.Nat.{ℕ, zero, suc, ◌+◌, ◌*◌, ◌≤◌, ◌<◌, zero-le}
@@ -10,11 +10,7 @@ use Rattle.std.proofs.Math.Dec.{eqb-suc-suc, eqb-suc-zero}
 use Rattle.sheet.specs.Fields.{rows_of, vehicles_of, most_rows}
 use Rattle.sheet.specs.Accepted.{Accepted}
 use Rattle.sheet.specs.Values.{demand_of, time_of, stop_of, rest_of, rest_after, vehicle_of}
-use Rattle.sheet.specs.declared.vehicle.Rest.{Rest}
-use Rattle.evaluation_clock.specs.declared.label.Served.{Served}
-use Rattle.evaluation_clock.specs.declared.label.Served.TheVariants.{Done, Refused}
-use Rattle.evaluation_clock.specs.declared.label.RestAnswer.{RestAnswer}
-use Rattle.evaluation_clock.specs.declared.label.RestAnswer.TheVariants.{NoRest, Before}
+use Rattle.evaluation_clock.specs.RestAnswer.{RestAnswer}
 use Rattle.evaluation_clock.specs.Sums.{◌⊕◌}
 use Rattle.evaluation_clock.specs.Serve.{rest_place, at_depot, visit_of}
 use Rattle.evaluation.specs.declared.limits.RouteLimits.{RouteLimits}
@@ -38,6 +34,8 @@ use Rattle.lawful.specs.Laws.Stops.{break_of, visit_same}
 use Rattle.lawful.specs.Laws.Rounds.{Rows}
 use Rattle.lawful.specs.Laws.Meaning.{rows_of_lem}
 use Rattle.lawful.specs.Laws.Figures.{gone, record_exact}
+use Rattle.sheet.specs.declared.vehicle.VehicleBreak.{VehicleBreak}
+use Rattle.evaluation_clock.specs.declared.label.Label.{Label}
 
 module _ (s : List ℕ) (v : ℕ) (a : Accepted s) (whole : Whole s) (is-vehicle : v < vehicles_of s) where
   rest : RestAmounts s v
@@ -73,9 +71,9 @@ module _ (s : List ℕ) (v : ℕ) (a : Accepted s) (whole : Whole s) (is-vehicle
         go (visit_of at_depot ready (stop_of s i)) refl
         (subst (λ (w : Walk). Same (suc n) w (visit_of at_depot ready (stop_of s i))) e (visit_same s v i (row_amounts s a whole i to) rest n few at at_depot ready h k refl))
       where
-        go : (z : Served) → visit_of at_depot ready (stop_of s i) ≡ z → Same (suc n) (left u) z → Going (suc n) u (visited_of s placed p i)
-        go Refused q x = absurd x
-        go (Done m) q x = record {
+        go : (z : Option Label) → visit_of at_depot ready (stop_of s i) ≡ z → Same (suc n) (left u) z → Going (suc n) u (visited_of s placed p i)
+        go None q x = absurd x
+        go (Some m) q x = record {
           place = omega (arith, g.place);
           from = to;
           time = rw r (subst (Is u) (sym (passed (stop_of s i).gate ready (stop_of s i).service at_depot m q).time) x.time);
@@ -125,7 +123,7 @@ module _ (s : List ℕ) (v : ℕ) (a : Accepted s) (whole : Whole s) (is-vehicle
   -- with the rest further on
   module _ (at : ℕ) (start : Float) where
     abbrev rested : Placed
-    rested = record { answer = Before at start; duration = (break_of s v).duration }
+    rested = record { answer = Some (at, start); duration = (break_of s v).duration }
 
     visits_ahead : (j : ℕ) (is : List ℕ) (n t end : ℕ) (p : Progress) → Going n t p → n + length is ≤ most_rows → Rows s is → at ≡ suc n + j → Is (rest_start_n s v (suc j) (left t) p.prev is) start
         → walk_n s v (suc j) (left t) p.prev is ≡ left end → VisitsExact s v rested p (suc j) (left t) is
@@ -170,7 +168,7 @@ comes_home s v is place time e = go (eqb place (suc (length is))) refl e
         (u.0, ap (λ (n : ℕ). duration_n s v n is) (eqb→eq place (suc (length is)) (subst T (sym h) tt)) ∙ past_stops s v (left 0) (home_of s v) is ∙ u.1)
 
 -- the rest that a record takes lasts as long as the vehicle's
-lasts : (s : List ℕ) (v : ℕ) (mark : Bool) (x : Verdict) (at : ℕ) (start : Float) → (placed_by (rest_of mark (break_of s v)) x).answer ≡ Before at start
+lasts : (s : List ℕ) (v : ℕ) (mark : Bool) (x : Verdict) (at : ℕ) (start : Float) → (placed_by (rest_of mark (break_of s v)) x).answer ≡ Some (at, start)
     → (placed_by (rest_of mark (break_of s v)) x).duration ≡ (break_of s v).duration
 lasts s v true x at start e = refl
 lasts s v false x at start e = cc
@@ -179,16 +177,16 @@ module _ (s : List ℕ) (v : ℕ) (is : List ℕ) (whole : Whole s) (is-vehicle 
   begins : Going s v round.sheet whole is-vehicle 0 0 (begin_of (home_of s v))
   begins = record { place = refl; from = round.home; time = nought_is; early = zero-le }
 
-  by : (r : RestAnswer) (d : Float) → ((at : ℕ) (start : Float) → r ≡ Before at start → d ≡ (break_of s v).duration) → RestExact s v is r → (end : ℕ) → duration_n s v (rest_place r) is ≡ left end
+  by : (r : RestAnswer) (d : Float) → ((at : ℕ) (start : Float) → r ≡ Some (at, start) → d ≡ (break_of s v).duration) → RestExact s v is r → (end : ℕ) → duration_n s v (rest_place r) is ≡ left end
       → VisitsExact s v (record { answer = r; duration = d }) (begin_of (home_of s v)) (rest_place r) (left 0) is
   unfolding ready_for
-  by NoRest d f x end e =
-      visits_past s v round.sheet whole is-vehicle (record { answer = NoRest; duration = d }) is 0 0 end (begin_of (home_of s v)) begins (omega (arith, round.few)) (rows_of_lem s is round.row) (λ m y h. refl) e
-  by (Before zero start) d f x end e =
-      visits_past s v round.sheet whole is-vehicle (record { answer = Before zero start; duration = d }) is 0 0 end (begin_of (home_of s v)) begins (omega (arith, round.few)) (rows_of_lem s is round.row)
+  by None d f x end e =
+      visits_past s v round.sheet whole is-vehicle (record { answer = None; duration = d }) is 0 0 end (begin_of (home_of s v)) begins (omega (arith, round.few)) (rows_of_lem s is round.row) (λ m y h. refl) e
+  by (Some (zero, start)) d f x end e =
+      visits_past s v round.sheet whole is-vehicle (record { answer = Some (zero, start); duration = d }) is 0 0 end (begin_of (home_of s v)) begins (omega (arith, round.few)) (rows_of_lem s is round.row)
       (λ m y h. rw (ne_eqb 0 m (λ z. omega arith))) e
-  by (Before (suc j) start) d f x end e =
-      subst (λ (l : Float). VisitsExact s v (record { answer = Before (suc j) start; duration = l }) (begin_of (home_of s v)) (suc j) (left 0) is) (sym (f (suc j) start refl))
+  by (Some ((suc j), start)) d f x end e =
+      subst (λ (l : Float). VisitsExact s v (record { answer = Some ((suc j), start); duration = l }) (begin_of (home_of s v)) (suc j) (left 0) is) (sym (f (suc j) start refl))
       (visits_ahead s v round.sheet whole is-vehicle (suc j) start j is 0 0 end (begin_of (home_of s v)) begins (omega (arith, round.few)) (rows_of_lem s is round.row) (omega arith) x.start e)
 
   pub visits_exact : T (lawful s v is) → VisitsExact s v (placed_of s (home_of s v) (limits_at s v) is) (begin_of (home_of s v)) (rest_place (placed_of s (home_of s v) (limits_at s v) is).answer) (left 0) is
@@ -198,7 +196,7 @@ module _ (s : List ℕ) (v : ℕ) (is : List ℕ) (whole : Whole s) (is-vehicle 
       let p = placed_of s (home_of s v) (limits_at s v) is in
       let home = comes_home s v is (rest_place p.answer) k.time k.walk in
       by p.answer p.duration
-      (subst (λ (r : Rest). (at : ℕ) (start : Float) → (placed_by r (verdict_on s (home_of s v) (limits_at s v) is)).answer ≡ Before at start → (placed_by r (verdict_on s (home_of s v) (limits_at s v) is)).duration ≡ (break_of s v).duration)
+      (subst (λ (r : Option VehicleBreak). (at : ℕ) (start : Float) → (placed_by r (verdict_on s (home_of s v) (limits_at s v) is)).answer ≡ Some (at, start) → (placed_by r (verdict_on s (home_of s v) (limits_at s v) is)).duration ≡ (break_of s v).duration)
       (sym (limits_rest s v)) (lasts s v (rests s v) (verdict_on s (home_of s v) (limits_at s v) is)))
       k.rest home.0 home.1
 

@@ -1,5 +1,5 @@
 -- A window's stop in f64 is its stop over natural numbers, where the numbers are whole and the window is hard. Assumes nothing.
-use Rattle.std.specs.Prelude.{◌≡◌, refl, ℕ, suc, ◌+◌, ◌-◌, ◌*◌, ◌≤◌, Bool, ◌&&◌, T, Float}
+use Rattle.std.specs.Prelude.{◌≡◌, refl, ℕ, suc, ◌+◌, ◌-◌, ◌*◌, ◌≤◌, Bool, ◌&&◌, T, Float, Option, Some, None}
 use Rattle.std.proofs.Common.{sym, ◌∙◌, subst, zero-le, le_of_lt, arith, ltb-true, le-ltb}
 use Rattle.std.proofs.Math.Path.{ap}
 use Rattle.std.proofs.Math.Bool.{true, false, cond}
@@ -9,8 +9,6 @@ use Rattle.sheet.specs.Fields.{most_rows}
 use Rattle.sheet.specs.Values.{nought, gate_of}
 use Rattle.sheet.specs.declared.customer.Window.{Window}
 use Rattle.evaluation_clock.specs.declared.label.Label.{Label}
-use Rattle.evaluation_clock.specs.declared.label.Served.{Served}
-use Rattle.evaluation_clock.specs.declared.label.Served.TheVariants.{Done, Refused}
 use Rattle.evaluation_clock.specs.Sums.{◌⊕◌, ◌⊖◌}
 use Rattle.evaluation_clock.specs.Window.{violated_of, waiting_of}
 use Rattle.evaluation_clock.specs.Serve.{leaving_at, departure_of, pass}
@@ -25,11 +23,11 @@ pub record Tracks (n t : ℕ) (l : Label) : Type 0 where
   pub early : t ≤ 3_000_000_000 * n
   pub cost : l.lateness_cost ≡ nought
 
-abbrev pub Same : ℕ → Walk → Served → Type 0
-Same n failed Refused = Unit
-Same n failed (Done l) = ⊥
-Same n (left t) Refused = ⊥
-Same n (left t) (Done l) = Tracks n t l
+abbrev pub Same : ℕ → Walk → Option Label → Type 0
+Same n failed None = Unit
+Same n failed (Some l) = ⊥
+Same n (left t) None = ⊥
+Same n (left t) (Some l) = Tracks n t l
 
 pub nought_is : Is 0 nought
 unfolding of_bits of_fields odd
@@ -99,6 +97,6 @@ module _ (n at r d sv : ℕ) (few : n ≤ most_rows) (l : Label) (arrival servic
   pass_same true true penalty hard unready = absurd (hard tt tt)
   pass_same true false penalty hard unready = rw (violated_whole at arrival w here d closes.is) (go (ltb d at))
     where
-      go : (t : Bool) → Same (suc n) (cond t failed (left (cond (ltb at r) r at + sv))) (cond t Refused (Done (leaving_at l (departure_of w arrival service))))
+      go : (t : Bool) → Same (suc n) (cond t failed (left (cond (ltb at r) r at + sv))) (cond t None (Some (leaving_at l (departure_of w arrival service))))
       go true = tt
       go false = leaves (departure_of w arrival service) departs_whole

@@ -1,26 +1,32 @@
-use Rattle.std.proofs.Common.{sym, ◌∙◌}
+use Rattle.std.proofs.Common.{◌≡◌, sym, ◌∙◌, refl, arith}
+use Rattle.sheet.specs.declared.refusal.Refusal.{Refusal}
+use Rattle.sheet.specs.Told.{number_of}
+use Rattle.sheet.specs.Laws.Told.{number_positive}
 use Rattle.sheet.specs.Laws.Accepted.{accepted}
 use Rattle.planner.specs.Laws.Promised.{number_is, bytes_are}
 use Rattle.listing.specs.Laws.Answer.{answer_listed, answer_refused}
 use Rattle.listing.proofs.write_planned.Goals as goal
 
-pub returns-then-refused-ne0 : goal.returns-then-refused-ne0
-returns-then-refused-ne0 c =
-    rw (← number_is _ _, ← c.plan_rounds-refused.ensures.answered.number, answer_refused c.plan_rounds-refused.result _ _ c.if-refused-ne0.true)
+told_some : (refusal : Refusal) → number_of refusal ≡ 0 → ⊥
+told_some refusal e = omega (arith, number_positive refusal, e)
+
+pub returns-in-Err : goal.returns-in-Err
+returns-in-Err c =
+    rw (← number_is _ _, ← c.in-Err.ensures.answered.number, answer_refused _ _ _ (told_some c.in-Err.refusal), ← c.into.ensures)
     c.write_refused.ensures
 
 pub write_listing-requires-clause-listable : goal.write_listing-requires-clause-listable
 write_listing-requires-clause-listable c =
-    let told = c.plan_rounds-refused in
-    let fine = accepted c.args.sheet.now _ (sym (told.ensures.answered.number ∙ number_is c.args.sheet.now _) ∙ c.if-refused-ne0.false) in
+    let told = c.in-Ok.ensures in
+    let fine = accepted c.args.sheet.now _ (sym (told.answered.number ∙ number_is c.args.sheet.now _)) in
     record {
       sized = fine.0.sized;
       rows = c.requires.few_rows;
-      long = told.auto.plan ∙ fine.1;
-      right = (told.ensures.once c.if-refused-ne0.false).right;
+      long = c.plan_rounds.auto.plan ∙ fine.1;
+      right = (told.once refl).right;
     }
 
-pub returns : goal.returns
-returns c =
-    rw (← number_is _ _, ← c.plan_rounds-refused.ensures.answered.number, c.if-refused-ne0.false, answer_listed, ← bytes_are _ _ _ _ c.plan_rounds-refused.ensures.answered c.if-refused-ne0.false)
+pub returns-in-Ok : goal.returns-in-Ok
+returns-in-Ok c =
+    rw (← number_is _ _, ← c.in-Ok.ensures.answered.number, answer_listed, ← bytes_are _ _ _ _ c.in-Ok.ensures.answered refl)
     c.write_listing.ensures

@@ -1,5 +1,5 @@
 -- `listing_text::put_rounds` meets its contract. Assumes nothing.
-use Prim.Native.Nat.{◌-◌, ◌<◌}
+use Prim.Native.Nat.{◌<◌}
 use native.Mathlib.Omega.{arith}
 use Rattle.plan.specs.Read.{rounds_at, aside_at, chain_of, read_plan}
 use Rattle.listing_text.specs.Laws.Listable.{few_rounds, stops}

@@ -6,18 +6,18 @@ use Rattle.multi_depot_planning.proofs.one_depot.Goals as goal
 
 pub members_of-total-requires : goal.members_of-total-requires
 members_of-total-requires c = let p = c.requires in
-    let z = c.fill.ensures in
+    let z = c.fill.ensures.after (λ y e. e) in
     let both = members_fit (lent_zeros p z) (next_zeros p z) in record { gathers = both.0; depot_in_bounds = both.1 }
 
 pub returns-then-total-eq0 : goal.returns-then-total-eq0
 returns-then-total-eq0 c = let p = c.requires in
-    let z = c.fill.ensures in
+    let z = c.fill.ensures.after (λ y e. e) in
     let m = c.members_of-total.ensures in
     one_held p z (none_shared (lent_zeros p z) (next_zeros p z) m.value m.stops_after c.if-total-eq0.true)
 
 pub by_savings-requires : goal.by_savings-requires
 by_savings-requires c = let p = c.requires in
-    let z = c.fill.ensures in
+    let z = c.fill.ensures.after (λ y e. e) in
     let m = c.members_of-total.ensures in
     record {
       ready = ready (lent_zeros p z) (next_zeros p z) m.value m.stops_after c.if-total-eq0.false;
@@ -26,14 +26,14 @@ by_savings-requires c = let p = c.requires in
 
 pub returns-then-saves_many : goal.returns-then-saves_many
 returns-then-saves_many c = let p = c.requires in
-    let z = c.fill.ensures in
+    let z = c.fill.ensures.after (λ y e. e) in
     let m = c.members_of-total.ensures in
     let d = c.by_savings.ensures in
     one_held p z (shares (lent_zeros p z) (next_zeros p z) m.value m.stops_after c.if-total-eq0.false d.value d.stored)
 
 pub construct-requires : goal.construct-requires
 construct-requires c = let p = c.requires in
-    let z = c.fill.ensures in
+    let z = c.fill.ensures.after (λ y e. e) in
     let m = c.members_of-total.ensures in
     record {
       ready = ready (lent_zeros p z) (next_zeros p z) m.value m.stops_after c.if-total-eq0.false;
@@ -42,7 +42,7 @@ construct-requires c = let p = c.requires in
 
 pub returns : goal.returns
 returns c = let p = c.requires in
-    let z = c.fill.ensures in
+    let z = c.fill.ensures.after (λ y e. e) in
     let m = c.members_of-total.ensures in
     let d = c.construct.ensures in
     one_held p z (shares (lent_zeros p z) (next_zeros p z) m.value m.stops_after c.if-total-eq0.false d.value d.stored)

@@ -1,19 +1,15 @@
 -- `multi_depot_planning::plan_depots` meets its contract. Assumes nothing.
 use mathlib.Core.Path.{◌≡◌, refl, ◌∙◌}
-use Prim.Native.Nat.{◌-◌}
 use native.Mathlib.Omega.{arith}
 use Rattle.sheet.specs.Depots.{depots_of}
 use Rattle.multi_depot_planning.proofs.Plans.{next_there, planned_more, planned_none, lent_still}
 use Rattle.multi_depot_planning.proofs.plan_depots.Goals as goal
 
-pub fill-requires : goal.fill-requires
-fill-requires c = tt
-
 pub loop-depot-init : goal.loop-depot-init
 loop-depot-init c = let a = c.args in
     let p = c.requires in
     let l = c.fill in
-    (omega arith, (record { marked = refl; fleet_long = refl; stopped = refl; ended = refl; driven = refl }, rw l.ensures (planned_none a.sheet.now a.at.now a.marks.now a.stops.now a.ends.now a.vehicles.now p.depots_value.1)))
+    (omega arith, (record { marked = refl; fleet_long = refl; stopped = refl; ended = refl; driven = refl }, rw (l.ensures.after (λ y e. e)) (planned_none a.sheet.now a.at.now a.marks.now a.stops.now a.ends.now a.vehicles.now p.depots_value.1)))
 
 pub plan_depot-filled-requires : goal.plan_depot-filled-requires
 plan_depot-filled-requires c = let p = c.requires in
@@ -47,7 +43,7 @@ loop-depot-preserved c = let l = c.loop-depot in
     )
 
 pub shape_of-marks : goal.shape_of-marks
-shape_of-marks c = c.loop-depot.invariant.1.0.marked ∙ c.fill.auto.table
+shape_of-marks c = c.loop-depot.invariant.1.0.marked ∙ c.fill.auto.self
 
 pub shape_of-fleet : goal.shape_of-fleet
 shape_of-fleet c = c.loop-depot.invariant.1.0.fleet_long

@@ -1,5 +1,5 @@
 -- The stop chosen is one of those left, and it was offered. So what each stop that joins keeps of a round, every round of the outcome has. Assumes nothing.
-use Rattle.std.specs.Prelude.{◌≡◌, refl, Bool, true, false, cond, eqb, length}
+use Rattle.std.specs.Prelude.{◌≡◌, refl, Bool, true, false, cond, eqb, length, Some, None}
 use Rattle.std.proofs.Common.{sym, ◌∙◌, zero-lt-suc, zero-add, add-zero, eq-eqb}
 use Rattle.std.proofs.Math.Path.{ap, subst}
 use Prim.Native.Nat.{ℕ, zero, suc, ◌+◌, ◌≤◌, ◌<◌, suc-le-suc}
@@ -12,8 +12,7 @@ use Rattle.lists.specs.Laws.Every.{every_map}
 use Rattle.lists.specs.Moved.{without}
 use Rattle.constructive.specs.Outcome.{Round}
 use Rattle.constructive.specs.Laws.Rounds.{OfFleet}
-use Rattle.nearest_neighbor_choice.specs.declared.choice.StopChoice.{StopChoice}
-use Rattle.nearest_neighbor_choice.specs.declared.choice.StopChoice.TheVariants.{NoStop, Best}
+use Rattle.nearest_neighbor_choice.specs.StopChoice.{StopChoice}
 use Rattle.nearest_neighbor_choice.specs.Choice.{Offer, out, key, wins_of, better_stop, choose, Trip, empty_trip}
 use Rattle.nearest_neighbor.specs.Greedy.{Rule, Extension, extending, extended, extended_by, extend, extend_on, end_of_trip, vehicle_round, with_stops, greedy}
 
@@ -24,15 +23,15 @@ Taken out = ⊥
 Taken (key k) = Unit
 
 abbrev pub Chosen : (ℕ → Offer) → List ℕ → StopChoice → Type 0
-Chosen offer left NoStop = Unit
-Chosen offer left (Best j k) = (j < length left) × Taken (offer (get_or left j 0))
+Chosen offer left None = Unit
+Chosen offer left (Some (j, k)) = (j < length left) × Taken (offer (get_or left j 0))
 
 module _ (offer : ℕ → Offer) (left : List ℕ) where
   better_chosen : (c : StopChoice) (j : ℕ) (o : Offer) → j < length left → (Taken o → Taken (offer (get_or left j 0))) → Chosen offer left c → Chosen offer left (better_stop c j o)
   better_chosen c j out h f u = u
   better_chosen c j (key k) h f u = go (wins_of k c)
     where
-      go : (t : Bool) → Chosen offer left (cond t (Best j k) c)
+      go : (t : Bool) → Chosen offer left (cond t (Some (j, k)) c)
       go true = (h, f tt)
       go false = u
 
@@ -47,8 +46,8 @@ module _ (offer : ℕ → Offer) (left : List ℕ) where
       (λ k l. e (suc k) (suc-le-suc l) ∙ ap (λ (n : ℕ). get_or left n 0) (let n : j + suc k ≡ j + 1 + k = omega arith in n))
       (better_chosen c j (offer row) (omega arith) (λ t. subst (λ (i : ℕ). Taken (offer i)) here t) u)
 
-  pub choose_chosen : Chosen offer left (choose offer NoStop 0 left)
-  choose_chosen = choose_from left NoStop 0 (omega arith) (λ k h. ap (λ (n : ℕ). get_or left n 0) (sym (zero-add k))) tt
+  pub choose_chosen : Chosen offer left (choose offer None 0 left)
+  choose_chosen = choose_from left None 0 (omega arith) (λ k h. ap (λ (n : ℕ). get_or left n 0) (sym (zero-add k))) tt
 
 -- ---- one round
 -- what holds of a round so far and the stops left, at its start and with each stop that joins; of the stops left alone; and of a round with stops once it ends
@@ -69,12 +68,12 @@ module _ (rule : ℕ → Rule) (depot : ℕ) (Left : List ℕ → Type 0) (Kept 
   State v (extended trip left) = Kept v trip left
 
   grown_by_lem : (v : ℕ) (trip : Trip) (left : List ℕ) (c : StopChoice) → Chosen ((rule v).offer trip) left c → Kept v trip left → State v (extended_by (rule v) trip left c)
-  grown_by_lem v trip left NoStop u k = k
-  grown_by_lem v trip left (Best j x) u k = g.joins v trip left j u.0 u.1 k
+  grown_by_lem v trip left None u k = k
+  grown_by_lem v trip left (Some (j, x)) u k = g.joins v trip left j u.0 u.1 k
 
   grow_kept : (v : ℕ) (x : Extension) → State v x → State v (extend (rule v) x)
   unfolding extend
-  grow_kept v (extending trip left) k = grown_by_lem v trip left (choose ((rule v).offer trip) NoStop 0 left) (choose_chosen ((rule v).offer trip) left) k
+  grow_kept v (extending trip left) k = grown_by_lem v trip left (choose ((rule v).offer trip) None 0 left) (choose_chosen ((rule v).offer trip) left) k
   grow_kept v (extended trip left) k = k
 
   grow_on_kept : (v n : ℕ) (x : Extension) → State v x → State v (extend_on (rule v) n x)

@@ -1,5 +1,5 @@
 -- Every round of nn_tw keeps its vehicle's capacity and is feasible; every round of the nearest neighbour keeps capacity.
-use Rattle.std.specs.Prelude.{◌≡◌, refl, ℕ, ◌+◌, ◌*◌, ◌≤◌, ◌<◌, Bool, true, false, not, ◌&&◌, cond, List, [], ◌∷◌, ◌++◌, T, Float, length, get_or}
+use Rattle.std.specs.Prelude.{◌≡◌, refl, ℕ, ◌+◌, ◌*◌, ◌≤◌, ◌<◌, Bool, true, false, not, ◌&&◌, cond, List, [], ◌∷◌, ◌++◌, T, Float, length, get_or, Option, Some, None}
 use Rattle.std.proofs.Common.{sym, ◌∙◌, subst, zero-le, arith, leb→le, length-append}
 use Rattle.std.proofs.Math.Path.{ap}
 use Rattle.std.specs.Float.{binary64}
@@ -15,12 +15,8 @@ use Rattle.sheet.specs.Laws.Finite.{GateBounded, GateFits, gate_fits, stop_bound
 use Rattle.sheet.specs.Values.{nought, demand_of, stop_of, vehicle_of, distance_of, time_of}
 use Rattle.sheet.specs.declared.customer.Gate.{Gate}
 use Rattle.sheet.specs.declared.customer.Gate.TheVariants.{Open, Hard, Soft}
-use Rattle.sheet.specs.declared.vehicle.Rest.{Rest}
-use Rattle.sheet.specs.declared.vehicle.Rest.TheVariants.{NoRest, Required}
 use Rattle.sheet.specs.declared.vehicle.Vehicle.{Vehicle}
 use Rattle.evaluation_clock.specs.declared.label.Label.{Label}
-use Rattle.evaluation_clock.specs.declared.label.Served.{Served}
-use Rattle.evaluation_clock.specs.declared.label.Served.TheVariants.{Done, Refused}
 use Rattle.evaluation_clock.specs.Sums.{◌⊕◌, ◌⊗◌}
 use Rattle.evaluation.specs.Routed.{Routed}
 use Rattle.evaluation_clock.specs.Window.{violated_of, lateness_of}
@@ -43,6 +39,7 @@ use Rattle.nearest_neighbor_choice.specs.Choice.{Trip, empty_trip}
 use Rattle.nearest_neighbor_choice.specs.Offers.{trip_carries, allows, offer_if, there_and_home, nearest_offer, arrival_at, late_at, service_start, penalty_of, missed, stop_too_dear, window_offer}
 use Rattle.nearest_neighbor.specs.Nearest.{nearest_onward, nearest_limits, nearest_rule, nearest_neighbor, window_onward, window_rule, nearest_neighbor_tw}
 use Rattle.nearest_neighbor.specs.Laws.Chosen.{Taken, Growing, greedy_every, greedy_fleet}
+use Rattle.sheet.specs.declared.vehicle.VehicleBreak.{VehicleBreak}
 
 -- a stop that is taken passes the test
 taken_passes : (t : Bool) (k : Float) → Taken (offer_if t k) → T t
@@ -119,9 +116,9 @@ window_passes s depot v limits soft trip i t =
     record { carried = and_l a (b && (c && d)) abcd; on_time = and_l b (c && d) bcd; allowed = and_l c d (and_r b (c && d) bcd) }
 
 -- the walk goes on from a stop whose hard window is not missed, at the time that the rule sums
-record Goes (x : Served) (time : Float) : Type 0 where
+record Goes (x : Option Label) (time : Float) : Type 0 where
   label : Label
-  served : x ≡ Done label
+  served : x ≡ Some label
   timed : label.time ≡ time
 
 goes_on : (l : Label) (arrival service : Float) (n : ℕ) (g : Gate) → GateBounded g → GateFits g → Times n arrival → T (fits binary64 arrival) → T (not (missed g (late_at g arrival)))
@@ -134,22 +131,22 @@ goes_on l arrival service n (Hard w) ok f u h m = go (violated_of w arrival) (la
     both true a b = b
     both false a b = a
 
-    go : (t : Bool) → (T t → T (lt nought (lateness_of w arrival))) → Goes (cond t Refused (Done (leaving_at l (departure_of w arrival service)))) (departure_of w arrival service)
+    go : (t : Bool) → (T t → T (lt nought (lateness_of w arrival))) → Goes (cond t None (Some (leaving_at l (departure_of w arrival service)))) (departure_of w arrival service)
     go true p = absurd (both (lt nought (lateness_of w arrival)) (p tt) m)
     go false p = record { label = leaving_at l (departure_of w arrival service); served = refl; timed = refl }
 goes_on l arrival service n (Soft w penalty) ok f u h m = go (violated_of w arrival)
   where
-    go : (t : Bool) → Goes (cond t (Done (leaving_at (late_by l penalty (lateness_of w arrival)) (departure_of w arrival service))) (Done (leaving_at l (departure_of w arrival service)))) (departure_of w arrival service)
+    go : (t : Bool) → Goes (cond t (Some (leaving_at (late_by l penalty (lateness_of w arrival)) (departure_of w arrival service))) (Some (leaving_at l (departure_of w arrival service)))) (departure_of w arrival service)
     go true = record { label = leaving_at (late_by l penalty (lateness_of w arrival)) (departure_of w arrival service); served = refl; timed = refl }
     go false = record { label = leaving_at l (departure_of w arrival service); served = refl; timed = refl }
 
 -- a round so far whose figures are its walk's
 record Walked (s : List ℕ) (depot : ℕ) (trip : Trip) : Type 0 where
-  current : (walked_over s (at_start NoRest depot) trip.stops).clock.prev ≡ trip.current
+  current : (walked_over s (at_start None depot) trip.stops).clock.prev ≡ trip.current
   here : trip.current < rows_of s
-  travelled : (walked_over s (at_start NoRest depot) trip.stops).distance ≡ trip.travelled
+  travelled : (walked_over s (at_start None depot) trip.stops).distance ≡ trip.travelled
   label : Label
-  served : (walked_over s (at_start NoRest depot) trip.stops).clock.before ≡ Done label
+  served : (walked_over s (at_start None depot) trip.stops).clock.before ≡ Some label
   timed : label.time ≡ trip.clock
   bounded : LabelBounded (4 * length trip.stops) (1000 * length trip.stops) label
 
@@ -172,18 +169,18 @@ module _ (s : List ℕ) (depot : ℕ) (fine : Accepted s) (trip : Trip) (i : ℕ
       (add-fits binary64 trip.clock (time_of s trip.current i)) m
 
   -- the walk's step to the stop
-  stepped : step_of (Done w.label) (time_of s trip.current i) (stop_of s i) ≡ Done next.label
+  stepped : step_of (Some w.label) (time_of s trip.current i) (stop_of s i) ≡ Some next.label
   unfolding step_of serve_of
   stepped = ap (λ (t : Float). pass w.label (t ⊕ time_of s trip.current i) (stop_of s i).service (stop_of s i).gate) w.timed ∙ next.served
 
   abbrev start : Position
-  start = at_start NoRest depot
+  start = at_start None depot
 
-  served_more : (walked_over s start (trip.stops ++ (i ∷ []))).clock.before ≡ Done next.label
+  served_more : (walked_over s start (trip.stops ++ (i ∷ []))).clock.before ≡ Some next.label
   served_more =
       more_before s start trip.stops i
-      ∙ ap (λ (x : Served). step_of x (time_of s (walked_over s start trip.stops).clock.prev i) (stop_of s i)) w.served
-      ∙ ap (λ (n : ℕ). step_of (Done w.label) (time_of s n i) (stop_of s i)) w.current
+      ∙ ap (λ (x : Option Label). step_of x (time_of s (walked_over s start trip.stops).clock.prev i) (stop_of s i)) w.served
+      ∙ ap (λ (n : ℕ). step_of (Some w.label) (time_of s n i) (stop_of s i)) w.current
       ∙ stepped
 
   distance_more : (walked_over s start (trip.stops ++ (i ∷ []))).distance ≡ trip.travelled ⊕ distance_of s trip.current i
@@ -198,7 +195,7 @@ module _ (s : List ℕ) (depot : ℕ) (fine : Accepted s) (trip : Trip) (i : ℕ
       let e = snoc_length trip.stops i in
       label_widen (4 * n + 4) (1000 * n + 1000) (4 * length (trip.stops ++ (i ∷ []))) (1000 * length (trip.stops ++ (i ∷ []))) next.label (omega arith) (omega arith)
       (subst (ServedBounded (4 * n + 4) (1000 * n + 1000)) stepped
-      (step_bounded (4 * n) (1000 * n) (Done w.label) (time_of s trip.current i) (stop_of s i) (omega arith) (omega arith) w.bounded leg (stop_bounded s fine i I)))
+      (step_bounded (4 * n) (1000 * n) (Some w.label) (time_of s trip.current i) (stop_of s i) (omega arith) (omega arith) w.bounded leg (stop_bounded s fine i I)))
 
   walked_more : Walked s depot (window_onward s trip i)
   unfolding window_onward
@@ -213,11 +210,11 @@ module _ (s : List ℕ) (depot : ℕ) (fine : Accepted s) (trip : Trip) (i : ℕ
   }
 
   -- so the rule's test is `route_feasible`'s, without a rest as with one
-  test_feasible : (limits : RouteLimits) (r : Rest) → limits.rest ≡ r
+  test_feasible : (limits : RouteLimits) (r : Option VehicleBreak) → limits.rest ≡ r
       → T (allows s depot limits r trip i (there_and_home s depot trip i) (service_start (stop_of s i).gate (arrival_at s trip i) ⊕ (stop_of s i).service ⊕ time_of s i depot))
       → T (route_feasible s depot limits (trip.stops ++ (i ∷ [])))
-  test_feasible limits (Required b) e t = t
-  test_feasible limits NoRest e t =
+  test_feasible limits (Some b) e t = t
+  test_feasible limits None e t =
       let route = trip.stops ++ (i ∷ []) in
       let p = walked_over s start route in
       subst T

@@ -1,5 +1,5 @@
 -- Every member stands in the outcome as often as among the members: on one round or set aside. Assumes nothing.
-use Rattle.std.specs.Prelude.{◌≡◌, List, [], ◌∷◌, ◌++◌, length, get_or}
+use Rattle.std.specs.Prelude.{◌≡◌, List, [], ◌∷◌, ◌++◌, length, get_or, Some, None}
 use Rattle.std.proofs.Math.Path.{refl}
 use Rattle.std.proofs.Common.{ap, ◌∙◌}
 use Prim.Native.Nat.{ℕ, zero, suc, ◌+◌}
@@ -9,8 +9,7 @@ use Rattle.lists.specs.Laws.Once.{count_append}
 use Rattle.lists.specs.Laws.Moved.{without_count}
 use Rattle.evaluation.specs.Checks.{has_soft_windows}
 use Rattle.constructive.specs.Outcome.{Round, chains, stops_of}
-use Rattle.nearest_neighbor_choice.specs.declared.choice.StopChoice.{StopChoice}
-use Rattle.nearest_neighbor_choice.specs.declared.choice.StopChoice.TheVariants.{NoStop, Best}
+use Rattle.nearest_neighbor_choice.specs.StopChoice.{StopChoice}
 use Rattle.nearest_neighbor_choice.specs.Choice.{choose, Trip, empty_trip}
 use Rattle.nearest_neighbor.specs.Greedy.{Grown, Rule, Extension, extending, extended, extended_by, extend, extend_on, end_of_trip, vehicle_round, with_stops, greedy}
 use Rattle.nearest_neighbor.specs.Laws.Chosen.{Chosen, choose_chosen}
@@ -26,8 +25,8 @@ counted x g = count x g.stops + count x g.left
 module _ (rule : Rule) (extends : Extends rule) (x : ℕ) where
   grown_by_lem : (trip : Trip) (left : List ℕ) (c : StopChoice) → Chosen (rule.offer trip) left c → counted x (end_of_trip (extended_by rule trip left c)) ≡ count x trip.stops + count x left
   unfolding counted count
-  grown_by_lem trip left NoStop u = refl
-  grown_by_lem trip left (Best j k) u =
+  grown_by_lem trip left None u = refl
+  grown_by_lem trip left (Some (j, k)) u =
       let a = without_count left j u.0 x in
       let b = count_append x trip.stops (get_or left j 0 ∷ []) in
       rw (extends trip (get_or left j 0)) (omega arith)
@@ -35,7 +34,7 @@ module _ (rule : Rule) (extends : Extends rule) (x : ℕ) where
   grow_keeps : (g : Extension) → counted x (end_of_trip (extend rule g)) ≡ counted x (end_of_trip g)
   unfolding extend counted
   grow_keeps (extended trip left) = refl
-  grow_keeps (extending trip left) = grown_by_lem trip left (choose (rule.offer trip) NoStop 0 left) (choose_chosen (rule.offer trip) left)
+  grow_keeps (extending trip left) = grown_by_lem trip left (choose (rule.offer trip) None 0 left) (choose_chosen (rule.offer trip) left)
 
   grow_on_keeps : (n : ℕ) (g : Extension) → counted x (end_of_trip (extend_on rule n g)) ≡ counted x (end_of_trip g)
   unfolding extend_on

@@ -1,5 +1,5 @@
 -- Which stop is taken next: of those offered the one with the least key, the first of equals. Assumes nothing.
-use Rattle.std.specs.Prelude.{◌≡◌, refl, ◌⊎◌, Bool, true, false, not, ◌&&◌, cond, T, eqb, Float}
+use Rattle.std.specs.Prelude.{◌≡◌, refl, ◌⊎◌, Bool, true, false, not, ◌&&◌, cond, T, eqb, Float, Some, None}
 use Rattle.std.proofs.Math.Path.{sym, ap, subst}
 use Rattle.std.proofs.Common.{◌∙◌, zero-lt-suc, zero-add, add-zero, inl, inr, eqb-true}
 use Prim.Native.Nat.{ℕ, suc, ◌+◌, ◌^◌, ◌<◌, suc-le-suc}
@@ -19,8 +19,7 @@ use Rattle.sheet.specs.declared.vehicle.Vehicle.{Vehicle}
 use Rattle.sheet.specs.Laws.Finite.{distance_bounded}
 use Rattle.evaluation_clock.specs.Sums.{◌⊕◌}
 use Rattle.evaluation.specs.declared.limits.RouteLimits.{RouteLimits}
-use Rattle.nearest_neighbor_choice.specs.declared.choice.StopChoice.{StopChoice}
-use Rattle.nearest_neighbor_choice.specs.declared.choice.StopChoice.TheVariants.{NoStop, Best}
+use Rattle.nearest_neighbor_choice.specs.StopChoice.{StopChoice}
 use Rattle.nearest_neighbor_choice.specs.Choice.{Offer, out, key, better_stop, choose, Trip}
 use Rattle.nearest_neighbor_choice.specs.Offers.{trip_carries, allows, offer_if, there_and_home, nearest_offer}
 
@@ -31,8 +30,8 @@ pub record Offered (offer : ℕ → Offer) (left : List ℕ) (n i : ℕ) (x : Fl
 
 -- none of the first n is offered, or the choice is the first least of them
 abbrev pub LeastOf : (ℕ → Offer) → List ℕ → ℕ → StopChoice → Type 0
-LeastOf offer left n NoStop = (i : ℕ) → i < n → offer (get_or left i 0) ≡ out
-LeastOf offer left n (Best j x) = FirstLeast ℕ (Offered offer left n) ◌<◌ j x
+LeastOf offer left n None = (i : ℕ) → i < n → offer (get_or left i 0) ≡ out
+LeastOf offer left n (Some (j, x)) = FirstLeast ℕ (Offered offer left n) ◌<◌ j x
 
 -- no key is a NaN
 abbrev pub KeysNumbers : (ℕ → Offer) → List ℕ → Type 0
@@ -85,10 +84,10 @@ module _ (offer : ℕ → Offer) (left : List ℕ) (numbers : KeysNumbers offer 
           go (inr q) = let f = q.1 in inr (q.0, cc)
 
       least_better : (c : StopChoice) → LeastOf offer left n c → LeastOf offer left (n + 1) (better_stop c n (key z))
-      least_better NoStop none = least_only ℕ (Offered offer left n) (Offered offer left (n + 1)) ◌<◌ n z itself (λ l. omega arith) alike (λ i y k. key_not_out (offer (get_or left i 0)) y (none i k.within) k.offered)
-      least_better (Best j x) r = go (lt z x) refl
+      least_better None none = least_only ℕ (Offered offer left n) (Offered offer left (n + 1)) ◌<◌ n z itself (λ l. omega arith) alike (λ i y k. key_not_out (offer (get_or left i 0)) y (none i k.within) k.offered)
+      least_better (Some (j, x)) r = go (lt z x) refl
         where
-          go : (b : Bool) → lt z x ≡ b → LeastOf offer left (n + 1) (cond b (Best n z) (Best j x))
+          go : (b : Bool) → lt z x ≡ b → LeastOf offer left (n + 1) (cond b (Some (n, z)) (Some (j, x)))
           go true l =
               least_falls ℕ (Offered offer left n) (Offered offer left (n + 1)) ◌<◌ n z itself (λ l. omega arith) alike j x r
               (λ i y k. numbers i y (let m = k.within in omega arith) k.offered) l
@@ -97,8 +96,8 @@ module _ (offer : ℕ → Offer) (left : List ℕ) (numbers : KeysNumbers offer 
     -- better_stop, whatever is offered
     least_more : (o : Offer) → here ≡ o → (c : StopChoice) → LeastOf offer left n c → LeastOf offer left (n + 1) (better_stop c n o)
     least_more (key z) e c r = least_better z e c r
-    least_more out e NoStop none = none_more none e
-    least_more out e (Best j x) r = stays j x r (λ y q. absurd (key_not_out here y e q))
+    least_more out e None none = none_more none e
+    least_more out e (Some (j, x)) r = stays j x r (λ y q. absurd (key_not_out here y e q))
 
   -- over the stops from place n on
   least_from_lem : (rows : List ℕ) (c : StopChoice) (n : ℕ) → n + length rows ≡ length left → ((k : ℕ) → k < length rows → get_or rows k 0 ≡ get_or left (n + k) 0) → LeastOf offer left n c
@@ -112,8 +111,8 @@ module _ (offer : ℕ → Offer) (left : List ℕ) (numbers : KeysNumbers offer 
       (least_more n (omega arith) (offer row) (ap offer here) c r)
 
   -- THE CHOICE, whatever is offered of a stop
-  pub choose_least : LeastOf offer left (length left) (choose offer NoStop 0 left)
-  choose_least = least_from_lem left NoStop 0 (omega arith) (λ k h. ap (λ (n : ℕ). get_or left n 0) (sym (zero-add k))) (λ i l. absurd (omega arith))
+  pub choose_least : LeastOf offer left (length left) (choose offer None 0 left)
+  choose_least = least_from_lem left None 0 (omega arith) (λ k h. ap (λ (n : ℕ). get_or left n 0) (sym (zero-add k))) (λ i l. absurd (omega arith))
 
 -- ---- the nearest neighbour: its keys are distances of the sheet
 key_is : (t : Bool) (k x : Float) → offer_if t k ≡ key x → k ≡ x
@@ -121,7 +120,7 @@ key_is true k x e = cc
 key_is false k x e = absurd (key_not_out out x refl e)
 
 pub nearest_least : (s : List ℕ) (depot : ℕ) (v : Vehicle) (limits : RouteLimits) (trip : Trip) (left : List ℕ) → Accepted s → trip.current < rows_of s → Every (λ (i : ℕ). i < rows_of s) left
-    → LeastOf (nearest_offer s depot v limits trip) left (length left) (choose (nearest_offer s depot v limits trip) NoStop 0 left)
+    → LeastOf (nearest_offer s depot v limits trip) left (length left) (choose (nearest_offer s depot v limits trip) None 0 left)
 unfolding nearest_offer
 nearest_least s depot v limits trip left fine here rows =
     choose_least (nearest_offer s depot v limits trip) left

@@ -2,7 +2,6 @@
 use mathlib.Core.Path.{◌≡◌}
 use Prim.Native.Nat.{◌-◌}
 use lib.ListN.{length}
-use Rattle.evaluator.proofs.Going as steps
 use Rattle.plan.proofs.Visiting.{Visiting}
 use Rattle.plan.proofs.write_visits.Given as goal
 

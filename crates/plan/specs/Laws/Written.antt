@@ -1,5 +1,5 @@
 -- Every figure of every plan of an accepted sheet is a number, so that it can be written. Assumes nothing.
-use Rattle.std.specs.Prelude.{◌≡◌, ℕ, suc, ◌+◌, ◌*◌, ◌^◌, ◌≤◌, ◌<◌, length, get_or, Float}
+use Rattle.std.specs.Prelude.{◌≡◌, ℕ, suc, ◌+◌, ◌*◌, ◌^◌, ◌≤◌, ◌<◌, length, get_or, Float, Some, None}
 use Rattle.std.proofs.Common.{subst, zero-le, suc-le-suc}
 use native.Mathlib.Omega.{arith}
 use mathlib.Core.List.{List, [], ◌∷◌}
@@ -10,8 +10,7 @@ use Rattle.sheet.specs.Accepted.{Accepted}
 use Rattle.sheet.specs.Laws.Finite.{vehicle_bounded}
 use Rattle.sheet.specs.Values.{vehicle_of}
 use Rattle.evaluation_clock.specs.Serve.{rest_start}
-use Rattle.evaluation_clock.specs.declared.label.RestAnswer.{RestAnswer}
-use Rattle.evaluation_clock.specs.declared.label.RestAnswer.TheVariants.{NoRest, Before}
+use Rattle.evaluation_clock.specs.RestAnswer.{RestAnswer}
 use Rattle.evaluation.specs.Limits.{limits_at}
 use Rattle.evaluation.specs.Laws.Limits.{limits_rest}
 use Rattle.evaluator.specs.Record.{placed_of, begin_of, visited_of, build_route, price_start}
@@ -26,8 +25,8 @@ use Rattle.plan.specs.Writable.{Number, RecordWritable, VisitsWritable, RoundWri
 
 start_number : (k : ℕ) (r : RestAnswer) → StartBounded k r → Number (rest_start r)
 unfolding of_bits is_nan
-start_number k NoRest u = tt
-start_number k (Before at start) u = no_nan (k * 2 ^ 30) start u
+start_number k None u = tt
+start_number k (Some (at, start)) u = no_nan (k * 2 ^ 30) start u
 
 record_writable : (k n : ℕ) (r : Record) → RecordBounded k n r → RecordWritable r
 record_writable k n r b = record {

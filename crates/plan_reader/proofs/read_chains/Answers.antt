@@ -30,7 +30,7 @@ pub follow-requires : goal.follow-requires
 follow-requires c = let a = c.args in
     let p = c.requires in
     let w = c.read_rounds in
-    let g = rounds_told a.sheet.now a.plan.now w.new.stops w.new.ends w.new.vehicles (rounds_at a.plan.now) c.in-Ended.is w.ensures in
+    let g = rounds_told a.sheet.now a.plan.now w.new.stops w.new.ends w.new.vehicles (rounds_at a.plan.now) c.in-Some.is w.ensures in
     record {
       sized = p.reader_tables.sheet.sized;
       plan_len = (p.reader_tables.planned, p.depots_value);
@@ -44,5 +44,5 @@ returns c = let a = c.args in
     let p = c.requires in
     let w = c.read_rounds in
     let f = c.follow in
-    let g = rounds_told a.sheet.now a.plan.now w.new.stops w.new.ends w.new.vehicles (rounds_at a.plan.now) c.in-Ended.is w.ensures in
-    chained a.sheet.now a.plan.now w.new.stops w.new.ends w.new.vehicles c.in-Ended.start g (omega (arith, c.u16_at-rounds.ensures, c.rows.ensures, c.if-rows-rounds.false)) (omega (arith, p.reader_tables.rows, w.auto.stops)) f.new.stops f.result f.auto.stops (told a.sheet.now a.plan.now w.new.stops f.new.stops c.in-Ended.start {r = f.result} c.u16_at-aside.ensures refl f.ensures)
+    let g = rounds_told a.sheet.now a.plan.now w.new.stops w.new.ends w.new.vehicles (rounds_at a.plan.now) c.in-Some.is w.ensures in
+    chained a.sheet.now a.plan.now w.new.stops w.new.ends w.new.vehicles c.in-Some.start g (omega (arith, c.u16_at-rounds.ensures, c.rows.ensures, c.if-rows-rounds.false)) (omega (arith, p.reader_tables.rows, w.auto.stops)) f.new.stops f.result f.auto.stops (told a.sheet.now a.plan.now w.new.stops f.new.stops c.in-Some.start {r = f.result} c.u16_at-aside.ensures refl f.ensures)

@@ -16,23 +16,23 @@ pub slice_bounds-each_once-end : goal.slice_bounds-each_once-end
 slice_bounds-each_once-end c = let a = c.args in
     let p = c.requires in
     let w = c.read_chains in
-    within a.sheet.now a.plan.now w.new.stops w.new.ends w.new.vehicles (lent a.sheet.now a.plan.now p w.auto.stops w.auto.ends w.auto.vehicles) c.in-Ended.total (chains_told a.sheet.now a.plan.now w.new.stops w.new.ends w.new.vehicles c.in-Ended.is w.ensures)
+    within a.sheet.now a.plan.now w.new.stops w.new.ends w.new.vehicles (lent a.sheet.now a.plan.now p w.auto.stops w.auto.ends w.auto.vehicles) c.in-Some.total (chains_told a.sheet.now a.plan.now w.new.stops w.new.ends w.new.vehicles c.in-Some.is w.ensures)
 
 pub slice_bounds-each_once-end-2 : goal.slice_bounds-each_once-end-2
 slice_bounds-each_once-end-2 c = let a = c.args in
     let p = c.requires in
     let w = c.read_chains in
-    sym (length-take-le c.in-Ended.total w.new.stops (within a.sheet.now a.plan.now w.new.stops w.new.ends w.new.vehicles (lent a.sheet.now a.plan.now p w.auto.stops w.auto.ends w.auto.vehicles) c.in-Ended.total (chains_told a.sheet.now a.plan.now w.new.stops w.new.ends w.new.vehicles c.in-Ended.is w.ensures)))
+    sym (length-take-le c.in-Some.total w.new.stops (within a.sheet.now a.plan.now w.new.stops w.new.ends w.new.vehicles (lent a.sheet.now a.plan.now p w.auto.stops w.auto.ends w.auto.vehicles) c.in-Some.total (chains_told a.sheet.now a.plan.now w.new.stops w.new.ends w.new.vehicles c.in-Some.is w.ensures)))
 
 pub each_once-requires : goal.each_once-requires
 each_once-requires c = let a = c.args in
     let p = c.requires in
     let w = c.read_chains in
-    let g = chains_told a.sheet.now a.plan.now w.new.stops w.new.ends w.new.vehicles c.in-Ended.is w.ensures in
-    let h = within a.sheet.now a.plan.now w.new.stops w.new.ends w.new.vehicles (lent a.sheet.now a.plan.now p w.auto.stops w.auto.ends w.auto.vehicles) c.in-Ended.total g in
+    let g = chains_told a.sheet.now a.plan.now w.new.stops w.new.ends w.new.vehicles c.in-Some.is w.ensures in
+    let h = within a.sheet.now a.plan.now w.new.stops w.new.ends w.new.vehicles (lent a.sheet.now a.plan.now p w.auto.stops w.auto.ends w.auto.vehicles) c.in-Some.total g in
     record {
       sized = p.sheet.sized;
-      depots_value = (c.depots-depots.ensures, omega (arith, g.room, length-take-le c.in-Ended.total w.new.stops h));
+      depots_value = (c.depots-depots.ensures, omega (arith, g.room, length-take-le c.in-Some.total w.new.stops h));
       t = g.links;
     }
 
@@ -40,13 +40,13 @@ pub returns-then-not-each_once : goal.returns-then-not-each_once
 returns-then-not-each_once c = let a = c.args in
     let p = c.requires in
     let w = c.read_chains in
-    let g = chains_told a.sheet.now a.plan.now w.new.stops w.new.ends w.new.vehicles c.in-Ended.is w.ensures in
-    fails a.sheet.now a.plan.now w.new.stops w.new.ends w.new.vehicles (lent a.sheet.now a.plan.now p w.auto.stops w.auto.ends w.auto.vehicles) c.in-Ended.total g (sym c.each_once.ensures ∙ c.if-not-each_once.true)
+    let g = chains_told a.sheet.now a.plan.now w.new.stops w.new.ends w.new.vehicles c.in-Some.is w.ensures in
+    fails a.sheet.now a.plan.now w.new.stops w.new.ends w.new.vehicles (lent a.sheet.now a.plan.now p w.auto.stops w.auto.ends w.auto.vehicles) c.in-Some.total g (sym c.each_once.ensures ∙ c.if-not-each_once.true)
 
 pub returns : goal.returns
 unfolding rounds_at
 returns c = let a = c.args in
     let p = c.requires in
     let w = c.read_chains in
-    let g = chains_told a.sheet.now a.plan.now w.new.stops w.new.ends w.new.vehicles c.in-Ended.is w.ensures in
-    reads a.sheet.now a.plan.now w.new.stops w.new.ends w.new.vehicles (lent a.sheet.now a.plan.now p w.auto.stops w.auto.ends w.auto.vehicles) c.in-Ended.total g (rw (sym c.each_once.ensures ∙ c.if-not-each_once.false) tt) c.u16_at.result c.u16_at.ensures
+    let g = chains_told a.sheet.now a.plan.now w.new.stops w.new.ends w.new.vehicles c.in-Some.is w.ensures in
+    reads a.sheet.now a.plan.now w.new.stops w.new.ends w.new.vehicles (lent a.sheet.now a.plan.now p w.auto.stops w.auto.ends w.auto.vehicles) c.in-Some.total g (rw (sym c.each_once.ensures ∙ c.if-not-each_once.false) tt) c.u16_at.result c.u16_at.ensures

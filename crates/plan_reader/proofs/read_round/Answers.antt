@@ -30,12 +30,12 @@ returns-in_default c = let a = c.args in
 pub overflow_cast-ends : goal.overflow_cast-ends
 unfolding first_stop_at
 overflow_cast-ends c = let a = c.args in
-    let f = told a.sheet.now a.plan.now a.stops.now c.follow.new.stops a.at c.u16_at-first.ensures c.in-Ended.is c.follow.ensures in
+    let f = told a.sheet.now a.plan.now a.stops.now c.follow.new.stops a.at c.u16_at-first.ensures c.in-Some.is c.follow.ensures in
     omega (arith, f.room, c.requires.reader_tables.sheet.sized.rows)
 
 pub returns : goal.returns
 unfolding id_at first_stop_at
 returns c = let a = c.args in
     let p = c.requires in
-    let f = told a.sheet.now a.plan.now a.stops.now c.follow.new.stops a.at c.u16_at-first.ensures c.in-Ended.is c.follow.ensures in
-    goes_on a.sheet.now a.plan.now a.stops.now a.ends.now a.vehicles.now a.k a.at p.rounds_read p.k_bound.0 c.follow.new.stops c.in-Ended.end c.index_of-index.result f p.reader_tables.rows c.follow.auto.stops (omega (arith, p.reader_tables)) (omega (arith, p.reader_tables)) (c.index_of-index.ensures ∙ ap (index_of a.sheet.now) c.u32_at.ensures) (omega arith)
+    let f = told a.sheet.now a.plan.now a.stops.now c.follow.new.stops a.at c.u16_at-first.ensures c.in-Some.is c.follow.ensures in
+    goes_on a.sheet.now a.plan.now a.stops.now a.ends.now a.vehicles.now a.k a.at p.rounds_read p.k_bound.0 c.follow.new.stops c.in-Some.end c.index_of-index.result f p.reader_tables.rows c.follow.auto.stops (omega (arith, p.reader_tables)) (omega (arith, p.reader_tables)) (c.index_of-index.ensures ∙ ap (index_of a.sheet.now) c.u32_at.ensures) (omega arith)

@@ -45,7 +45,7 @@ pub loop-k-preserved : goal.loop-k-preserved
 loop-k-preserved c = let a = c.args in
     let w = c.read_round in
     let l = c.loop-k in
-    record { rows = w.auto.stops ∙ l.invariant.rows; ended = w.auto.ends ∙ l.invariant.ended; fleet = w.auto.vehicles ∙ l.invariant.fleet; read = rounds_told a.sheet.now a.plan.now w.new.stops w.new.ends w.new.vehicles (l.k + 1) c.in-Ended.is w.ensures }
+    record { rows = w.auto.stops ∙ l.invariant.rows; ended = w.auto.ends ∙ l.invariant.ended; fleet = w.auto.vehicles ∙ l.invariant.fleet; read = rounds_told a.sheet.now a.plan.now w.new.stops w.new.ends w.new.vehicles (l.k + 1) c.in-Some.is w.ensures }
 
 pub shape_of-stops : goal.shape_of-stops
 shape_of-stops c = c.loop-k.invariant.rows

@@ -17,7 +17,7 @@ use Rattle.tariff.specs.declared.Rates.{Rates}
 use Rattle.tariff.specs.Charge.{rates_right}
 use Rattle.tariff_bill.specs.Bill.{bill_room, bill_refusal}
 use Rattle.planner_limiting.specs.Limiting.{limit_refusal}
-use Rattle.planner.specs.Answer.{number_of, Answered}
+use Rattle.planner.specs.Answer.{answer_number, Answered}
 use Rattle.planner.specs.Limited.{limit_told, limit_answer, LimitAnswered, LimitOnce}
 use Rattle.planner.specs.Laws.Promised.{number_is, bytes_are, stands}
 
@@ -41,7 +41,7 @@ module _ (s plan lent out : List ℕ) (greatest : ℕ) (a : LimitAnswered s plan
   unfolding limit_answer limit_refusal
   let_in = go (limit_refusal s plan (length lent)) a.number
     where
-      go : (n : ℕ) → 0 ≡ number_of (limit_told n s plan greatest) → n ≡ 0
+      go : (n : ℕ) → 0 ≡ answer_number (limit_told n s plan greatest) → n ≡ 0
       go zero e = refl
       go (suc n) e = sym e
 

@@ -45,14 +45,14 @@ use Rattle.plan.specs.Plan.{plan_of}
 use Rattle.plan.specs.Read.{read_plan, plan_right}
 use Rattle.plan.specs.Laws.RoundTrip.{read_written, written_right}
 use Rattle.plan_reader.specs.Laws.Links.{links_front, links_back, links_at}
-use Rattle.planner.specs.Answer.{plan_for, told_by, answer_of, number_of, Answered, capacity_kept, Standing, FeasibleRound, LawfulRound}
+use Rattle.planner.specs.Answer.{plan_for, told_by, answer_of, answer_number, Answered, capacity_kept, Standing, FeasibleRound, LawfulRound}
 
 -- the number is the refusal's, or 0
-pub number_is : (s : List ℕ) (room : ℕ) → number_of (answer_of s room) ≡ refusal_of s room
+pub number_is : (s : List ℕ) (room : ℕ) → answer_number (answer_of s room) ≡ refusal_of s room
 unfolding answer_of
 number_is s room = go (refusal_of s room)
   where
-    go : (n : ℕ) → number_of (told_by n s) ≡ n
+    go : (n : ℕ) → answer_number (told_by n s) ≡ n
     go zero = refl
     go (suc n) = refl
 

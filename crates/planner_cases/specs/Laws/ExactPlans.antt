@@ -1,5 +1,5 @@
 -- "on whole numbers below 2^53 the sums are exact": what a plan states of a round with a lawful schedule, read from its bytes. Assumes nothing.
-use Rattle.std.specs.Prelude.{◌≡◌, ℕ, ◌+◌, ◌*◌, ◌≤◌, ◌<◌, Bool, true, false, cond, T, eqb, length, get_or, Float}
+use Rattle.std.specs.Prelude.{◌≡◌, ℕ, ◌+◌, ◌*◌, ◌≤◌, ◌<◌, Bool, true, false, cond, T, eqb, length, get_or, Float, Some, None}
 use Rattle.std.proofs.Common.{sym, ◌∙◌}
 use Rattle.std.proofs.Math.Path.{ap, subst}
 use native.Mathlib.Omega.{arith}
@@ -18,8 +18,7 @@ use Rattle.evaluation.specs.Routed.{Routed}
 use Rattle.evaluation.specs.Laws.Limits.{home_row}
 use Rattle.evaluation.specs.Limits.{limits_at}
 use Rattle.evaluation_clock.specs.Sums.{◌⊕◌}
-use Rattle.evaluation_clock.specs.declared.label.RestAnswer.{RestAnswer}
-use Rattle.evaluation_clock.specs.declared.label.RestAnswer.TheVariants.{NoRest, Before}
+use Rattle.evaluation_clock.specs.RestAnswer.{RestAnswer}
 use Rattle.evaluator.specs.Record.{ready_for, record_of, build_route}
 use Rattle.lawful.specs.Whole.{Whole, Is}
 use Rattle.lawful.specs.Lawful.{home_of, travel_n, load_n, lawful}
@@ -44,8 +43,8 @@ use Rattle.planner_cases.specs.Exact.{RoundExact}
 -- home at the return, or when the rest there ends
 ready_fits : (a : RestAnswer) (duration : Float) (place : ℕ) (x y : Float) → T (fits binary64 (ready_for a duration place (x ⊕ y)))
 unfolding ready_for
-ready_fits NoRest duration place x y = add-fits binary64 x y
-ready_fits (Before at start) duration place x y = go (eqb at place)
+ready_fits None duration place x y = add-fits binary64 x y
+ready_fits (Some (at, start)) duration place x y = go (eqb at place)
   where
     go : (t : Bool) → T (fits binary64 (cond t (start ⊕ duration) (x ⊕ y)))
     go true = add-fits binary64 start duration

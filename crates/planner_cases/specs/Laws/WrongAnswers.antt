@@ -8,7 +8,7 @@ use Rattle.wire.specs.Bytes.{le as number, bytes}
 use Rattle.sheet.specs.SheetA.{sheet_a}
 use Rattle.clarke_wright_savings.specs.Laws.Cases.{within}
 use Rattle.plan.specs.Read.{rounds_at, id_at, first_stop_at}
-use Rattle.planner.specs.Answer.{Answer, number_of, bytes_of, Answered}
+use Rattle.planner.specs.Answer.{Answer, answer_number, bytes_of, Answered}
 use Rattle.planner_cases.specs.Table.{twelve, twenty, twenty_three, twenty_four, one_two, two_one, one_two_rested, one_and_two, sheet_at, plan_row, RowHolds, table_rows}
 use Rattle.planner_cases.specs.WrongPlans.{load_stated, distance_stated, rest_start_stated, one_alone, one_and_padding}
 use Rattle.planner_cases.specs.Laws.Table.{table_right}
@@ -16,7 +16,7 @@ use Rattle.planner_cases.specs.Laws.Table.{table_right}
 -- ---- what is answered to a sheet of the table
 module _ (s right lent : List ℕ) (n : ℕ) (plan : List ℕ) (row : RowHolds (plan_row s right)) (room : length lent ≡ length right) (a : Answered s lent n plan) where
   answered_number : n ≡ 0
-  answered_number = a.number ∙ rw room (ap number_of row)
+  answered_number = a.number ∙ rw room (ap answer_number row)
 
   answered_plan : plan ≡ right
   answered_plan = a.bytes ∙ rw room (ap (λ (x : Answer). bytes_of x lent) row)

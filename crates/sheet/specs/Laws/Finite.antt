@@ -1,5 +1,5 @@
 -- On an accepted sheet no field is a NaN: each is finite, not negative, and at most the end of its range. So no sum or product of a walk overflows.
-use Rattle.std.specs.Prelude.{◌≡◌, refl, ℕ, ◌+◌, ◌*◌, ◌^◌, ◌≤◌, ◌<◌, Bool, true, false, not, List, T, ltb, ℤ, Float}
+use Rattle.std.specs.Prelude.{◌≡◌, refl, ℕ, ◌+◌, ◌*◌, ◌^◌, ◌≤◌, ◌<◌, Bool, true, false, not, List, T, ltb, ℤ, Float, Option, Some, None}
 use Rattle.std.proofs.Common.{sym, ap, ◌∙◌, subst, add-mul, one-mul, arith, eqb→eq, leb→le, ltb-true, ltb-false}
 use Rattle.std.proofs.Math.Arith.{digits_lt}
 use Rattle.std.specs.Float.{binary64}
@@ -15,11 +15,7 @@ use Rattle.sheet.specs.declared.customer.Window.{Window}
 use Rattle.sheet.specs.declared.customer.Gate.{Gate}
 use Rattle.sheet.specs.declared.customer.Gate.TheVariants.{Open, Hard, Soft}
 use Rattle.sheet.specs.declared.customer.Stop.{Stop}
-use Rattle.sheet.specs.declared.vehicle.Limit.{Limit}
-use Rattle.sheet.specs.declared.vehicle.Limit.TheVariants.{Unlimited, Max}
 use Rattle.sheet.specs.declared.vehicle.VehicleBreak.{VehicleBreak}
-use Rattle.sheet.specs.declared.vehicle.Rest.{Rest}
-use Rattle.sheet.specs.declared.vehicle.Rest.TheVariants.{NoRest, Required}
 use Rattle.sheet.specs.declared.vehicle.Vehicle.{Vehicle}
 use Rattle.sheet.specs.Fields.{rows_of, vehicles_of, times_of, row_at, row_marks, service_at, ready_at, due_at, penalty_at, vehicle_at, vehicle_marks, cost_at, fixed_at, max_distance_at, max_duration_at, earliest_at, latest_at, rest_at, entries_of, entry_at, marked}
 use Rattle.sheet.specs.Ranges.{demand, capacity, amount, zero_bits, optional, interval, cost_per_distance}
@@ -142,18 +138,18 @@ pub record StopBounded (t : Stop) : Type 0 where
   pub service : Upto (10 ^ 9) t.service
   pub gate : GateBounded t.gate
 
-abbrev pub LimitBounded : Limit → Type 0
-LimitBounded Unlimited = Unit
-LimitBounded (Max x) = Upto (10 ^ 12) x
+abbrev pub LimitBounded : Option Float → Type 0
+LimitBounded None = Unit
+LimitBounded (Some x) = Upto (10 ^ 12) x
 
 pub record BreakBounded (b : VehicleBreak) : Type 0 where
   pub earliest : Upto (10 ^ 9) b.earliest
   pub latest : Upto (10 ^ 9) b.latest
   pub duration : Upto (10 ^ 9) b.duration
 
-abbrev pub RestBounded : Rest → Type 0
-RestBounded NoRest = Unit
-RestBounded (Required b) = BreakBounded b
+abbrev pub RestBounded : Option VehicleBreak → Type 0
+RestBounded None = Unit
+RestBounded (Some b) = BreakBounded b
 
 pub record VehicleBounded (v : Vehicle) : Type 0 where
   pub cost : Upto (10 ^ 6) v.cost_per_distance

@@ -1,35 +1,23 @@
 -- `solomon_distances::squared` meets its contract. Assumes nothing.
+use mathlib.Core.Path.{◌≡◌, ◌∙◌}
 use Prim.Native.Nat.{◌+◌}
 use native.Mathlib.Omega.{arith}
+use lib.IntN.{nat_abs, ◌-ℤ◌}
+use Rattle.sheet.specs.Fields.{row_at, x_field, y_field}
 use Rattle.solomon_distances.specs.Distances.{square, squared_between}
-use Rattle.solomon_distances.proofs.Signed.{coordinate_read, size_read, square_bounded}
+use Rattle.solomon_distances.proofs.Signed.{size_read, square_bounded}
 use Rattle.solomon_distances.proofs.squared.Goals as goal
 
-pub difference-dx-requires : goal.difference-dx-requires
-difference-dx-requires c = let x = c.i32_at in
-    let y = c.i32_at-2 in
-    let p = c.requires in
-    (coordinate_read x.result _ (record { sfits = x.type_inv }) x.ensures p.0.across, coordinate_read y.result _ (record { sfits = y.type_inv }) y.ensures p.1.across)
+dx : (c : goal.After-from-dy) → c.from-dx.result ≡ nat_abs (x_field c.args.sheet.now (row_at c.args.i) -ℤ x_field c.args.sheet.now (row_at c.args.j))
+dx c = size_read _ c.i32_at.result c.i32_at-2.result _ _ (record { sfits = c.i32_at.type_inv }) (record { sfits = c.i32_at-2.type_inv }) (c.from-dx.ensures ∙ c.abs_diff.ensures) c.i32_at.ensures c.i32_at-2.ensures
 
-pub difference-dy-requires : goal.difference-dy-requires
-difference-dy-requires c = let x = c.i32_at-3 in
-    let y = c.i32_at-4 in
-    let p = c.requires in
-    (coordinate_read x.result _ (record { sfits = x.type_inv }) x.ensures p.0.along, coordinate_read y.result _ (record { sfits = y.type_inv }) y.ensures p.1.along)
-
-pub overflow_mul-result : goal.overflow_mul-result
-overflow_mul-result c = let d = c.difference-dx in omega (arith, square_bounded d.result d.ensures.1)
-
-pub overflow_mul-result-2 : goal.overflow_mul-result-2
-overflow_mul-result-2 c = let d = c.difference-dy in omega (arith, square_bounded d.result d.ensures.1)
+dy : (c : goal.After-from-dy) → c.from-dy.result ≡ nat_abs (y_field c.args.sheet.now (row_at c.args.i) -ℤ y_field c.args.sheet.now (row_at c.args.j))
+dy c = size_read _ c.i32_at-3.result c.i32_at-4.result _ _ (record { sfits = c.i32_at-3.type_inv }) (record { sfits = c.i32_at-4.type_inv }) (c.from-dy.ensures ∙ c.abs_diff-2.ensures) c.i32_at-3.ensures c.i32_at-4.ensures
 
 pub overflow_add-result : goal.overflow_add-result
-overflow_add-result c = let d = c.difference-dx in
-    let e = c.difference-dy in
-    omega (arith, square_bounded d.result d.ensures.1, square_bounded e.result e.ensures.1)
+overflow_add-result c = let p = c.requires in
+    omega (arith, square_bounded _ _ _ p.0.across p.1.across (dx c), square_bounded _ _ _ p.0.along p.1.along (dy c))
 
 pub returns : goal.returns
 unfolding squared_between
-returns c = let x = size_read c.difference-dx.result c.i32_at.result c.i32_at-2.result _ _ (record { sfits = c.i32_at.type_inv }) (record { sfits = c.i32_at-2.type_inv }) c.difference-dx.ensures.0 c.i32_at.ensures c.i32_at-2.ensures in
-    let y = size_read c.difference-dy.result c.i32_at-3.result c.i32_at-4.result _ _ (record { sfits = c.i32_at-3.type_inv }) (record { sfits = c.i32_at-4.type_inv }) c.difference-dy.ensures.0 c.i32_at-3.ensures c.i32_at-4.ensures in
-    λ i. square (x i) + square (y i)
+returns c = λ i. square (dx c i) + square (dy c i)

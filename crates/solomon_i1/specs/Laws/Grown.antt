@@ -1,5 +1,5 @@
 -- What each insertion keeps, a round has when it closes; and then no stop left can join it. Assumes nothing.
-use Rattle.std.specs.Prelude.{◌≡◌, get_or}
+use Rattle.std.specs.Prelude.{◌≡◌, get_or, Some, None}
 use Rattle.std.proofs.Math.Path.{refl, subst}
 use Rattle.std.proofs.Common.{sym, arith}
 use Prim.Native.Nat.{ℕ, zero, suc, ◌≤◌, ◌<◌}
@@ -9,8 +9,7 @@ use Rattle.lists.specs.Every.{Every}
 use Rattle.lists.specs.Moved.{without, inserted}
 use Rattle.lists.specs.Laws.Moved.{without_length}
 use Rattle.constructive.specs.declared.terms.Terms.{Terms}
-use Rattle.insertion.specs.declared.choice.Choice.{Choice}
-use Rattle.insertion.specs.declared.choice.Choice.TheVariants.{Nowhere, Best}
+use Rattle.insertion.specs.Choice.{Choice}
 use Rattle.solomon_i1_judging.specs.Choice.{best_of}
 use Rattle.solomon_i1_judging.specs.Laws.Chosen.{Place, Chosen, best_chosen, Shut, none_shut}
 use Rattle.solomon_i1.specs.Insertion.{Growth, growing, grown, grown_by, grow, grow_on, route_in, left_in}
@@ -21,8 +20,8 @@ Keeps s t K = (route left : List ℕ) (j k : ℕ) → j < length left → Place 
 
 module _ (s : List ℕ) (t : Terms) (K : List ℕ → List ℕ → Type 0) (keeps : Keeps s t K) where
   grown_by_lem : (route left : List ℕ) (c : Choice) → Chosen s t route left c → K route left → K (route_in (grown_by route left c)) (left_in (grown_by route left c))
-  grown_by_lem route left Nowhere u k = k
-  grown_by_lem route left (Best j p cost) u k = keeps route left j p u.0 u.1 k
+  grown_by_lem route left None u k = k
+  grown_by_lem route left (Some (j, p, cost)) u k = keeps route left j p u.0 u.1 k
 
   grow_kept : (g : Growth) → K (route_in g) (left_in g) → K (route_in (grow s t g)) (left_in (grow s t g))
   unfolding grow
@@ -53,7 +52,7 @@ module _ (s : List ℕ) (t : Terms) where
     where
       go : (c : Choice) → best_of s t route left ≡ c → Chosen s t route left c → ((route' left' : List ℕ) → length left' ≤ n → ShutOut s t (grow_on s t n (growing route' left')))
           → ShutOut s t (grow_on s t n (grown_by route left c))
-      go Nowhere e u f = subst (ShutOut s t) (sym (stays n route left)) (none_shut s t route left e)
-      go (Best j k cost) e u f =
+      go None e u f = subst (ShutOut s t) (sym (stays n route left)) (none_shut s t route left e)
+      go (Some (j, k, cost)) e u f =
           let l = without_length left j u.0 in
           f (inserted k (get_or left j 0) route) (without j left) (omega (arith, l, h))

@@ -9,7 +9,7 @@ pub returns-in_default : goal.returns-in_default
 returns-in_default c = let a = c.args in not_allowed_lem a.sheet.now a.terms a.prices a.trial.now a.best a.j a.k c.route_eval-eval.result c.route_eval-eval.ensures c.in_default.is
 
 pub returns-then-prices-cost : goal.returns-then-prices-cost
-returns-then-prices-cost c = let a = c.args in too_dear a.sheet.now a.terms a.prices a.trial.now a.best a.j a.k c.route_eval-eval.result c.route_eval-eval.ensures _ c.in-Allowed.is _ (ap (λ (x : Float). x ⊖ a.prices.round) c.priced_distance.ensures) c.if-prices-cost.true
+returns-then-prices-cost c = let a = c.args in too_dear a.sheet.now a.terms a.prices a.trial.now a.best a.j a.k c.route_eval-eval.result c.route_eval-eval.ensures _ c.in-Some.is _ (ap (λ (x : Float). x ⊖ a.prices.round) c.priced_distance.ensures) c.if-prices-cost.true
 
 pub returns : goal.returns
-returns c = let a = c.args in c.better.ensures ∙ cheap_enough a.sheet.now a.terms a.prices a.trial.now a.best a.j a.k c.route_eval-eval.result c.route_eval-eval.ensures _ c.in-Allowed.is _ (ap (λ (x : Float). x ⊖ a.prices.round) c.priced_distance.ensures) c.if-prices-cost.false
+returns c = let a = c.args in c.better.ensures ∙ cheap_enough a.sheet.now a.terms a.prices a.trial.now a.best a.j a.k c.route_eval-eval.result c.route_eval-eval.ensures _ c.in-Some.is _ (ap (λ (x : Float). x ⊖ a.prices.round) c.priced_distance.ensures) c.if-prices-cost.false

@@ -1,5 +1,5 @@
 -- Which insertion is made next: "the first least insertion wins". Assumes nothing.
-use Rattle.std.specs.Prelude.{◌≡◌, ◌⊎◌, Bool, true, false, not, cond, ltb, eqb, Float}
+use Rattle.std.specs.Prelude.{◌≡◌, ◌⊎◌, Bool, true, false, not, cond, ltb, eqb, Float, Some, None}
 use Rattle.std.proofs.Math.Path.{refl, sym, ap, subst}
 use Rattle.std.proofs.Common.{◌∙◌, zero-lt-suc, zero-add, add-zero, inl, inr, eqb-true}
 use Prim.Native.Nat.{ℕ, zero, suc, ◌+◌, ◌-◌, ◌*◌, ◌^◌, ◌≤◌, ◌<◌, suc-le-suc}
@@ -20,8 +20,7 @@ use Rattle.sheet.specs.Values.{distance_of}
 use Rattle.sheet.specs.Laws.Finite.{distance_bounded}
 use Rattle.evaluation_clock.specs.Sums.{◌⊕◌, ◌⊖◌}
 use Rattle.constructive.specs.declared.terms.Terms.{Terms}
-use Rattle.insertion.specs.declared.choice.Choice.{Choice}
-use Rattle.insertion.specs.declared.choice.Choice.TheVariants.{Nowhere, Best}
+use Rattle.insertion.specs.Choice.{Choice}
 use Rattle.insertion.specs.Place.{row_before, row_after, detour, added_cost, Judged, unfit, costs, judged, place_fits, judge, better_place, try_places, carries}
 use Rattle.solomon_i1_judging.specs.Choice.{try_stop, try_stops, best_of}
 
@@ -47,8 +46,8 @@ pub record Insertable (s : List ℕ) (t : Terms) (route left : List ℕ) (a : Sp
 
 -- there is none, or the choice is the first least of them
 abbrev pub LeastInsertion : List ℕ → Terms → List ℕ → List ℕ → Choice → Type 0
-LeastInsertion s t route left Nowhere = (a : Spot) (x : Float) → Insertable s t route left a x → ⊥
-LeastInsertion s t route left (Best j k x) = FirstLeast Spot (Insertable s t route left) Earlier (spot j k) x
+LeastInsertion s t route left None = (a : Spot) (x : Float) → Insertable s t route left a x → ⊥
+LeastInsertion s t route left (Some (j, k, x)) = FirstLeast Spot (Insertable s t route left) Earlier (spot j k) x
 
 -- no cost is a NaN
 abbrev pub CostsNumbers : List ℕ → Terms → List ℕ → List ℕ → Type 0
@@ -70,13 +69,13 @@ module _ (s : List ℕ) (t : Terms) (route left : List ℕ) (numbers : CostsNumb
     earlier : Earlier a f
 
   abbrev Least : Spot → Choice → Type 0
-  Least f Nowhere = (a : Spot) (x : Float) → Seen f a x → ⊥
-  Least f (Best j k x) = FirstLeast Spot (Seen f) Earlier (spot j k) x
+  Least f None = (a : Spot) (x : Float) → Seen f a x → ⊥
+  Least f (Some (j, k, x)) = FirstLeast Spot (Seen f) Earlier (spot j k) x
 
   -- spots that nothing insertable stands between
   onward : (f g : Spot) → ((a : Spot) (x : Float) → Seen f a x → Seen g a x) → ((a : Spot) (x : Float) → Seen g a x → Seen f a x) → (c : Choice) → Least f c → Least g c
-  onward f g into from Nowhere none = λ a x k. none a x (from a x k)
-  onward f g into from (Best j k x) r = record {
+  onward f g into from None none = λ a x k. none a x (from a x k)
+  onward f g into from (Some (j, k, x)) r = record {
     admissible = into (spot j k) x r.admissible;
     least = λ a y m. r.least a y (from a y m);
     first = λ a y m l. r.first a y (from a y m) l;
@@ -129,22 +128,22 @@ module _ (s : List ℕ) (t : Terms) (route left : List ℕ) (numbers : CostsNumb
           go (inr q) = let f = q.1 in inr (q.0, cc)
 
       least_better : (c : Choice) → Least (spot j k) c → Least (spot j (k + 1)) (better_place c j k (costs z))
-      least_better Nowhere none = least_only Spot (Seen (spot j k)) (Seen (spot j (k + 1))) Earlier (spot j k) z itself (not_earlier (spot j k)) alike none
-      least_better (Best i n x) r = go (lt z x) refl
+      least_better None none = least_only Spot (Seen (spot j k)) (Seen (spot j (k + 1))) Earlier (spot j k) z itself (not_earlier (spot j k)) alike none
+      least_better (Some (i, n, x)) r = go (lt z x) refl
         where
-          go : (b : Bool) → lt z x ≡ b → Least (spot j (k + 1)) (cond b (Best j k z) (Best i n x))
+          go : (b : Bool) → lt z x ≡ b → Least (spot j (k + 1)) (cond b (Some (j, k, z)) (Some (i, n, x)))
           go true q = least_falls Spot (Seen (spot j k)) (Seen (spot j (k + 1))) Earlier (spot j k) z itself (not_earlier (spot j k)) alike (spot i n) x r (λ a y m. numbers a y m.fit) q
           go false q = stays i n x r (λ y f. let same : y ≡ z = cc in rw same q)
 
     -- however it is judged
     least_more : (o : Judged) → here ≡ o → (c : Choice) → Least (spot j k) c → Least (spot j (k + 1)) (better_place c j k o)
     least_more (costs z) e c r = least_better z e c r
-    least_more unfit e Nowhere none = λ a x m. go a x (parted a x m)
+    least_more unfit e None none = λ a x m. go a x (parted a x m)
       where
         go : (a : Spot) (x : Float) → Seen (spot j k) a x ⊎ ((a ≡ spot j k) × (here ≡ costs x)) → ⊥
         go a x (inl m) = none a x m
         go a x (inr q) = costs_not_unfit here x e q.1
-    least_more unfit e (Best i n x) r = stays i n x r (λ y q. absurd (costs_not_unfit here y e q))
+    least_more unfit e (Some (i, n, x)) r = stays i n x r (λ y q. absurd (costs_not_unfit here y e q))
 
   -- ---- all places of a stop, and all stops
   least_places : (j : ℕ) → j < length left → T (carries s t route (get_or left j 0)) → (c : Choice) (n k : ℕ) → k + n ≡ suc (length route) → Least (spot j k) c
@@ -190,8 +189,8 @@ module _ (s : List ℕ) (t : Terms) (route left : List ℕ) (numbers : CostsNumb
 
   -- every insertion was seen
   in_all : (c : Choice) → Least (spot (length left) 0) c → LeastInsertion s t route left c
-  in_all Nowhere none = λ a x m. none a x (record { fit = m; earlier = record { stop = let p = m.stop in omega arith; place = λ e. absurd (let p = m.stop in omega arith) } })
-  in_all (Best j k x) r = record {
+  in_all None none = λ a x m. none a x (record { fit = m; earlier = record { stop = let p = m.stop in omega arith; place = λ e. absurd (let p = m.stop in omega arith) } })
+  in_all (Some (j, k, x)) r = record {
     admissible = r.admissible.fit;
     least = λ a y m. r.least a y (record { fit = m; earlier = record { stop = let p = m.stop in omega arith; place = λ e. absurd (let p = m.stop in omega arith) } });
     first = λ a y m l. r.first a y (record { fit = m; earlier = record { stop = let p = m.stop in omega arith; place = λ e. absurd (let p = m.stop in omega arith) } }) l;
@@ -201,7 +200,7 @@ module _ (s : List ℕ) (t : Terms) (route left : List ℕ) (numbers : CostsNumb
   pub best_least : LeastInsertion s t route left (best_of s t route left)
   best_least =
       in_all (best_of s t route left)
-      (least_stops left Nowhere 0 (omega arith) (λ k h. ap (λ (n : ℕ). get_or left n 0) (sym (zero-add k)))
+      (least_stops left None 0 (omega arith) (λ k h. ap (λ (n : ℕ). get_or left n 0) (sym (zero-add k)))
       (λ a x m. let p = m.earlier.stop in omega (arith, m.earlier.place (let z : a.stop ≡ 0 = omega arith in z))))
 
 -- ---- without soft windows no cost is a NaN: it is a sum of two distances of the sheet, less a third

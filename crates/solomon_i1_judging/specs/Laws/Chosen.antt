@@ -1,5 +1,5 @@
 -- The insertion chosen is of a stop left, at a place of the round, within capacity, and judged fit. Where none is chosen, no place was. Assumes nothing.
-use Rattle.std.specs.Prelude.{◌≡◌, refl, Bool, cond, T, length}
+use Rattle.std.specs.Prelude.{◌≡◌, refl, Bool, cond, T, length, Some, None}
 use Rattle.std.proofs.Common.{sym, ◌∙◌, subst, zero-lt-suc, zero-add, add-zero}
 use Rattle.std.proofs.Math.Path.{ap}
 use Prim.Native.Nat.{ℕ, zero, suc, ◌+◌, ◌≤◌, ◌<◌, suc-le-suc}
@@ -11,8 +11,7 @@ use Rattle.std.proofs.Math.ListN.{get_or}
 use borrow.Author.Tests.{eqb-true, eqb-false}
 use Rattle.lists.specs.Every.{Every}
 use Rattle.constructive.specs.declared.terms.Terms.{Terms}
-use Rattle.insertion.specs.declared.choice.Choice.{Choice}
-use Rattle.insertion.specs.declared.choice.Choice.TheVariants.{Nowhere, Best}
+use Rattle.insertion.specs.Choice.{Choice}
 use Rattle.insertion.specs.Place.{Judged, unfit, costs, judge, wins, better_place, try_places, carries}
 use Rattle.solomon_i1_judging.specs.Choice.{try_stop, try_stops, best_of}
 
@@ -28,15 +27,15 @@ pub record Place (s : List ℕ) (t : Terms) (route : List ℕ) (row k : ℕ) : T
   pub fit : Fit (judge s t route row k)
 
 abbrev pub Chosen : List ℕ → Terms → List ℕ → List ℕ → Choice → Type 0
-Chosen s t route left Nowhere = Unit
-Chosen s t route left (Best j k cost) = (j < length left) × Place s t route (get_or left j 0) k
+Chosen s t route left None = Unit
+Chosen s t route left (Some (j, k, cost)) = (j < length left) × Place s t route (get_or left j 0) k
 
 module _ (s : List ℕ) (t : Terms) (route left : List ℕ) where
   better_chosen : (c : Choice) (j k : ℕ) (x : Judged) → j < length left → (Fit x → Place s t route (get_or left j 0) k) → Chosen s t route left c → Chosen s t route left (better_place c j k x)
   better_chosen c j k unfit h f u = u
   better_chosen c j k (costs cost) h f u = go (wins cost c)
     where
-      go : (b : Bool) → Chosen s t route left (cond b (Best j k cost) c)
+      go : (b : Bool) → Chosen s t route left (cond b (Some (j, k, cost)) c)
       go true = (h, f tt)
       go false = u
 
@@ -68,25 +67,25 @@ module _ (s : List ℕ) (t : Terms) (route left : List ℕ) where
       (subst (λ (i : ℕ). Chosen s t route left (try_stop s t route c j i)) (sym here) (stop_chosen j (omega (arith, h)) c u))
 
   pub best_chosen : Chosen s t route left (best_of s t route left)
-  best_chosen = stops_chosen left Nowhere 0 (omega arith) (λ k h. ap (λ (n : ℕ). get_or left n 0) (sym (zero-add k))) tt
+  best_chosen = stops_chosen left None 0 (omega arith) (λ k h. ap (λ (n : ℕ). get_or left n 0) (sym (zero-add k))) tt
 
 -- ---- where nothing is chosen
 -- within capacity, the stop is fit at no place of the round
 abbrev pub Shut : List ℕ → Terms → List ℕ → ℕ → Type 0
 Shut s t route row = T (carries s t route row) → (k : ℕ) → k ≤ length route → judge s t route row k ≡ unfit
 
-better_none : (c : Choice) (j k : ℕ) (x : Judged) → better_place c j k x ≡ Nowhere → (c ≡ Nowhere) × (x ≡ unfit)
-better_none Nowhere j k unfit e = (refl, refl)
-better_none Nowhere j k (costs cost) e = (cc, cc)
-better_none (Best i l least) j k unfit e = (cc, cc)
-better_none (Best i l least) j k (costs cost) e = go (wins cost (Best i l least)) e
+better_none : (c : Choice) (j k : ℕ) (x : Judged) → better_place c j k x ≡ None → (c ≡ None) × (x ≡ unfit)
+better_none None j k unfit e = (refl, refl)
+better_none None j k (costs cost) e = (cc, cc)
+better_none (Some (i, l, least)) j k unfit e = (cc, cc)
+better_none (Some (i, l, least)) j k (costs cost) e = go (wins cost (Some (i, l, least))) e
   where
-    go : (b : Bool) → cond b (Best j k cost) (Best i l least) ≡ Nowhere → (Best i l least ≡ Nowhere) × (costs cost ≡ unfit)
+    go : (b : Bool) → cond {A = Choice} b (Some (j, k, cost)) (Some (i, l, least)) ≡ None → ◌≡◌ {A = Choice} (Some (i, l, least)) None × (costs cost ≡ unfit)
     go true e = (cc, cc)
     go false e = (cc, cc)
 
 module _ (s : List ℕ) (t : Terms) (route : List ℕ) where
-  places_none : (j row : ℕ) (c : Choice) (n k : ℕ) → try_places s t route j row c n k ≡ Nowhere → (c ≡ Nowhere) × ((i : ℕ) → k ≤ i → i < k + n → judge s t route row i ≡ unfit)
+  places_none : (j row : ℕ) (c : Choice) (n k : ℕ) → try_places s t route j row c n k ≡ None → (c ≡ None) × ((i : ℕ) → k ≤ i → i < k + n → judge s t route row i ≡ unfit)
   unfolding try_places
   places_none j row c zero k e = (e, λ i h l. absurd (omega (arith, h, l)))
   places_none j row c (suc n) k e =
@@ -99,16 +98,16 @@ module _ (s : List ℕ) (t : Terms) (route : List ℕ) where
       go i h l here rest true e = ap (judge s t route row) (eqb-true i k e) ∙ here
       go i h l here rest false e = let d = eqb-false i k e in rest i (omega (arith, h, d)) (omega (arith, l))
 
-  stop_none : (c : Choice) (j row : ℕ) → try_stop s t route c j row ≡ Nowhere → (c ≡ Nowhere) × Shut s t route row
+  stop_none : (c : Choice) (j row : ℕ) → try_stop s t route c j row ≡ None → (c ≡ None) × Shut s t route row
   stop_none c j row e = go (carries s t route row) e
     where
-      go : (b : Bool) → cond b (try_places s t route j row c (suc (length route)) 0) c ≡ Nowhere → (c ≡ Nowhere) × (T b → (k : ℕ) → k ≤ length route → judge s t route row k ≡ unfit)
+      go : (b : Bool) → cond b (try_places s t route j row c (suc (length route)) 0) c ≡ None → (c ≡ None) × (T b → (k : ℕ) → k ≤ length route → judge s t route row k ≡ unfit)
       go true e =
           let r = places_none j row c (suc (length route)) 0 e in
           (r.0, λ l k h. r.1 k (omega arith) (omega (arith, h)))
       go false e = (e, λ l. absurd l)
 
-  stops_none : (rows : List ℕ) (c : Choice) (j : ℕ) → try_stops s t route c j rows ≡ Nowhere → (c ≡ Nowhere) × Every (Shut s t route) rows
+  stops_none : (rows : List ℕ) (c : Choice) (j : ℕ) → try_stops s t route c j rows ≡ None → (c ≡ None) × Every (Shut s t route) rows
   unfolding try_stops
   stops_none [] c j e = (e, tt)
   stops_none (row ∷ rows) c j e =
@@ -116,5 +115,5 @@ module _ (s : List ℕ) (t : Terms) (route : List ℕ) where
       let h = stop_none c j row r.0 in
       (h.0, (h.1, r.1))
 
-  pub none_shut : (left : List ℕ) → best_of s t route left ≡ Nowhere → Every (Shut s t route) left
-  none_shut left e = (stops_none left Nowhere 0 e).1
+  pub none_shut : (left : List ℕ) → best_of s t route left ≡ None → Every (Shut s t route) left
+  none_shut left e = (stops_none left None 0 e).1

@@ -1,7 +1,8 @@
 -- The lines of a text. Assumes nothing.
-use Rattle.std.specs.Prelude.{◌≡◌, ℕ, suc, ◌+◌, ◌≤◌, ◌<◌, Bool, true, false, not, ◌&&◌, List, [], ◌∷◌, ◌++◌, T, eqb, length, get_or, drop}
+use Rattle.std.specs.Prelude.{◌≡◌, ℕ, suc, ◌≤◌, ◌<◌, Bool, true, false, not, ◌&&◌, ◌||◌, List, [], ◌∷◌, ◌++◌, T, eqb, length, ◌+◌, get_or, drop}
+use Rattle.std.specs.List.{list_any}
 use Rattle.std.proofs.Math.Path.{refl}
-use Rattle.std.proofs.Common.{ap, ◌∙◌, zero-le, le_refl, zero-lt-suc, add-one, arith, drop_of_length-le, drop-cons}
+use Rattle.std.proofs.Common.{ap, ◌∙◌, zero-le, le_refl, zero-lt-suc, arith, add-one, drop_of_length-le, drop-cons}
 use Rattle.std.proofs.Math.Bool.{and-false}
 use Rattle.solomon_text.specs.Lines.{parts_of, parts_with, keep_part, is_feed, starts_with_feed, unless_return, without_returns, lines_of, after_first, first_line, is_digit, has_digit, digit_lines, is_filled}
 use Rattle.solomon_text.specs.Laws.Parts.{Uncut, one_part, part_first, first_and_rest, first_within}
@@ -114,6 +115,12 @@ pub digit_line_filled : (line : List ℕ) → T (has_digit line) → 0 < length 
 unfolding has_digit
 digit_line_filled [] h = absurd h
 digit_line_filled (b ∷ bs) h = zero-lt-suc (length bs)
+
+-- ---- a digit anywhere
+pub has_digit_any : (bs : List ℕ) → list_any is_digit bs ≡ has_digit bs
+unfolding has_digit
+has_digit_any [] = refl
+has_digit_any (b ∷ bs) = ap (λ (t : Bool). is_digit b || t) (has_digit_any bs)
 
 -- ---- a walk to the first digit
 module _ (line : List ℕ) (i : ℕ) (h : i < length line) where

@@ -1,12 +1,13 @@
 -- Whole numbers of any length, kept in 64 bits. Assumes nothing.
-use Rattle.std.specs.Prelude.{◌≡◌, ℕ, zero, suc, ◌+◌, ◌-◌, ◌*◌, ◌^◌, ◌≤◌, ◌<◌, Bool, true, false, List, [], ◌∷◌, eqb, leb, ℤ, pos, negsuc, nat_abs, neg_ℤ, get_or, drop}
+use Rattle.std.specs.Prelude.{◌≡◌, ℕ, zero, suc, ◌+◌, ◌-◌, ◌*◌, ◌^◌, ◌≤◌, ◌<◌, Bool, true, false, ◌&&◌, List, [], ◌∷◌, eqb, leb, ℤ, pos, negsuc, nat_abs, neg_ℤ, get_or, drop}
+use Rattle.std.specs.List.{list_all}
 use Rattle.std.proofs.Math.Path.{refl}
 use Rattle.std.proofs.Common.{sym, ap, ◌∙◌, inl, inr, ⊎_elim, suc-ne-zero, add-one, true≢false, ne_eqb}
 use native.Mathlib.Omega.{arith}
 use Rattle.std.proofs.Math.ListN.{length, drop_of_length-le}
 use Rattle.std.proofs.Math.Seq.{drop-cons}
 use Rattle.std.proofs.lemmas.Bool.{lt-leb}
-use Rattle.solomon_text.specs.Lines.{is_digit}
+use Rattle.solomon_text.specs.Lines.{is_digit, is_filled}
 use Rattle.solomon_text.specs.Kept.{Kept, KeptNumber}
 use Rattle.solomon_text.specs.Numbers.{has_minus, without_minus, all_digits, is_whole_number, after_digits, size_of, with_sign, whole_number, equals, is_up_to}
 
@@ -90,40 +91,51 @@ pub without_minus_lem : (word : List ℕ) → has_minus word ≡ false → word 
 without_minus_lem [] e = refl
 without_minus_lem (b ∷ bs) e = rw e refl
 
-module _ (word : List ℕ) (start : ℕ) (s : drop start word ≡ without_minus word) where
-  pub no_digits : start ≡ length word → is_whole_number word ≡ false
-  unfolding is_whole_number
-  no_digits e =
-      let out : length word ≤ start = omega arith in
-      rw (← s, drop_of_length-le word out) refl
+-- ---- nothing but digits
+pub all_digits_all : (bs : List ℕ) → list_all is_digit bs ≡ all_digits bs
+unfolding all_digits
+all_digits_all [] = refl
+all_digits_all (b ∷ bs) = ap (λ (t : Bool). is_digit b && t) (all_digits_all bs)
 
-  pub whole_by_digits : start < length word → is_whole_number word ≡ all_digits (drop start word)
+module _ (word digits : List ℕ) (d : digits ≡ without_minus word) where
+  pub no_digits : length digits ≡ 0 → false ≡ is_whole_number word
   unfolding is_whole_number
-  whole_by_digits h = rw (← s, drop-cons word start 0 h) refl
+  no_digits e = rw (← d) (go digits e)
+    where
+      go : (bs : List ℕ) → length bs ≡ 0 → false ≡ (is_filled bs && all_digits bs)
+      go [] e = refl
+      go (b ∷ bs) e = absurd (suc-ne-zero (length bs) e)
+
+  pub whole_by_digits : (length digits ≡ 0 → ⊥) → list_all is_digit digits ≡ is_whole_number word
+  unfolding is_whole_number
+  whole_by_digits h = rw (← d) (all_digits_all digits ∙ go digits h)
+    where
+      go : (bs : List ℕ) → (length bs ≡ 0 → ⊥) → all_digits bs ≡ (is_filled bs && all_digits bs)
+      go [] h = absurd (h refl)
+      go (b ∷ bs) h = refl
 
 -- ---- a walk along its digits
-pub record Sizing (word : List ℕ) (i kept : ℕ) : Type 0 where
+pub record Sizing (digits : List ℕ) (i kept : ℕ) : Type 0 where
   pub size : ℕ
-  pub left : size_of word ≡ after_digits size (drop i word)
+  pub left : after_digits 0 digits ≡ after_digits size (drop i digits)
   pub same : Kept size kept
 
-pub size_begins : (word : List ℕ) (i : ℕ) → drop i word ≡ without_minus word → Sizing word i 0
-unfolding size_of
-size_begins word i e = record { size = 0; left = ap (after_digits 0) (sym e); same = inl refl }
+pub size_begins : (digits : List ℕ) → Sizing digits 0 0
+size_begins digits = record { size = 0; left = refl; same = inl refl }
 
-pub size_goes_on : (word : List ℕ) (i kept more : ℕ) → i < length word → Sizing word i kept → ((size : ℕ) → Kept size kept → Kept (10 * size + (get_or word i 0 - 48)) more) → Sizing word (i + 1) more
+pub size_goes_on : (digits : List ℕ) (i kept more : ℕ) → i < length digits → Sizing digits i kept → ((size : ℕ) → Kept size kept → Kept (10 * size + (get_or digits i 0 - 48)) more) → Sizing digits (i + 1) more
 unfolding after_digits
-size_goes_on word i kept more h s f =
+size_goes_on digits i kept more h s f =
     record {
-      size = 10 * s.size + (get_or word i 0 - 48);
-      left = s.left ∙ rw (add-one, drop-cons word i 0 h) refl;
+      size = 10 * s.size + (get_or digits i 0 - 48);
+      left = s.left ∙ rw (add-one, drop-cons digits i 0 h) refl;
       same = f s.size s.same;
     }
 
-pub size_ends : (word : List ℕ) (i kept : ℕ) → length word ≤ i → Sizing word i kept → Kept (size_of word) kept
-unfolding after_digits
+pub size_ends : (word : List ℕ) (i kept : ℕ) → length (without_minus word) ≤ i → Sizing (without_minus word) i kept → Kept (size_of word) kept
+unfolding size_of after_digits
 size_ends word i kept h s =
-    let all : size_of word ≡ s.size = s.left ∙ rw (drop_of_length-le word h) refl in
+    let all : size_of word ≡ s.size = s.left ∙ rw (drop_of_length-le (without_minus word) h) refl in
     rw all s.same
 
 pub digits_go_on : (word : List ℕ) (i : ℕ) → i < length word → is_digit (get_or word i 0) ≡ true → all_digits (drop i word) ≡ all_digits (drop (i + 1) word)

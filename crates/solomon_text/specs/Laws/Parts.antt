@@ -6,8 +6,8 @@ use Prim.Native.Nat.{ℕ, suc, ◌+◌, ◌-◌, ◌≤◌, ◌<◌, zero-le}
 use native.Mathlib.Omega.{arith}
 use mathlib.Core.List.{List, [], ◌∷◌, ◌++◌}
 use Rattle.lists.specs.Every.{Every}
-use Rattle.lists.specs.Laws.Every.{every_append}
 use Rattle.solomon_text.specs.Lines.{parts_of, cut_or, first_or, after_first}
+use Rattle.lists.specs.Laws.Every.{every_append}
 
 -- no element is cut
 abbrev pub Uncut : (ℕ → Bool) → List ℕ → Type 0

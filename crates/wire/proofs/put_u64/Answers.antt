@@ -1,8 +1,7 @@
--- `wire::put_u64` meets its contract: two numbers of four bytes. Assumes nothing.
-use native.Mathlib.Omega.{arith}
-use Rattle.wire.proofs.Halves.{halves}
+-- `wire::put_u64` meets its contract. Assumes nothing.
+use Rattle.std.proofs.Common.{◌∙◌, arith}
+use Rattle.wire.proofs.Wide.{put_bytes}
 use Rattle.wire.proofs.put_u64.Goals as goal
 
 pub returns : goal.returns
-returns c = let a = c.args in
-    halves 4 a.s.now c.put_u32.new.s c.put_u32-2.new.s a.at a.v (omega arith) c.put_u32.ensures c.put_u32-2.ensures
+returns c = put_bytes 7 c.args.s.now c.args.at _ c.args.v c.copy_from_slice.new.self (omega arith) (c.copy_from_slice.ensures.after ∙ c.to_le_bytes.ensures)

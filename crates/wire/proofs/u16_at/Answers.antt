@@ -1,8 +1,7 @@
 -- `wire::u16_at` meets its contract. Assumes nothing.
-use Rattle.wire.specs.Bytes.{le}
-use native.Mathlib.Omega.{arith}
+use Rattle.std.proofs.Common.{◌∙◌}
+use Rattle.wire.proofs.Wide.{two}
 use Rattle.wire.proofs.u16_at.Goals as goal
 
 pub returns : goal.returns
-unfolding le
-returns c = omega arith
+returns c = c.from_le_bytes.ensures ∙ two c.args.s.now c.args.at

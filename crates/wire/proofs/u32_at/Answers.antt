@@ -1,7 +1,7 @@
--- `wire::u32_at` meets its contract: a number of four bytes is two of two. Assumes nothing.
-use native.Mathlib.Omega.{arith}
-use Rattle.wire.specs.Laws.Bytes.{le_split}
+-- `wire::u32_at` meets its contract. Assumes nothing.
+use Rattle.std.proofs.Common.{◌∙◌}
+use Rattle.wire.proofs.Wide.{four}
 use Rattle.wire.proofs.u32_at.Goals as goal
 
 pub returns : goal.returns
-returns c = let a = c.args in omega (arith, le_split 2 2 a.s.now a.at)
+returns c = c.from_le_bytes.ensures ∙ four c.args.s.now c.args.at

@@ -7,6 +7,11 @@ use Rattle.std.proofs.Math.ListN.{length, take, drop}
 use Rattle.std.proofs.Math.Seq.{take-append_seam, drop-append-le, drop-length}
 use Rattle.wire.specs.Bytes.{write}
 
+-- what is put in the place of a part
+pub put_part : (s : List ℕ) (at n : ℕ) (xs : List ℕ) → length xs ≡ n → take at s ++ (xs ++ drop n (drop at s)) ≡ write s at xs
+unfolding write
+put_part s at n xs e = rw (drop-drop n at s, e)
+
 -- what stands there already changes nothing
 pub write_same : (s : List ℕ) (at n : ℕ) → at + n ≤ length s → write s at (take n (drop at s)) ≡ s
 unfolding write

@@ -1,7 +1,6 @@
 -- `clarke_wright_slots::laying::lay_slots` meets its contract. Assumes nothing.
-use Prim.Native.Nat.{◌-◌}
 use native.Mathlib.Omega.{arith}
-use Rattle.clarke_wright_slots.proofs.Rounds.{begins, slot_room, fits, copy_room, passes_on, close_room, closes, stops_long, ends_long, vehicles_long, ends_count, ends_laid}
+use Rattle.clarke_wright_slots.proofs.Rounds.{begins, fits, copy_room, passes_on, close_room, closes, stops_long, ends_long, vehicles_long, ends_count, ends_laid}
 use Rattle.clarke_wright_slots.proofs.laying.lay_slots.Goals as goal
 
 pub loop-k-init : goal.loop-k-init
@@ -34,23 +33,14 @@ overflow_add-at c = omega (arith, c.loop-k.invariant.room.most, c.loop-k.invaria
 pub offset_bounds-cells-at : goal.offset_bounds-cells-at
 offset_bounds-cells-at c = omega (arith, c.loop-k.invariant.room.most)
 
-pub slice_bounds-copy-count : goal.slice_bounds-copy-count
-slice_bounds-copy-count c = omega arith
-
-pub slice_bounds-copy-end : goal.slice_bounds-copy-end
-slice_bounds-copy-end c = slot_room c.loop-k.invariant c.loop-k-test.true
-
 pub offset_bounds-stops-start : goal.offset_bounds-stops-start
 offset_bounds-stops-start c = omega (arith, (fits c.loop-k.invariant c.loop-k-test.true).0)
 
-pub slice_bounds-copy-count-in-loop-k : goal.slice_bounds-copy-count-in-loop-k
-slice_bounds-copy-count-in-loop-k c = omega (arith, (fits c.loop-k.invariant c.loop-k-test.true).1)
+pub slice_bounds-copy_from_slice-end : goal.slice_bounds-copy_from_slice-end
+slice_bounds-copy_from_slice-end c = (fits c.loop-k.invariant c.loop-k-test.true).1
 
-pub slice_bounds-copy-start-in-loop-k : goal.slice_bounds-copy-start-in-loop-k
-slice_bounds-copy-start-in-loop-k c = omega (arith, (fits c.loop-k.invariant c.loop-k-test.true).1)
-
-pub copy-requires : goal.copy-requires
-copy-requires c = copy_room c.loop-k.invariant c.loop-k-test.true
+pub copy_from_slice-requires : goal.copy_from_slice-requires
+copy_from_slice-requires c = copy_room c.loop-k.invariant c.loop-k-test.true
 
 pub overflow_add-start : goal.overflow_add-start
 overflow_add-start c = omega (arith, (fits c.loop-k.invariant c.loop-k-test.true).0)
@@ -65,7 +55,7 @@ pub loop-k-smaller : goal.loop-k-smaller
 loop-k-smaller c = omega (arith, c.loop-k-test.true)
 
 pub loop-k-preserved : goal.loop-k-preserved
-loop-k-preserved c = closes c.loop-k.invariant c.loop-k-test.true c.if-n-eq0.false c.copy.new.to _ _ _ c.copy.ensures c.close_round-done.ensures.value c.close_round-done.ensures.ends_after.0 c.close_round-done.ensures.ends_after.1
+loop-k-preserved c = closes c.loop-k.invariant c.loop-k-test.true c.if-n-eq0.false c.copy_from_slice.new.self _ _ _ c.copy_from_slice.ensures.after c.close_round-done.ensures.value c.close_round-done.ensures.ends_after.0 c.close_round-done.ensures.ends_after.1
 
 pub shape_of-stops : goal.shape_of-stops
 shape_of-stops c = stops_long c.loop-k.invariant

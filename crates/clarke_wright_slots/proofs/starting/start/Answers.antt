@@ -1,7 +1,6 @@
 -- `clarke_wright_slots::starting::start` meets its contract. Assumes nothing.
 use mathlib.Core.Path.{sym, ap, ◌∙◌}
 use lib.ListN.{length, length-replicate}
-use Prim.Native.Nat.{◌-◌}
 use native.Mathlib.Omega.{arith}
 use Rattle.clarke_wright_slots.specs.Laws.Slots.{roomy_within}
 use Rattle.clarke_wright_slots.proofs.StartingRoutes.{begins, few, row_known, seats, sets_aside, ends_many, ends_left, ends_same, ends_slotted}
@@ -10,11 +9,8 @@ use Rattle.clarke_wright_slots.proofs.starting.start.Goals as goal
 pub overflow_cast-count : goal.overflow_cast-count
 overflow_cast-count c = omega (arith, c.requires.routed.few)
 
-pub fill-requires : goal.fill-requires
-fill-requires c = tt
-
 pub loop-k-init : goal.loop-k-init
-loop-k-init c = begins c.args.sheet.now c.args.terms c.args.members.now c.args.cells.now c.args.lens.now c.args.loads.now c.args.slots.now c.args.aside.now c.fill.new.slots c.requires.routed c.requires.by_index c.requires.roomy c.requires.most_rows_in_bounds c.fill.ensures
+loop-k-init c = begins c.args.sheet.now c.args.terms c.args.members.now c.args.cells.now c.args.lens.now c.args.loads.now c.args.slots.now c.args.aside.now c.fill.new.self c.requires.routed c.requires.by_index c.requires.roomy c.requires.most_rows_in_bounds (c.fill.ensures.after (λ y e. e))
 
 pub offset_bounds-members-k : goal.offset_bounds-members-k
 offset_bounds-members-k c = omega (arith, c.loop-k.invariant.room.most)
@@ -86,7 +82,7 @@ pub shape_of-loads : goal.shape_of-loads
 shape_of-loads c = c.loop-k.invariant.loads_long
 
 pub shape_of-slots : goal.shape_of-slots
-shape_of-slots c = c.loop-k.invariant.slots_long ∙ ap length c.fill.ensures ∙ length-replicate _ _
+shape_of-slots c = c.loop-k.invariant.slots_long ∙ ap length (c.fill.ensures.after (λ y e. e)) ∙ length-replicate _ _
 
 pub shape_of-aside : goal.shape_of-aside
 shape_of-aside c = c.loop-k.invariant.aside_long

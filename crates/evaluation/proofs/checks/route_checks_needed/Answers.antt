@@ -6,6 +6,6 @@ pub returns-then-has_time_windows : goal.returns-then-has_time_windows
 unfolding route_checks_needed
 returns-then-has_time_windows c = rw (← c.has_time_windows.ensures, c.if-has_time_windows.true)
 
-pub returns : goal.returns
+pub returns-else-has_time_windows : goal.returns-else-has_time_windows
 unfolding route_checks_needed
-returns c = rw (← c.has_time_windows.ensures, c.if-has_time_windows.false, c.is_unlimited.ensures)
+returns-else-has_time_windows c = rw (← c.has_time_windows.ensures, c.if-has_time_windows.false, c.is_unlimited.ensures)

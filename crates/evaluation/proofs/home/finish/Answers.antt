@@ -3,8 +3,8 @@ use mathlib.Core.Path.{◌∙◌}
 use Rattle.evaluation.proofs.Soonest.{done_sooner, refused_sooner}
 use Rattle.evaluation.proofs.home.finish.Goals as goal
 
-pub returns-in-Done : goal.returns-in-Done
-returns-in-Done c = c.sooner.ensures ∙ done_sooner _ _ _ _ _ _ _ _ _ c.in-Done.is c.travel_time-back.ensures c.home-plain.ensures
+pub returns : goal.returns
+returns c = c.sooner.ensures ∙ done_sooner _ _ _ _ _ _ _ _ _ c.in-Some.is c.travel_time-back.ensures c.home-plain.ensures
 
-pub returns-in-Refused : goal.returns-in-Refused
-returns-in-Refused c = refused_sooner _ _ _ _ _ _ c.in-Refused.is
+pub returns-in_default : goal.returns-in_default
+returns-in_default c = refused_sooner _ _ _ _ _ _ c.in_default.is

@@ -6,6 +6,6 @@ pub returns-then-begun-rest : goal.returns-then-begun-rest
 unfolding mends
 returns-then-begun-rest c = rw (← c.start-begun.ensures, c.if-begun-rest.true) c.allow.ensures
 
-pub returns : goal.returns
+pub returns-else-begun-rest : goal.returns-else-begun-rest
 unfolding mends
-returns c = rw (← c.start-begun.ensures, c.if-begun-rest.false)
+returns-else-begun-rest c = rw (← c.start-begun.ensures, c.if-begun-rest.false)

@@ -5,10 +5,10 @@ use Rattle.evaluation.specs.Verdict.{held_to}
 use Rattle.evaluation.specs.Laws.Verdict.{held_passes}
 use Rattle.evaluation.proofs.keeping.keeps_rested.Goals as goal
 
-pub returns-in-Done : goal.returns-in-Done
+pub returns : goal.returns
 unfolding taken_of end_of
-returns-in-Done c = rw (← c.step-carried.ensures, ← c.step_rested-here.ensures, ← c.earlier-taken.ensures, c.in-Done.is) (c.allow.ensures ∙ sym (held_passes _ _))
+returns c = rw (← c.step-carried.ensures, ← c.step_rested-here.ensures, ← c.earlier.ensures, c.in-Some.is) (c.allow.ensures ∙ sym (held_passes _ _))
 
-pub returns-in-Refused : goal.returns-in-Refused
+pub returns-in_default : goal.returns-in_default
 unfolding held_to taken_of end_of
-returns-in-Refused c = rw (← c.step-carried.ensures, ← c.step_rested-here.ensures, ← c.earlier-taken.ensures, c.in-Refused.is)
+returns-in_default c = rw (← c.step-carried.ensures, ← c.step_rested-here.ensures, ← c.earlier.ensures, c.in_default.is)

@@ -2,4 +2,4 @@
 use Rattle.evaluation.proofs.limits.returning_by.Goals as goal
 
 pub returns : goal.returns
-returns c = rw c.lower-max_duration.ensures
+returns c = rw c.lower.ensures

@@ -2,10 +2,10 @@
 use Rattle.evaluation_clock.specs.Clock.{end_of}
 use Rattle.evaluation_clock.proofs.clock.ended.Goals as goal
 
-pub returns-in-Done : goal.returns-in-Done
+pub returns : goal.returns
 unfolding end_of
-returns-in-Done c = rw (c.in-Done.is, c.home.ensures)
+returns c = rw (c.in_ok-l.was, c.home.ensures)
 
-pub returns-in-Refused : goal.returns-in-Refused
+pub returns-in_err-l : goal.returns-in_err-l
 unfolding end_of
-returns-in-Refused c = rw c.in-Refused.is
+returns-in_err-l c = rw c.in_err-l.was c.from_residual.ensures

@@ -2,5 +2,5 @@
 use mathlib.Core.Path.{sym}
 use Rattle.evaluation_clock.proofs.label.rebuilt.Goals as goal
 
-pub returns-in-Before : goal.returns-in-Before
-returns-in-Before c = sym c.in-Before.is
+pub returns-in-Some : goal.returns-in-Some
+returns-in-Some c = sym c.in-Some.is

@@ -2,10 +2,10 @@
 use Rattle.evaluation_clock.specs.Clock.{step_of}
 use Rattle.evaluation_clock.proofs.label.step.Goals as goal
 
-pub returns-in-Done : goal.returns-in-Done
+pub returns-in_err-from : goal.returns-in_err-from
 unfolding step_of
-returns-in-Done c = rw c.in-Done.is c.serve.ensures
+returns-in_err-from c = rw c.in_err-from.was c.from_residual.ensures
 
-pub returns-in-Refused : goal.returns-in-Refused
+pub returns : goal.returns
 unfolding step_of
-returns-in-Refused c = rw c.in-Refused.is
+returns c = rw c.in_ok-from.was c.serve.ensures

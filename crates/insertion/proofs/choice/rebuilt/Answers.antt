@@ -2,5 +2,5 @@
 use mathlib.Core.Path.{sym}
 use Rattle.insertion.proofs.choice.rebuilt.Goals as goal
 
-pub returns-in-Best : goal.returns-in-Best
-returns-in-Best c = sym c.in-Best.is
+pub returns-in-Some : goal.returns-in-Some
+returns-in-Some c = sym c.in-Some.is

@@ -1,5 +1,5 @@
 -- `insertion::choice::wins` meets its contract. Assumes nothing.
 use Rattle.insertion.proofs.choice.wins.Goals as goal
 
-pub returns-in-Best : goal.returns-in-Best
-returns-in-Best c = rw c.in-Best.is
+pub returns-in-Some : goal.returns-in-Some
+returns-in-Some c = rw c.in-Some.is

@@ -1,51 +1,55 @@
 -- `listing_text::lines::put_round_line` meets its contract. Assumes nothing.
-use native.Mathlib.Omega.{arith}
 use Rattle.plan.specs.Read.{id_at, first_stop_at}
 use Rattle.listing_text.specs.Listing.{round_line, round_parts}
 use Rattle.listing_text.proofs.Putting.{begins, fits, next, ends}
 use Rattle.listing_text.proofs.lines.put_round_line.Goals as goal
 
-pub put_u32_field-id-requires : goal.put_u32_field-id-requires
+pub put_field-id-requires : goal.put_field-id-requires
 unfolding round_line id_at first_stop_at
-put_u32_field-id-requires c = let a = c.args in
-    record {
-      place_in_bounds = omega (arith, c.requires.k_in_bounds);
-      text_room = fits (begins a.out.now a.at (round_parts a.plan.now a.k) c.requires.text_room);
-    }
+put_field-id-requires c = let a = c.args in
+    let l0 = begins a.out.now a.at (round_parts a.plan.now a.k) c.requires.text_room in
+    rw c.u32_at.ensures (fits l0)
 
-pub put_u16_field-first-requires : goal.put_u16_field-first-requires
+pub put_field-first-requires : goal.put_field-first-requires
 unfolding round_line id_at first_stop_at
-put_u16_field-first-requires c = let a = c.args in
-    record {
-      place_in_bounds = omega (arith, c.requires.k_in_bounds);
-      text_room = fits (next (begins a.out.now a.at (round_parts a.plan.now a.k) c.requires.text_room) c.put_u32_field-id.ensures);
-    }
+put_field-first-requires c = let a = c.args in
+    let l0 = begins a.out.now a.at (round_parts a.plan.now a.k) c.requires.text_room in
+    let l1 = next l0 (rw c.u32_at.ensures at c.put_field-id.ensures) in
+    rw c.u16_at.ensures (fits l1)
 
-pub put_u32_field-load-requires : goal.put_u32_field-load-requires
+pub put_field-load-requires : goal.put_field-load-requires
 unfolding round_line id_at first_stop_at
-put_u32_field-load-requires c = let a = c.args in
-    record {
-      place_in_bounds = omega (arith, c.requires.k_in_bounds);
-      text_room = fits (next (next (begins a.out.now a.at (round_parts a.plan.now a.k) c.requires.text_room) c.put_u32_field-id.ensures) c.put_u16_field-first.ensures);
-    }
+put_field-load-requires c = let a = c.args in
+    let l0 = begins a.out.now a.at (round_parts a.plan.now a.k) c.requires.text_room in
+    let l1 = next l0 (rw c.u32_at.ensures at c.put_field-id.ensures) in
+    let l2 = next l1 (rw c.u16_at.ensures at c.put_field-first.ensures) in
+    rw c.u32_at-2.ensures (fits l2)
 
-pub put_u16_field-rest-requires : goal.put_u16_field-rest-requires
+pub put_field-rest-requires : goal.put_field-rest-requires
 unfolding round_line id_at first_stop_at
-put_u16_field-rest-requires c = let a = c.args in
-    record {
-      place_in_bounds = omega (arith, c.requires.k_in_bounds);
-      text_room = fits (next (next (next (begins a.out.now a.at (round_parts a.plan.now a.k) c.requires.text_room) c.put_u32_field-id.ensures) c.put_u16_field-first.ensures) c.put_u32_field-load.ensures);
-    }
+put_field-rest-requires c = let a = c.args in
+    let l0 = begins a.out.now a.at (round_parts a.plan.now a.k) c.requires.text_room in
+    let l1 = next l0 (rw c.u32_at.ensures at c.put_field-id.ensures) in
+    let l2 = next l1 (rw c.u16_at.ensures at c.put_field-first.ensures) in
+    let l3 = next l2 (rw c.u32_at-2.ensures at c.put_field-load.ensures) in
+    rw c.u16_at-2.ensures (fits l3)
 
-pub put_figures-requires : goal.put_figures-requires
+pub put_figures-requires-clause-text_room : goal.put_figures-requires-clause-text_room
 unfolding round_line id_at first_stop_at
-put_figures-requires c = let a = c.args in
-    record {
-      place_in_bounds = omega (arith, c.requires.k_in_bounds);
-      text_room = fits (next (next (next (next (begins a.out.now a.at (round_parts a.plan.now a.k) c.requires.text_room) c.put_u32_field-id.ensures) c.put_u16_field-first.ensures) c.put_u32_field-load.ensures) c.put_u16_field-rest.ensures);
-    }
+put_figures-requires-clause-text_room c = let a = c.args in
+    let l0 = begins a.out.now a.at (round_parts a.plan.now a.k) c.requires.text_room in
+    let l1 = next l0 (rw c.u32_at.ensures at c.put_field-id.ensures) in
+    let l2 = next l1 (rw c.u16_at.ensures at c.put_field-first.ensures) in
+    let l3 = next l2 (rw c.u32_at-2.ensures at c.put_field-load.ensures) in
+    let l4 = next l3 (rw c.u16_at-2.ensures at c.put_field-rest.ensures) in
+    fits l4
 
 pub returns : goal.returns
 unfolding round_line id_at first_stop_at
 returns c = let a = c.args in
-    ends (next (next (next (next (next (begins a.out.now a.at (round_parts a.plan.now a.k) c.requires.text_room) c.put_u32_field-id.ensures) c.put_u16_field-first.ensures) c.put_u32_field-load.ensures) c.put_u16_field-rest.ensures) c.put_figures.ensures)
+    let l0 = begins a.out.now a.at (round_parts a.plan.now a.k) c.requires.text_room in
+    let l1 = next l0 (rw c.u32_at.ensures at c.put_field-id.ensures) in
+    let l2 = next l1 (rw c.u16_at.ensures at c.put_field-first.ensures) in
+    let l3 = next l2 (rw c.u32_at-2.ensures at c.put_field-load.ensures) in
+    let l4 = next l3 (rw c.u16_at-2.ensures at c.put_field-rest.ensures) in
+    ends (next l4 c.put_figures.ensures)

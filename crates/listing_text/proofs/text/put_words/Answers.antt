@@ -1,40 +1,23 @@
 -- `listing_text::text::put_words` meets its contract. Assumes nothing.
-use mathlib.Core.Path.{refl}
-use Prim.Native.Nat.{◌-◌}
+use mathlib.Core.Path.{◌≡◌, refl, ap, ◌∙◌}
+use Prim.Native.Nat.{ℕ, ◌+◌, ◌-◌}
 use native.Mathlib.Omega.{arith}
-use Rattle.listing_text.proofs.Copying.{begins, goes_on, ends}
+use mathlib.Core.List.{List, ◌++◌}
+use lib.ListN.{length, take, drop}
+use Rattle.std.proofs.Common.{drop-drop}
+use borrow.Rule.Slice.PartMut.{put_mid}
+use Rattle.wire.specs.Bytes.{write}
+use Rattle.wire.specs.Laws.Bytes.{length_write}
 use Rattle.listing_text.proofs.text.put_words.Goals as goal
 
-pub loop-i-init : goal.loop-i-init
-loop-i-init c = (refl, begins c.args.out.now c.args.at c.args.words.now)
-
-pub bounds-words-i : goal.bounds-words-i
-bounds-words-i c = omega (arith, c.loop-i.invariant.0)
-
-pub overflow_add-out : goal.overflow_add-out
-overflow_add-out c = omega (arith, c.loop-i.invariant.0)
-
-pub bounds-out-at : goal.bounds-out-at
-bounds-out-at c = omega (arith, c.loop-i.invariant.0, c.loop-i.invariant.1.long)
-
-pub overflow_step-i : goal.overflow_step-i
-overflow_step-i c = omega arith
-
-pub loop-i-smaller : goal.loop-i-smaller
-loop-i-smaller c = omega arith
-
-pub loop-i-preserved : goal.loop-i-preserved
-loop-i-preserved c = let a = c.args in
-    let l = c.loop-i in
-    (l.invariant.0, goes_on a.out.now a.at a.words.now l.out l.i c.requires l.invariant.1 (omega (arith, l.invariant.0)))
-
-pub overflow_add-result : goal.overflow_add-result
-overflow_add-result c = omega arith
-
-pub shape_of-out : goal.shape_of-out
-shape_of-out c = c.loop-i.invariant.1.long
+put_write : (s : List ℕ) (at k : ℕ) (xs : List ℕ) → k ≡ length xs → put_mid at k s xs ≡ write s at xs
+unfolding write
+put_write s at k xs e = ap (λ (ys : List ℕ). take at s ++ (xs ++ ys)) (drop-drop k at s ∙ ap (λ (n : ℕ). drop (at + n) s) e)
 
 pub returns : goal.returns
-returns c = let a = c.args in
-    let l = c.loop-i in
-    record { same = ends a.out.now a.at a.words.now l.out l.i l.invariant.1 (omega (arith, l.invariant.0)); long = refl; within = omega (arith, l.invariant.1.long) }
+returns c =
+    let a = c.args in
+    let n : a.at + length a.words.now - a.at ≡ length a.words.now = omega arith in
+    let e : put_mid a.at (a.at + length a.words.now - a.at) a.out.now c.copy_from_slice.new.self ≡ write a.out.now a.at a.words.now =
+    ap (put_mid a.at (a.at + length a.words.now - a.at) a.out.now) c.copy_from_slice.ensures.after ∙ put_write a.out.now a.at _ a.words.now n in
+    record { same = e; long = refl; within = omega (arith, ap length e, length_write a.out.now a.at a.words.now c.requires) }

@@ -47,25 +47,25 @@ returns-in_default c = let g = c.loop-end.invariant.1 in let t = grown_full _ _ 
 }
 
 pub overflow_add-from : goal.overflow_add-from
-overflow_add-from c = omega (arith, inside _ _ _ _ _ _ _ _ _ _ c.loop-end.invariant.1 c.best_stop.result _ _ c.loop-end.invariant.0.0 c.loop-end.invariant.0.1 c.best_stop.ensures _ _ c.in-Best.is, c.loop-end.invariant.1.all, c.loop-end.invariant.1.members.most)
+overflow_add-from c = omega (arith, inside _ _ _ _ _ _ _ _ _ _ c.loop-end.invariant.1 c.best_stop.result _ _ c.loop-end.invariant.0.0 c.loop-end.invariant.0.1 c.best_stop.ensures _ _ c.in-Some.is, c.loop-end.invariant.1.all, c.loop-end.invariant.1.members.most)
 
 pub offset_bounds-stops-from : goal.offset_bounds-stops-from
-offset_bounds-stops-from c = omega (arith, inside _ _ _ _ _ _ _ _ _ _ c.loop-end.invariant.1 c.best_stop.result _ _ c.loop-end.invariant.0.0 c.loop-end.invariant.0.1 c.best_stop.ensures _ _ c.in-Best.is, c.loop-end.invariant.1.all, c.loop-end.invariant.1.members.most)
+offset_bounds-stops-from c = omega (arith, inside _ _ _ _ _ _ _ _ _ _ c.loop-end.invariant.1 c.best_stop.result _ _ c.loop-end.invariant.0.0 c.loop-end.invariant.0.1 c.best_stop.ensures _ _ c.in-Some.is, c.loop-end.invariant.1.all, c.loop-end.invariant.1.members.most)
 
 pub bounds-stops-from : goal.bounds-stops-from
-bounds-stops-from c = omega (arith, inside _ _ _ _ _ _ _ _ _ _ c.loop-end.invariant.1 c.best_stop.result _ _ c.loop-end.invariant.0.0 c.loop-end.invariant.0.1 c.best_stop.ensures _ _ c.in-Best.is, c.loop-end.invariant.1.all, c.loop-end.invariant.1.members.within, length_same _ _ _ _ _ _ _ _ _ _ c.loop-end.invariant.1)
+bounds-stops-from c = omega (arith, inside _ _ _ _ _ _ _ _ _ _ c.loop-end.invariant.1 c.best_stop.result _ _ c.loop-end.invariant.0.0 c.loop-end.invariant.0.1 c.best_stop.ensures _ _ c.in-Some.is, c.loop-end.invariant.1.all, c.loop-end.invariant.1.members.within, length_same _ _ _ _ _ _ _ _ _ _ c.loop-end.invariant.1)
 
 pub overflow_cast-stops : goal.overflow_cast-stops
-overflow_cast-stops c = omega (arith, stop_row _ _ _ _ _ _ _ _ _ _ c.loop-end.invariant.1 c.best_stop.result _ _ c.loop-end.invariant.0.0 c.loop-end.invariant.0.1 c.best_stop.ensures _ _ c.in-Best.is, c.loop-end.invariant.1.members.routed.sheet.sized.rows)
+overflow_cast-stops c = omega (arith, stop_row _ _ _ _ _ _ _ _ _ _ c.loop-end.invariant.1 c.best_stop.result _ _ c.loop-end.invariant.0.0 c.loop-end.invariant.0.1 c.best_stop.ensures _ _ c.in-Some.is, c.loop-end.invariant.1.members.routed.sheet.sized.rows)
 
 pub drive_on-partial-requires-clause-partial_route : goal.drive_on-partial-requires-clause-partial_route
 drive_on-partial-requires-clause-partial_route c = rides _ _ _ _ _ _ _ _ _ _ c.loop-end.invariant.1 c.loop-end-test.true
 
 pub drive_on-partial-requires-clause-row_bound : goal.drive_on-partial-requires-clause-row_bound
-drive_on-partial-requires-clause-row_bound c = stop_row _ _ _ _ _ _ _ _ _ _ c.loop-end.invariant.1 c.best_stop.result _ _ c.loop-end.invariant.0.0 c.loop-end.invariant.0.1 c.best_stop.ensures _ _ c.in-Best.is
+drive_on-partial-requires-clause-row_bound c = stop_row _ _ _ _ _ _ _ _ _ _ c.loop-end.invariant.1 c.best_stop.result _ _ c.loop-end.invariant.0.0 c.loop-end.invariant.0.1 c.best_stop.ensures _ _ c.in-Some.is
 
 pub bring-requires : goal.bring-requires
-bring-requires c = (omega arith, omega (arith, inside _ _ _ _ _ _ _ _ _ _ c.loop-end.invariant.1 c.best_stop.result _ _ c.loop-end.invariant.0.0 c.loop-end.invariant.0.1 c.best_stop.ensures _ _ c.in-Best.is, c.loop-end.invariant.1.all, c.loop-end.invariant.1.members.within, length_same _ _ _ _ _ _ _ _ _ _ c.loop-end.invariant.1))
+bring-requires c = (omega arith, omega (arith, inside _ _ _ _ _ _ _ _ _ _ c.loop-end.invariant.1 c.best_stop.result _ _ c.loop-end.invariant.0.0 c.loop-end.invariant.0.1 c.best_stop.ensures _ _ c.in-Some.is, c.loop-end.invariant.1.all, c.loop-end.invariant.1.members.within, length_same _ _ _ _ _ _ _ _ _ _ c.loop-end.invariant.1))
 
 pub overflow_add-end : goal.overflow_add-end
 overflow_add-end c = omega (arith, c.loop-end.invariant.1.members.most)
@@ -74,7 +74,7 @@ pub loop-end-smaller : goal.loop-end-smaller
 loop-end-smaller c = omega arith
 
 pub loop-end-preserved : goal.loop-end-preserved
-loop-end-preserved c = (c.loop-end.invariant.0, goes_on _ _ _ _ _ _ _ _ _ _ c.loop-end.invariant.1 c.best_stop.result _ _ c.loop-end.invariant.0.0 c.loop-end.invariant.0.1 c.best_stop.ensures _ _ c.in-Best.is _ _ c.bring.ensures c.drive_on-partial.ensures)
+loop-end-preserved c = (c.loop-end.invariant.0, goes_on _ _ _ _ _ _ _ _ _ _ c.loop-end.invariant.1 c.best_stop.result _ _ c.loop-end.invariant.0.0 c.loop-end.invariant.0.1 c.best_stop.ensures _ _ c.in-Some.is _ _ c.bring.ensures c.drive_on-partial.ensures)
 
 pub shape_of-stops : goal.shape_of-stops
 shape_of-stops c = length_same _ _ _ _ _ _ _ _ _ _ c.loop-end.invariant.1

@@ -1,14 +1,11 @@
 -- `nearest_neighbor::greedy::ignores_due` meets its contract. Assumes nothing.
+use Rattle.std.proofs.Common.{rules}
 use Rattle.nearest_neighbor.specs.Heuristic.{ignores_due}
 use Rattle.nearest_neighbor.proofs.greedy.ignores_due.Goals as goal
 
-pub returns-in-NoRest : goal.returns-in-NoRest
+pub returns-in-Nearest : goal.returns-in-Nearest
 unfolding ignores_due
-returns-in-NoRest c = rw (c.in-Nearest.is, c.in-NoRest.is)
-
-pub returns-in_default : goal.returns-in_default
-unfolding ignores_due
-returns-in_default c = rw (c.in-Nearest.is, c.in_default.is)
+returns-in-Nearest c = search rules
 
 pub returns-in-NearestTw : goal.returns-in-NearestTw
 unfolding ignores_due

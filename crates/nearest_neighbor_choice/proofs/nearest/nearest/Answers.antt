@@ -7,26 +7,11 @@ use Rattle.nearest_neighbor_choice.proofs.nearest.nearest.Goals as goal
 pub loop-j-init : goal.loop-j-init
 loop-j-init c = record { last = refl; within = omega arith; same = refl }
 
-pub offset_bounds-left-j : goal.offset_bounds-left-j
-offset_bounds-left-j c = omega arith
-
-pub bounds-left-j : goal.bounds-left-j
-bounds-left-j c = omega (arith, c.loop-j.invariant.last)
-
-pub overflow_cast-left : goal.overflow_cast-left
-overflow_cast-left c = omega (arith, c.shared_slice_known-in-loop-j-1.given c.loop-j.j)
-
 pub nearer-best-requires-clause-partial_route : goal.nearer-best-requires-clause-partial_route
 nearer-best-requires-clause-partial_route c = c.requires.partial_route
 
 pub nearer-best-requires-clause-row_bound : goal.nearer-best-requires-clause-row_bound
 nearer-best-requires-clause-row_bound c = (c.requires.routed.row c.loop-j.j (omega (arith, c.loop-j.invariant.last)), c.requires.routed.home)
-
-pub overflow_step-j : goal.overflow_step-j
-overflow_step-j c = omega arith
-
-pub loop-j-smaller : goal.loop-j-smaller
-loop-j-smaller c = omega arith
 
 pub loop-j-preserved : goal.loop-j-preserved
 loop-j-preserved c = goes_on _ _ _ _ _ c.loop-j.invariant _ c.loop-j-test.true c.nearer-best.ensures

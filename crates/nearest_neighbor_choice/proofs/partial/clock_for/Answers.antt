@@ -1,5 +1,5 @@
 -- `nearest_neighbor_choice::partial::clock_for` meets its contract. Assumes nothing.
 use Rattle.nearest_neighbor_choice.proofs.partial.clock_for.Goals as goal
 
-pub returns-in-Required : goal.returns-in-Required
-returns-in-Required c = rw (c.in-Required.is, c.new.ensures)
+pub returns-in-Some : goal.returns-in-Some
+returns-in-Some c = rw (c.in-Some.is, c.new.ensures)

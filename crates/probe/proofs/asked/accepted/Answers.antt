@@ -1,5 +1,11 @@
 -- `probe::asked::accepted` meets its contract. Assumes nothing.
-use mathlib.Core.Path.{sym}
+use mathlib.Core.Path.{◌≡◌, refl, sym, ◌∙◌}
+use lib.Dec.{eqb}
+use borrow.Author.Tests.{ne_eqb}
+use Rattle.std.specs.Prelude.{Result, Ok, Err, is_ok}
+use Rattle.sheet.specs.declared.refusal.Refusal.{Refusal}
+use Rattle.sheet.specs.Told.{told}
+use Rattle.sheet.specs.Laws.Told.{number_positive}
 use Prim.Native.Nat.{ℕ}
 use native.Mathlib.Omega.{arith}
 use Rattle.probe.specs.Promises.{accepted_of}
@@ -15,6 +21,11 @@ overflow_mul-rows c = omega (arith, rows_fit c.args.sheet.now (λ (i : ℕ). ome
 pub overflow_add-rows : goal.overflow_add-rows
 overflow_add-rows c = omega (arith, rows_fit c.args.sheet.now (λ (i : ℕ). omega (arith, c.shared_slice_known-1.given i)))
 
+-- no refusal is told where a result is right
+ok_told : {A : Type 0} (r : Result A Refusal) → is_ok r ≡ eqb (told r) 0
+ok_told (Ok x) = refl
+ok_told (Err refusal) = sym (ne_eqb _ _ (λ z. omega (arith, number_positive refusal, z)))
+
 pub returns : goal.returns
 unfolding accepted_of
-returns c = rw (c.refusal.ensures, c.rows.ensures)
+returns c = c.is_ok.ensures.value ∙ ok_told c.refusal.result ∙ rw (c.refusal.ensures, c.rows.ensures)

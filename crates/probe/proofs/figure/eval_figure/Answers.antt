@@ -3,10 +3,10 @@ use lib.Ieee.{neg, of_bits}
 use Rattle.probe.specs.Figures.{eval_figure}
 use Rattle.probe.proofs.figure.eval_figure.Goals as goal
 
-pub returns-in-Allowed : goal.returns-in-Allowed
+pub returns-in-Some : goal.returns-in-Some
 unfolding eval_figure
-returns-in-Allowed c = rw c.in-Allowed.is c.six.ensures
+returns-in-Some c = rw c.in-Some.is c.six.ensures
 
-pub returns-in-NotAllowed : goal.returns-in-NotAllowed
+pub returns-in-None : goal.returns-in-None
 unfolding eval_figure of_bits neg
-returns-in-NotAllowed c = rw c.in-NotAllowed.is
+returns-in-None c = rw c.in-None.is

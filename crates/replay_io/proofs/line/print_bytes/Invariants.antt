@@ -6,4 +6,4 @@ use Rattle.replay_io.proofs.line.print_bytes.Given as goal
 
 abbrev pub invariant-loop-byte : goal.invariant-loop-byte
 invariant-loop-byte g l =
-    Appends (g.W.Write.contents l.initial.out) (g.W.Write.contents l.out) (hex_text (take l.byte-index l.byte-items))
+    Appends (g.W.Write.contents l.initial.out) (g.W.Write.contents l.out) (hex_text (take l.byte-index l.bytes))

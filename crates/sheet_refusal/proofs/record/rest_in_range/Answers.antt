@@ -4,10 +4,6 @@ use Rattle.sheet.specs.Ranges.{rest_in_range}
 use Rattle.sheet.specs.Fields.{vehicle_marks}
 use Rattle.sheet_refusal.proofs.record.rest_in_range.Goals as goal
 
-pub returns-then-not-interval : goal.returns-then-not-interval
+pub returns-then-interval : goal.returns-then-interval
 unfolding rest_in_range vehicle_marks
-returns-then-not-interval c = rw (← c.u32_at.ensures, ← c.has_mark-rests.ensures, ← c.interval.ensures, c.if-not-interval.true)
-
-pub returns : goal.returns
-unfolding rest_in_range vehicle_marks
-returns c = rw (← c.u32_at.ensures, ← c.has_mark-rests.ensures, ← c.interval.ensures, c.if-not-interval.false, c.optional.ensures, billion)
+returns-then-interval c = rw (← c.u32_at.ensures, ← c.has_mark-rests.ensures, ← c.interval.ensures, c.if-interval.true, c.optional.ensures, billion)

@@ -27,10 +27,10 @@ returns-in_default c = let t = grown_full _ _ _ _ _ _ _ c.loop-end.invariant c.b
 }
 
 pub overflow_add-end : goal.overflow_add-end
-overflow_add-end c = omega (arith, from_left _ _ _ _ _ _ _ c.loop-end.invariant c.best_joining.result c.best_joining.ensures _ _ _ c.in-Best.is, left_long _ _ _ _ _ _ _ c.loop-end.invariant, c.loop-end.invariant.few)
+overflow_add-end c = omega (arith, from_left _ _ _ _ _ _ _ c.loop-end.invariant c.best_joining.result c.best_joining.ensures _ _ _ c.in-Some.is, left_long _ _ _ _ _ _ _ c.loop-end.invariant, c.loop-end.invariant.few)
 
 pub bring-requires : goal.bring-requires
-bring-requires c = (to_round _ _ _ _ _ _ _ c.loop-end.invariant c.best_joining.result c.best_joining.ensures _ _ _ c.in-Best.is, from_left _ _ _ _ _ _ _ c.loop-end.invariant c.best_joining.result c.best_joining.ensures _ _ _ c.in-Best.is)
+bring-requires c = (to_round _ _ _ _ _ _ _ c.loop-end.invariant c.best_joining.result c.best_joining.ensures _ _ _ c.in-Some.is, from_left _ _ _ _ _ _ _ c.loop-end.invariant c.best_joining.result c.best_joining.ensures _ _ _ c.in-Some.is)
 
 pub overflow_add-end-in-loop-end : goal.overflow_add-end-in-loop-end
 overflow_add-end-in-loop-end c = omega (arith, c.loop-end-test.true, left_long _ _ _ _ _ _ _ c.loop-end.invariant, c.loop-end.invariant.few)
@@ -39,7 +39,7 @@ pub loop-end-smaller : goal.loop-end-smaller
 loop-end-smaller c = omega (arith, c.bring.auto.stops, c.loop-end-test.true)
 
 pub loop-end-preserved : goal.loop-end-preserved
-loop-end-preserved c = goes_on _ _ _ _ _ _ _ c.loop-end.invariant c.best_joining.result c.best_joining.ensures _ _ _ c.in-Best.is _ _ c.bring.ensures c.best_joining.auto.trial
+loop-end-preserved c = goes_on _ _ _ _ _ _ _ c.loop-end.invariant c.best_joining.result c.best_joining.ensures _ _ _ c.in-Some.is _ _ c.bring.ensures c.best_joining.auto.trial
 
 pub shape_of-left : goal.shape_of-left
 shape_of-left c = left_long _ _ _ _ _ _ _ c.loop-end.invariant

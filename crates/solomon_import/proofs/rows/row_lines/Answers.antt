@@ -1,12 +1,12 @@
 -- `solomon_import::rows::row_lines` meets its contract (`RowLines.antt`). Assumes nothing.
 use mathlib.Core.Path.{sym, ap, ◌∙◌, subst}
-use mathlib.Core.Bool.{◌&&◌}
+use mathlib.Core.Bool.{Bool, ◌&&◌}
 use mathlib.Core.List.{List}
 use Prim.Native.Nat.{ℕ, ◌+◌}
 use Rattle.solomon_import.specs.Instance.{is_row_line, customer_of}
 use Rattle.solomon_import.specs.Import.{customer_range}
 use native.Mathlib.Omega.{arith}
-use Rattle.solomon_import.proofs.RowLines.{RowsRead, Onward, none_read, row_read, refused_found, all_read}
+use Rattle.solomon_import.proofs.RowLines.{RowsRead, Onward, none_read, row_read, row_refused, all_read}
 use Rattle.solomon_import.proofs.rows.row_lines.Goals as goal
 
 pub loop-at-init : goal.loop-at-init
@@ -22,7 +22,7 @@ pub is_row_line-requires : goal.is_row_line-requires
 is_row_line-requires c = (let f = c.loop-at.invariant.few in let g = c.loop-at-test.true in let h = c.well_formed.0.1 in omega arith)
 
 pub returns-then-not-is_row_line : goal.returns-then-not-is_row_line
-returns-then-not-is_row_line c = refused_found c.args.text.now c.args.from c.loop-at.at c.loop-at.count c.loop-at.in_range c.loop-at.invariant c.loop-at-test.true
+returns-then-not-is_row_line c = row_refused c.args.text.now c.args.from c.loop-at.at c.loop-at.count c.loop-at.in_range c.loop-at.invariant c.loop-at-test.true
     (ap (is_row_line c.loop-at.count) (sym c.line_end.ensures.2) ∙ sym c.is_row_line.ensures ∙ c.if-not-is_row_line.true)
 
 pub overflow_add-count : goal.overflow_add-count
@@ -47,7 +47,7 @@ loop-at-preserved c = let text = c.args.text.now in
       digit = c.next_digit_line-at.ensures.3;
     } in
     subst (RowsRead text c.args.from c.next_digit_line-at.result (c.loop-at.count + 1))
-    (ap (λ (line : List ℕ). c.loop-at.in_range && customer_range (customer_of line)) (sym e) ∙ sym c.all_in_range-in_range.ensures)
+    (ap (λ (b : Bool). c.loop-at.in_range && b) (ap (λ (line : List ℕ). customer_range (customer_of line)) (sym e) ∙ sym c.customer_in_range-in_range.ensures))
     (row_read text c.args.from c.loop-at.at c.loop-at.count c.loop-at.in_range c.loop-at.invariant c.loop-at-test.true c.next_digit_line-at.result o
     (ap (is_row_line c.loop-at.count) (sym e) ∙ sym c.is_row_line.ensures ∙ c.if-not-is_row_line.false))
 

@@ -12,5 +12,5 @@ overflow_sub-result c = let a = c.args in let r = c.number_at-number.result in n
 pub returns-then-number : goal.returns-then-number
 returns-then-number c = let a = c.args in let r = c.number_at-number.result in negative_value (number_at a.line.now a.n) r.negative r.size c.number_at-number.ensures c.requires c.if-number.true
 
-pub returns : goal.returns
-returns c = let a = c.args in let r = c.number_at-number.result in positive_value (number_at a.line.now a.n) r.negative r.size c.number_at-number.ensures c.requires c.if-number.false
+pub returns-else-number : goal.returns-else-number
+returns-else-number c = let a = c.args in let r = c.number_at-number.result in positive_value (number_at a.line.now a.n) r.negative r.size c.number_at-number.ensures c.requires c.if-number.false

@@ -1,6 +1,5 @@
 -- `sweep::rounds::pack` meets its contract. Assumes nothing.
 use mathlib.Core.Path.{◌∙◌}
-use Prim.Native.Nat.{◌-◌}
 use Rattle.sweep.proofs.Filling.{begins, falls, stops_long, ends_long, vehicles_long, meet_asks, goes_on, ends_laid, close_asks, ends_closed}
 use Rattle.sweep.proofs.rounds.pack.Goals as goal
 

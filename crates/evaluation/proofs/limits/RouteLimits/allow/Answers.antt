@@ -2,10 +2,10 @@
 use Rattle.evaluation.specs.Limits.{allow_of}
 use Rattle.evaluation.proofs.limits.RouteLimits.allow.Goals as goal
 
-pub returns-then-not-within : goal.returns-then-not-within
+pub returns-then-within : goal.returns-then-within
 unfolding allow_of
-returns-then-not-within c = rw (← c.within.ensures, c.if-not-within.true)
+returns-then-within c = rw (← c.within.ensures, c.if-within.true) c.within-then-within.ensures
 
-pub returns : goal.returns
+pub returns-else-within : goal.returns-else-within
 unfolding allow_of
-returns c = rw (← c.within.ensures, c.if-not-within.false) c.within-2.ensures
+returns-else-within c = rw (← c.within.ensures, c.if-within.false)

@@ -2,14 +2,10 @@
 use Rattle.evaluation_clock.specs.Clock.{alive_of}
 use Rattle.evaluation_clock.proofs.clock.BreakClock.alive.Goals as goal
 
-pub returns-in-Done : goal.returns-in-Done
+pub returns-then-is_some : goal.returns-then-is_some
 unfolding alive_of
-returns-in-Done c = rw c.in-Done.is
+returns-then-is_some c = rw (← c.is_some.ensures, c.if-is_some.true)
 
-pub returns-in-Done-after : goal.returns-in-Done-after
+pub returns-else-is_some : goal.returns-else-is_some
 unfolding alive_of
-returns-in-Done-after c = rw (c.in-Refused.is, c.in-Done-after.is)
-
-pub returns-in-Refused-after : goal.returns-in-Refused-after
-unfolding alive_of
-returns-in-Refused-after c = rw (c.in-Refused.is, c.in-Refused-after.is)
+returns-else-is_some c = rw (← c.is_some.ensures, c.if-is_some.false) c.is_some-else-is_some.ensures
