@@ -2,14 +2,58 @@
 // O(n^2 log n) to sort the savings of n stops; where windows or limits are asked, a join is walked, O(n^3) at most.
 #![tactic(auto)]
 
-ghost use Rattle.std.specs.Prelude.{◌≡◌, ℕ, ◌-◌, ◌≤◌, ◌<◌};
+ghost use Rattle.std.specs.Prelude.{◌≡◌, ℕ, ◌-◌, ◌*◌, ◌≤◌, ◌<◌};
 ghost use Rattle.lists.specs.Count.{count};
-ghost use Rattle.sheet.specs.Fields.{vehicles_of};
+ghost use Rattle.sheet.specs.Fields.{vehicles_of, most_rows};
 ghost use Rattle.constructive.specs.Stored.{Stored, Room, filled_by};
 ghost use Rattle.constructive.specs.Members.{part, Members};
 ghost use Rattle.clarke_wright_savings.specs.Savings.{clarke_wright};
 
+use clarke_wright_savings::Savings;
+use clarke_wright_slots::RouteSlots;
 use constructive::tables::Filled;
+
+// The plan by way of tables for so many pairs of members, and for the stops of the rounds. Each size is a function of its own:
+// the large tables' frame is no part of the plans with small ones.
+fn by_tables<const PAIRS: usize, const CELLS: usize>(
+    sheet: &[u8],
+    depot: usize,
+    vehicle: u16,
+    stops: &mut [u16],
+    ends: &mut [u16],
+    vehicles: &mut [u16],
+    filled: Filled,
+    total: usize,
+) -> Filled
+    requires members { Members sheet.now depot stops.old filled.routed total }
+    requires room { Room ends.old vehicles.old filled total }
+    requires vehicle_bound { vehicle < vehicles_of sheet.now }
+    requires by_index { (x : ℕ) → count x (part stops.old filled.routed total) ≤ 1 }
+    requires members_in_bounds { (total - filled.routed) * (total - filled.routed) ≤ PAIRS }
+    requires cells_in_bounds { (total - filled.routed) * most_rows ≤ CELLS }
+    requires sizes_bound { (PAIRS ≤ most_rows * most_rows) × (CELLS ≤ most_rows * most_rows) }
+    ensures value { result ≡ filled_by filled (clarke_wright sheet.now depot vehicle (part stops.old filled.routed total)).rounds }
+    ensures stored { Stored stops.old ends.old vehicles.old filled (clarke_wright sheet.now depot vehicle (part stops.old filled.routed total)) stops.new ends.new vehicles.new }
+{
+    let mut savings = Savings::<PAIRS>::new();
+    let mut slots = RouteSlots::<CELLS>::new();
+    let mut trial = [0u16; sheet::MOST_ROWS];
+    let mut aside = [0u16; sheet::MOST_ROWS];
+    clarke_wright_planning::plan_by(
+        sheet,
+        depot,
+        vehicle,
+        stops,
+        ends,
+        vehicles,
+        filled,
+        total,
+        &mut savings,
+        &mut slots,
+        &mut trial,
+        &mut aside,
+    )
+}
 
 // The members stand in `stops` from where the tables are filled up to `total`; every round is the vehicle's, by its index.
 // Answers how far the tables are filled with the rounds; the stops set aside stand after them, up to `total`.
@@ -30,36 +74,7 @@ pub fn clarke_wright_savings(
     ensures value { result ≡ filled_by filled (clarke_wright sheet.now depot vehicle (part stops.old filled.routed total)).rounds }
     ensures stored { Stored stops.old ends.old vehicles.old filled (clarke_wright sheet.now depot vehicle (part stops.old filled.routed total)) stops.new ends.new vehicles.new }
 {
-    let mut from = [0u16; 10201];
-    let mut to = [0u16; 10201];
-    let mut values = [0.0; 10201];
-    let mut entries = [0u16; 10201];
-    let mut cells = [0u16; 10201];
-    let mut lens = [0u16; sheet::MOST_ROWS];
-    let mut loads = [0u32; sheet::MOST_ROWS];
-    let mut slots = [0u16; sheet::MOST_ROWS];
-    let mut trial = [0u16; sheet::MOST_ROWS];
-    let mut aside = [0u16; sheet::MOST_ROWS];
-    clarke_wright_planning::plan_by(
-        sheet,
-        depot,
-        vehicle,
-        stops,
-        ends,
-        vehicles,
-        filled,
-        total,
-        &mut from,
-        &mut to,
-        &mut values,
-        &mut entries,
-        &mut cells,
-        &mut lens,
-        &mut loads,
-        &mut slots,
-        &mut trial,
-        &mut aside,
-    )
+    by_tables::<10201, 10201>(sheet, depot, vehicle, stops, ends, vehicles, filled, total)
 }
 
 // The same of at most 24 members, whose tables are a tenth as large: to set up the others takes longer than such a plan.
@@ -81,34 +96,5 @@ pub fn clarke_wright_few(
     ensures value { result ≡ filled_by filled (clarke_wright sheet.now depot vehicle (part stops.old filled.routed total)).rounds }
     ensures stored { Stored stops.old ends.old vehicles.old filled (clarke_wright sheet.now depot vehicle (part stops.old filled.routed total)) stops.new ends.new vehicles.new }
 {
-    let mut from = [0u16; 576];
-    let mut to = [0u16; 576];
-    let mut values = [0.0; 576];
-    let mut entries = [0u16; 576];
-    let mut cells = [0u16; 2424];
-    let mut lens = [0u16; sheet::MOST_ROWS];
-    let mut loads = [0u32; sheet::MOST_ROWS];
-    let mut slots = [0u16; sheet::MOST_ROWS];
-    let mut trial = [0u16; sheet::MOST_ROWS];
-    let mut aside = [0u16; sheet::MOST_ROWS];
-    clarke_wright_planning::plan_by(
-        sheet,
-        depot,
-        vehicle,
-        stops,
-        ends,
-        vehicles,
-        filled,
-        total,
-        &mut from,
-        &mut to,
-        &mut values,
-        &mut entries,
-        &mut cells,
-        &mut lens,
-        &mut loads,
-        &mut slots,
-        &mut trial,
-        &mut aside,
-    )
+    by_tables::<576, 2424>(sheet, depot, vehicle, stops, ends, vehicles, filled, total)
 }

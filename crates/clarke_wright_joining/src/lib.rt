@@ -8,6 +8,7 @@ ghost use Rattle.clarke_wright_savings.specs.Savings.{first_is, last_is, merge_t
 ghost use Rattle.clarke_wright_slots.specs.Slots.{slots_in, Slotted};
 ghost use Rattle.clarke_wright_joining.specs.Ways.{meant, way_of, WaySlots};
 
+use clarke_wright_slots::RouteSlots;
 use constructive::terms::Terms;
 
 // Two rounds stay apart, or the first slot takes the stops of the second; then whether its own are reversed, and whether those
@@ -72,11 +73,9 @@ fn is_too_dear(sheet: &[u8], terms: Terms, into: &[u16], from: &[u16], stops: &[
     if !terms.soft {
         return false;
     }
-    let depot = terms.depot;
-    let limits = terms.limits;
-    let apart = evaluation::effective_cost(sheet, into, depot, limits)
-        + evaluation::effective_cost(sheet, from, depot, limits);
-    apart + terms.fixed <= evaluation::effective_cost(sheet, stops, depot, limits)
+    let apart = evaluation::effective_cost(sheet, into, terms.depot, terms.limits)
+        + evaluation::effective_cost(sheet, from, terms.depot, terms.limits);
+    apart + terms.fixed <= evaluation::effective_cost(sheet, stops, terms.depot, terms.limits)
 }
 
 // Whether two rounds may be joined so.
@@ -89,38 +88,34 @@ fn is_passed(sheet: &[u8], terms: Terms, into: &[u16], from: &[u16], stops: &[u1
     if !terms.constrained {
         return true;
     }
-    if !evaluation::route_feasible(sheet, stops, terms.depot, terms.limits) {
-        return false;
-    }
-    !is_too_dear(sheet, terms, into, from, stops)
+    evaluation::route_feasible(sheet, stops, terms.depot, terms.limits)
+        && !is_too_dear(sheet, terms, into, from, stops)
 }
 
 // Joins two slots this way, where that passes.
-pub fn merge_by(
+pub fn merge_by<const CELLS: usize>(
     sheet: &[u8],
     terms: Terms,
     count: usize,
     way: Way,
-    cells: &mut [u16],
-    lens: &mut [u16],
-    loads: &mut [u32],
-    slots: &mut [u16],
+    slots: &mut RouteSlots<CELLS>,
     trial: &mut [u16],
 )
-    requires slotted { Slotted sheet.now count cells.old lens.old loads.old slots.old }
+    requires slotted { Slotted sheet.now count slots.old.cells slots.old.lens slots.old.loads slots.old.slots }
     requires depot_bound { terms.depot < rows_of sheet.now }
-    requires way_slots { WaySlots (slots_in count cells.old lens.old) way }
+    requires way_slots { WaySlots (slots_in count slots.old.cells slots.old.lens) way }
     requires most_rows_in_bounds { most_rows ≤ length trial.old }
-    ensures slotted_2 { Slotted sheet.now count cells.new lens.new loads.new slots.new }
-    ensures lens_after { slots_in count cells.new lens.new ≡ after_merge (slots_in count cells.old lens.old) (passing sheet.now terms (slots_in count cells.old lens.old) (meant (slots_in count cells.old lens.old) way)) }
+    ensures slotted_2 { Slotted sheet.now count slots.new.cells slots.new.lens slots.new.loads slots.new.slots }
+    ensures lens_after { slots_in count slots.new.cells slots.new.lens ≡ after_merge (slots_in count slots.old.cells slots.old.lens) (passing sheet.now terms (slots_in count slots.old.cells slots.old.lens) (meant (slots_in count slots.old.cells slots.old.lens) way)) }
 {
     let Some((into, from, back, forth)) = way else {
         return;
     };
     let at = sheet::MOST_ROWS * into;
-    let end = at + lens[into] as usize;
+    let end = at + slots.lens[into] as usize;
     let start = sheet::MOST_ROWS * from;
-    let stop = start + lens[from] as usize;
+    let stop = start + slots.lens[from] as usize;
+    let cells = &slots.cells[..];
     let n = clarke_wright_slots::join(&cells[at..end], &cells[start..stop], back, forth, trial);
     if !is_passed(
         sheet,
@@ -131,5 +126,5 @@ pub fn merge_by(
     ) {
         return;
     }
-    clarke_wright_slots::take_over(cells, lens, loads, slots, into, from, &trial[..n]);
+    slots.take_over(into, from, &trial[..n]);
 }

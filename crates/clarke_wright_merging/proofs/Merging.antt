@@ -189,68 +189,50 @@ module _ (s : List ℕ) (n : ℕ) (cells lens loads slots : List ℕ) (g : Slott
             ∙ ap (λ (w : Way). passing s t.common routes (meant routes w)) (sym found)
 
 -- ---- one saving after another
-pub record Merging (s : List ℕ) (t : Directed) (n : ℕ) (from to entries cells₀ lens₀ loads₀ slots₀ trial₀ cells lens loads slots trial : List ℕ) (k end : ℕ) : Type 0 where
+pub record Merging (s : List ℕ) (t : Directed) (n pairs : ℕ) (from to entries cells₀ lens₀ trial₀ cells lens loads slots trial : List ℕ) (k : ℕ) : Type 0 where
   pub slotted : Slotted s n cells lens loads slots
   pub home : t.common.depot < rows_of s
-  pub legs : Legs s from to entries
+  pub legs : Legs s pairs from to entries
   pub room : 101 ≤ length trial
-  pub last : end ≡ length entries
-  pub within : k ≤ end
-  pub celled : length cells ≡ length cells₀
-  pub measured : length lens ≡ length lens₀
-  pub loaded : length loads ≡ length loads₀
-  pub known : length slots ≡ length slots₀
+  pub within : k ≤ length entries
   pub tried : length trial ≡ length trial₀
   pub same : merged_in s t from to (drop k entries) (slots_in n cells lens) ≡ merged_in s t from to entries (slots_in n cells₀ lens₀)
 
-pub begins : (s : List ℕ) (t : Directed) (n : ℕ) (from to entries cells lens loads slots trial : List ℕ) → Slotted s n cells lens loads slots → t.common.depot < rows_of s → Legs s from to entries → 101 ≤ length trial
-    → Merging s t n from to entries cells lens loads slots trial cells lens loads slots trial 0 (length entries)
-begins s t n from to entries cells lens loads slots trial g h l r = record {
+pub begins : (s : List ℕ) (t : Directed) (n pairs : ℕ) (from to entries cells lens loads slots trial : List ℕ) → Slotted s n cells lens loads slots → t.common.depot < rows_of s → Legs s pairs from to entries → 101 ≤ length trial
+    → Merging s t n pairs from to entries cells lens trial cells lens loads slots trial 0
+begins s t n pairs from to entries cells lens loads slots trial g h l r = record {
   slotted = g;
   home = h;
   legs = l;
   room = r;
-  last = refl;
   within = zero-le;
-  celled = refl;
-  measured = refl;
-  loaded = refl;
-  known = refl;
   tried = refl;
   same = refl;
 }
 
-module _ (s : List ℕ) (t : Directed) (n : ℕ) (from to entries cells₀ lens₀ loads₀ slots₀ trial₀ cells lens loads slots trial : List ℕ) (k end : ℕ)
-    (g : Merging s t n from to entries cells₀ lens₀ loads₀ slots₀ trial₀ cells lens loads slots trial k end) where
-  module _ (here : k < end) where
+module _ {s : List ℕ} {t : Directed} {n pairs : ℕ} {from to entries cells₀ lens₀ trial₀ cells lens loads slots trial : List ℕ} {k : ℕ}
+    (g : Merging s t n pairs from to entries cells₀ lens₀ trial₀ cells lens loads slots trial k) where
+  module _ (inside : k < length entries) where
     abbrev e : ℕ
     e = get_or entries k 0
 
-    inside : k < length entries
-    inside = omega (arith, here, g.last)
-
-    pub leg_in : (e < length from) × (e < length to)
-    leg_in = (g.legs.starts k inside, g.legs.ends k inside)
+    pub leg_in : e < pairs
+    leg_in = g.legs.inside k inside
 
     pub leg_rows : (get_or from e 0 < rows_of s) × (get_or to e 0 < rows_of s)
     leg_rows = (g.legs.from_row k inside, g.legs.to_row k inside)
 
     pub goes_on : (cells' lens' loads' slots' trial' : List ℕ) → Slotted s n cells' lens' loads' slots'
         → slots_in n cells' lens' ≡ after_merge (slots_in n cells lens) (merge_of s t (slots_in n cells lens) (get_or from e 0) (get_or to e 0))
-        → length cells' ≡ length cells → length lens' ≡ length lens → length loads' ≡ length loads → length slots' ≡ length slots → length trial' ≡ length trial
-        → Merging s t n from to entries cells₀ lens₀ loads₀ slots₀ trial₀ cells' lens' loads' slots' trial' (k + 1) end
+        → length trial' ≡ length trial
+        → Merging s t n pairs from to entries cells₀ lens₀ trial₀ cells' lens' loads' slots' trial' (k + 1)
     unfolding merged_in
-    goes_on cells' lens' loads' slots' trial' m q a b c d f = record {
+    goes_on cells' lens' loads' slots' trial' m q f = record {
       slotted = m;
       home = g.home;
       legs = g.legs;
       room = omega (arith, f, g.room);
-      last = g.last;
-      within = omega (arith, here);
-      celled = a ∙ g.celled;
-      measured = b ∙ g.measured;
-      loaded = c ∙ g.loaded;
-      known = d ∙ g.known;
+      within = omega (arith, inside);
       tried = f ∙ g.tried;
       same =
           ap (merged_in s t from to (drop (k + 1) entries)) q
@@ -258,9 +240,9 @@ module _ (s : List ℕ) (t : Directed) (n : ℕ) (from to entries cells₀ lens�
           ∙ g.same;
     }
 
-  pub ends : end ≤ k → slots_in n cells lens ≡ merged_in s t from to entries (slots_in n cells₀ lens₀)
+  pub ends : length entries ≤ k → slots_in n cells lens ≡ merged_in s t from to entries (slots_in n cells₀ lens₀)
   unfolding merged_in
   ends h =
-      let at : k ≡ length entries = omega (arith, h, g.last, g.within) in
+      let at : k ≡ length entries = omega (arith, h, g.within) in
       ap (λ (es : List ℕ). merged_in s t from to es (slots_in n cells lens)) (sym (ap (λ (x : ℕ). drop x entries) at ∙ drop-length entries))
       ∙ g.same

@@ -8,69 +8,42 @@ ghost use Rattle.evaluation.specs.Routed.{Routed};
 ghost use Rattle.constructive.specs.Stored.{Stored, Room, filled_by};
 ghost use Rattle.constructive.specs.Members.{part, Members};
 ghost use Rattle.clarke_wright_savings.specs.Savings.{routes_of, aside_of, clarke_wright};
-ghost use Rattle.clarke_wright_savings.specs.Listed.{Space};
 ghost use Rattle.clarke_wright_slots.specs.Slots.{slots_in, Roomy, Slotted};
 
-use clarke_wright_savings::terms;
 use clarke_wright_savings::terms::Directed;
-use clarke_wright_slots::{laying, starting};
+use clarke_wright_savings::{Savings, terms};
+use clarke_wright_slots::RouteSlots;
 use constructive::tables::Filled;
 
 // The members' rounds in the slots, once no saving is left; answers how many stops are set aside.
-fn merge_members(
+fn merge_members<const PAIRS: usize, const CELLS: usize>(
     sheet: &[u8],
     terms: Directed,
     members: &[u16],
-    from: &mut [u16],
-    to: &mut [u16],
-    values: &mut [f64],
-    entries: &mut [u16],
-    cells: &mut [u16],
-    lens: &mut [u16],
-    loads: &mut [u32],
-    slots: &mut [u16],
+    savings: &mut Savings<PAIRS>,
+    slots: &mut RouteSlots<CELLS>,
     trial: &mut [u16],
     aside: &mut [u16],
 ) -> usize
     requires routed { Routed sheet.now terms.common.depot members.now }
     requires by_index { (x : ℕ) → count x members.now ≤ 1 }
-    requires space { Space from.old to.old values.old entries.old (length members.now * length members.now) }
-    requires roomy { Roomy (length members.now) cells.old lens.old loads.old slots.old }
+    requires members_in_bounds { length members.now * length members.now ≤ PAIRS }
+    requires roomy { Roomy (length members.now) slots.old.cells slots.old.lens slots.old.loads slots.old.slots }
     requires most_rows_in_bounds { (most_rows ≤ length trial.old) × (most_rows ≤ length aside.old) }
     ensures value { result ≡ length (aside_of sheet.now terms.common members.now) }
     ensures aside_after { take result aside.new ≡ aside_of sheet.now terms.common members.now }
-    ensures slotted { Slotted sheet.now (length members.now) cells.new lens.new loads.new slots.new }
-    ensures lens_after { slots_in (length members.now) cells.new lens.new ≡ routes_of sheet.now terms members.now }
+    ensures slotted { Slotted sheet.now (length members.now) slots.new.cells slots.new.lens slots.new.loads slots.new.slots }
+    ensures lens_after { slots_in (length members.now) slots.new.cells slots.new.lens ≡ routes_of sheet.now terms members.now }
 {
-    let n = clarke_wright_savings::rank(sheet, terms, members, from, to, values, entries, cells);
-    let left = starting::start(
-        sheet,
-        terms.common,
-        members,
-        cells,
-        lens,
-        loads,
-        slots,
-        aside,
-    );
-    clarke_wright_merging::merge_all(
-        sheet,
-        terms,
-        members.len(),
-        from,
-        to,
-        &entries[..n],
-        cells,
-        lens,
-        loads,
-        slots,
-        trial,
-    );
+    // The stops of the rounds, none of which has started, lend their room to the sort.
+    let n = savings.rank(sheet, terms, members, &mut slots.cells);
+    let left = slots.start(sheet, terms.common, members, aside);
+    clarke_wright_merging::merge_all(sheet, terms, members.len(), savings, n, slots, trial);
     left
 }
 
 // The rounds by way of tables that are lent.
-pub fn plan_by(
+pub fn plan_by<const PAIRS: usize, const CELLS: usize>(
     sheet: &[u8],
     depot: usize,
     vehicle: u16,
@@ -79,14 +52,8 @@ pub fn plan_by(
     vehicles: &mut [u16],
     filled: Filled,
     total: usize,
-    from: &mut [u16],
-    to: &mut [u16],
-    values: &mut [f64],
-    entries: &mut [u16],
-    cells: &mut [u16],
-    lens: &mut [u16],
-    loads: &mut [u32],
-    slots: &mut [u16],
+    savings: &mut Savings<PAIRS>,
+    slots: &mut RouteSlots<CELLS>,
     trial: &mut [u16],
     aside: &mut [u16],
 ) -> Filled
@@ -94,34 +61,18 @@ pub fn plan_by(
     requires room { Room ends.old vehicles.old filled total }
     requires vehicle_bound { vehicle < vehicles_of sheet.now }
     requires by_index { (x : ℕ) → count x (part stops.old filled.routed total) ≤ 1 }
-    requires space { Space from.old to.old values.old entries.old ((total - filled.routed) * (total - filled.routed)) }
-    requires roomy { Roomy (total - filled.routed) cells.old lens.old loads.old slots.old }
+    requires members_in_bounds { (total - filled.routed) * (total - filled.routed) ≤ PAIRS }
+    requires roomy { Roomy (total - filled.routed) slots.old.cells slots.old.lens slots.old.loads slots.old.slots }
     requires most_rows_in_bounds { (most_rows ≤ length trial.old) × (most_rows ≤ length aside.old) }
     ensures value { result ≡ filled_by filled (clarke_wright sheet.now depot vehicle (part stops.old filled.routed total)).rounds }
     ensures stored { Stored stops.old ends.old vehicles.old filled (clarke_wright sheet.now depot vehicle (part stops.old filled.routed total)) stops.new ends.new vehicles.new }
 {
     let start = filled.routed;
-    let count = total - start;
-    let terms = terms::directed_of(sheet, depot, vehicle, &stops[start..total]);
-    let left = merge_members(
-        sheet,
-        terms,
-        &stops[start..total],
-        from,
-        to,
-        values,
-        entries,
-        cells,
-        lens,
-        loads,
-        slots,
-        trial,
-        aside,
-    );
-    laying::lay(
-        count,
-        cells,
-        lens,
+    let members = &stops[start..total];
+    let terms = terms::directed_of(sheet, depot, vehicle, members);
+    let left = merge_members(sheet, terms, members, savings, slots, trial, aside);
+    slots.lay(
+        total - start,
         &aside[..left],
         vehicle,
         stops,

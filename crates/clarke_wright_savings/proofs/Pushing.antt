@@ -1,6 +1,6 @@
 -- The tables of savings as they fill. Assumes nothing.
 use mathlib.Core.Path.{◌≡◌, refl, sym, ap, ◌∙◌}
-use Prim.Native.Nat.{ℕ, zero, suc, ◌+◌, ◌≤◌}
+use Prim.Native.Nat.{ℕ, zero, suc, ◌+◌, ◌≤◌, ◌<◌}
 use native.Mathlib.Numerals.{add-one}
 use native.Mathlib.Nat.{zero-add, add-zero, suc-add, add_assoc}
 use native.Mathlib.Omega.{arith}
@@ -9,20 +9,20 @@ use lib.ListN.{length, take, set, length-append}
 use lib.Seq.{take-suc-set}
 use lib.Ieee.{Float}
 use Rattle.clarke_wright_savings.specs.Savings.{Saving, values_of, numbered}
-use Rattle.clarke_wright_savings.specs.Listed.{froms_of, tos_of, Space, SavingsPushed}
+use Rattle.clarke_wright_savings.specs.Listed.{froms_of, tos_of, SavingsPushed}
 
 -- ---- one saving
 front_set : {A : Type 0} (xs : List A) (i : ℕ) (x : A) → i + 1 ≤ length xs → take (i + 1) (set xs i x) ≡ take i xs ++ (x ∷ [])
 front_set xs i x h = rw add-one (take-suc-set xs i x (omega (arith, h)))
 
-module _ (from to : List ℕ) (values : List Float) (entries : List ℕ) (at : ℕ) (g : Space from to values entries (at + 1)) where
-  pub pushes : (x : Saving) → SavingsPushed from to values entries at (x ∷ []) (set from at x.from) (set to at x.to) (set values at x.value) (set entries at at)
+module _ (n : ℕ) (from to : List ℕ) (values : List Float) (entries : List ℕ) (at : ℕ) (h : at < n) where
+  pub pushes : length from ≡ n → length to ≡ n → length values ≡ n → length entries ≡ n → (x : Saving) → SavingsPushed from to values entries at (x ∷ []) (set from at x.from) (set to at x.to) (set values at x.value) (set entries at at)
   unfolding numbered
-  pushes x = record {
-    starts = front_set from at x.from g.starts;
-    ends = front_set to at x.to g.ends;
-    saved = front_set values at x.value g.saved;
-    placed = front_set entries at at g.placed;
+  pushes starts ends saved placed x = record {
+    starts = front_set from at x.from (omega (arith, starts, h));
+    ends = front_set to at x.to (omega (arith, ends, h));
+    saved = front_set values at x.value (omega (arith, saved, h));
+    placed = front_set entries at at (omega (arith, placed, h));
   }
 
 -- ---- savings after savings

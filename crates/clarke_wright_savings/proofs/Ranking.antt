@@ -23,12 +23,13 @@ within n xs ys e l = omega (arith, ap length e, length-take n xs, l)
 module _
     (s : List ℕ)
     (t : Directed)
-    (members from₀ to₀ : List ℕ)
-    (values₀ : List Float)
-    (entries₀ from to : List ℕ)
-    (values : List Float)
-    (entries : List ℕ)
-    (count : ℕ)
+    (members : List ℕ)
+    {from₀ to₀ : List ℕ}
+    {values₀ : List Float}
+    {entries₀ from to : List ℕ}
+    {values : List Float}
+    {entries : List ℕ}
+    {count : ℕ}
     (n : count ≡ length (savings_of s t members members))
     (p : SavingsPushed from₀ to₀ values₀ entries₀ 0 (savings_of s t members members) from to values entries)
   where

@@ -20,9 +20,9 @@ fn same_back(sheet: &[u8], row: usize, others: &[u16]) -> bool
     requires { Routed sheet.now row others.now }
     ensures { result ≡ same_back sheet.now row others.now }
 {
-    for i in 0..others.len() {
-        let other = others[i] as usize;
-        if matrix::distance(sheet, row, other) != matrix::distance(sheet, other, row) {
+    for &other in others {
+        let there = matrix::distance(sheet, row, other as usize);
+        if there != matrix::distance(sheet, other as usize, row) {
             return false;
         }
     }
@@ -37,8 +37,8 @@ fn symmetric_among(sheet: &[u8], depot: usize, members: &[u16]) -> bool
     if !same_back(sheet, depot, members) {
         return false;
     }
-    for i in 0..members.len() {
-        if !same_back(sheet, members[i] as usize, &members[i + 1..]) {
+    for (i, &row) in members.iter().enumerate() {
+        if !same_back(sheet, row as usize, &members[i + 1..]) {
             return false;
         }
     }

@@ -170,17 +170,13 @@ module _ (s : List ℕ) (t : Terms) (members : List ℕ) (k : ℕ) (here : k < l
         }
 
 -- ---- the loop over the members
-pub record Starting (s : List ℕ) (t : Terms) (members cells₀ lens₀ loads₀ slots₀ aside₀ : List ℕ) (n : ℕ) (cells lens loads slots aside : List ℕ) (end k : ℕ) : Type 0 where
+pub record Starting (s : List ℕ) (t : Terms) (members aside₀ : List ℕ) (n : ℕ) (cells lens loads slots aside : List ℕ) (end k : ℕ) : Type 0 where
   pub routed : Routed s t.depot members
   pub once : (x : ℕ) → count x members ≤ 1
   pub all : n ≡ length members
   pub within : k ≤ n
   pub room : Roomy n cells lens loads slots
   pub spares : 101 ≤ length aside
-  pub cells_long : length cells ≡ length cells₀
-  pub lens_long : length lens ≡ length lens₀
-  pub loads_long : length loads ≡ length loads₀
-  pub slots_long : length slots ≡ length slots₀
   pub aside_long : length aside ≡ length aside₀
   pub so_far : StartingRoutes s t members cells lens loads slots k
   pub many : end ≡ length (aside_of s t (take k members))
@@ -188,7 +184,7 @@ pub record Starting (s : List ℕ) (t : Terms) (members cells₀ lens₀ loads�
 
 pub begins : (s : List ℕ) (t : Terms) (members cells lens loads slots aside filled : List ℕ) → Routed s t.depot members → ((x : ℕ) → count x members ≤ 1) → Roomy (length members) cells lens loads slots → 101 ≤ length aside
     → filled ≡ replicate (length slots) (length members)
-    → Starting s t members cells lens loads filled aside (length members) cells lens loads filled aside 0 0
+    → Starting s t members aside (length members) cells lens loads filled aside 0 0
 unfolding starts_of aside_of slots_from
 begins s t members cells lens loads slots aside filled routed once room spares e =
     let long : length filled ≡ length slots = ap length e ∙ length-replicate (length slots) (length members) in
@@ -199,10 +195,6 @@ begins s t members cells lens loads slots aside filled routed once room spares e
       within = omega arith;
       room = record { most = room.most; celled = room.celled; measured = room.measured; loaded = room.loaded; known = omega (arith, long, room.known) };
       spares = spares;
-      cells_long = refl;
-      lens_long = refl;
-      loads_long = refl;
-      slots_long = refl;
       aside_long = refl;
       so_far = record {
         same = refl;
@@ -214,8 +206,8 @@ begins s t members cells lens loads slots aside filled routed once room spares e
       left = refl;
     }
 
-module _ {s : List ℕ} {t : Terms} {members cells₀ lens₀ loads₀ slots₀ aside₀ : List ℕ} {n : ℕ} {cells lens loads slots aside : List ℕ} {end k : ℕ}
-    (g : Starting s t members cells₀ lens₀ loads₀ slots₀ aside₀ n cells lens loads slots aside end k) where
+module _ {s : List ℕ} {t : Terms} {members aside₀ : List ℕ} {n : ℕ} {cells lens loads slots aside : List ℕ} {end k : ℕ}
+    (g : Starting s t members aside₀ n cells lens loads slots aside end k) where
   -- no more stops are set aside than were met
   pub few : end ≤ k
   few = let l : length (take k members) ≡ k = length-take-le k members (omega (arith, g.all, g.within)) in omega (arith, aside_few s t (take k members), l, g.many)
@@ -272,7 +264,7 @@ module _ {s : List ℕ} {t : Terms} {members cells₀ lens₀ loads₀ slots₀ 
               ∙ ap (λ (l : List (List ℕ)). slot_of x (starts_of s t met ++ l)) (spare_more s t members k here)
               ∙ sym (slot_other x newcomer (starts_of s t met) others other)
 
-      seats_so : Starting s t members cells₀ lens₀ loads₀ slots₀ aside₀ n (set cells (101 * k) newcomer) (set lens k 1) (set loads k (load_of s (newcomer ∷ []))) (set slots newcomer k) aside end (k + 1)
+      seats_so : Starting s t members aside₀ n (set cells (101 * k) newcomer) (set lens k 1) (set loads k (load_of s (newcomer ∷ []))) (set slots newcomer k) aside end (k + 1)
       seats_so =
           let same : aside_of s t (take (k + 1) members) ≡ aside_of s t met = aside_more s t members k here ∙ ap (λ (b : Bool). aside_of s t met ++ aside_unless b newcomer []) alone ∙ append-nil (aside_of s t met) in
           record {
@@ -288,10 +280,6 @@ module _ {s : List ℕ} {t : Terms} {members cells₀ lens₀ loads₀ slots₀ 
               known = omega (arith, length-set slots newcomer k, g.room.known);
             };
             spares = g.spares;
-            cells_long = length-set cells (101 * k) newcomer ∙ g.cells_long;
-            lens_long = length-set lens k 1 ∙ g.lens_long;
-            loads_long = length-set loads k (load_of s (newcomer ∷ [])) ∙ g.loads_long;
-            slots_long = length-set slots newcomer k ∙ g.slots_long;
             aside_long = g.aside_long;
             so_far =
                 seating_more s t members k here cells lens loads slots g.so_far measured loaded true alone (set cells (101 * k) newcomer) (set slots newcomer k)
@@ -301,7 +289,7 @@ module _ {s : List ℕ} {t : Terms} {members cells₀ lens₀ loads₀ slots₀ 
           }
 
       pub seats : (cells' lens' loads' slots' : List ℕ) → RouteStarted s (get_or members k 0) k cells lens loads slots cells' lens' loads' slots'
-          → Starting s t members cells₀ lens₀ loads₀ slots₀ aside₀ n cells' lens' loads' slots' aside end (k + 1)
+          → Starting s t members aside₀ n cells' lens' loads' slots' aside end (k + 1)
       unfolding load_of
       seats cells' lens' loads' slots' u =
           let load : demand_of s newcomer ≡ load_of s (newcomer ∷ []) = sym (add-zero (demand_of s newcomer)) in
@@ -309,7 +297,7 @@ module _ {s : List ℕ} {t : Terms} {members cells₀ lens₀ loads₀ slots₀ 
 
     -- the stop cannot go alone, and is set aside
     pub sets_aside : starts_alone s t (get_or members k 0) ≡ false
-        → Starting s t members cells₀ lens₀ loads₀ slots₀ aside₀ n cells (set lens k 0) (set loads k 0) slots (set aside end (get_or members k 0)) (end + 1) (k + 1)
+        → Starting s t members aside₀ n cells (set lens k 0) (set loads k 0) slots (set aside end (get_or members k 0)) (end + 1) (k + 1)
     unfolding load_of
     sets_aside alone =
         let so : aside_of s t (take (k + 1) members) ≡ aside_of s t met ++ (newcomer ∷ []) = aside_more s t members k here ∙ ap (λ (b : Bool). aside_of s t met ++ aside_unless b newcomer []) alone in
@@ -326,10 +314,6 @@ module _ {s : List ℕ} {t : Terms} {members cells₀ lens₀ loads₀ slots₀ 
             known = g.room.known;
           };
           spares = omega (arith, length-set aside end newcomer, g.spares);
-          cells_long = g.cells_long;
-          lens_long = length-set lens k 0 ∙ g.lens_long;
-          loads_long = length-set loads k 0 ∙ g.loads_long;
-          slots_long = g.slots_long;
           aside_long = length-set aside end newcomer ∙ g.aside_long;
           so_far =
               seating_more s t members k here cells lens loads slots g.so_far measured loaded false alone cells slots

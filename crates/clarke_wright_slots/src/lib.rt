@@ -1,5 +1,4 @@
-// The rounds so far, each in a slot: the stops of slot k stand in `cells` from 101 times k on, `lens` says how many they are,
-// `loads` what they ask of a vehicle, and `slots` has the slot of each row.
+// The rounds so far, each in a slot.
 #![tactic(auto)]
 
 pub mod laying;
@@ -10,6 +9,16 @@ ghost use Rattle.sheet.specs.Fields.{most_rows};
 ghost use Rattle.lists.specs.Count.{count};
 ghost use Rattle.wire.specs.Bytes.{write};
 ghost use Rattle.clarke_wright_slots.specs.Slots.{slot_at, Roomy, or_reversed, end_to_end, SlotTaken};
+
+// The stops of slot k stand in `cells` from 101 times k on, `lens` says how many they are, `loads` what they ask of a vehicle,
+// and `slots` has the slot of each row. A row with no round has the number of slots there: a u16 for each row is all it takes.
+#[derive(Drop)]
+pub struct RouteSlots<const CELLS: usize> {
+    pub cells: [u16; CELLS],
+    pub lens: [u16; sheet::MOST_ROWS],
+    pub loads: [u32; sheet::MOST_ROWS],
+    pub slots: [u16; sheet::MOST_ROWS],
+}
 
 // Copies a round over the front of a table, last stop first. By a loop: `copy_from_slice` and `reverse` take twice the time.
 fn copy_back(route: &[u16], to: &mut [u16])
@@ -55,31 +64,38 @@ fn relabel(slots: &mut [u16], route: &[u16], slot: u16)
     }
 }
 
-// Empties slot `from` into slot `into`, which then has these stops.
-pub fn take_over(
-    cells: &mut [u16],
-    lens: &mut [u16],
-    loads: &mut [u32],
-    slots: &mut [u16],
-    into: usize,
-    from: usize,
-    stops: &[u16],
-)
-    requires roomy { Roomy (into + 1) cells.old lens.old loads.old slots.old }
-    requires roomy_2 { Roomy (from + 1) cells.old lens.old loads.old slots.old }
-    requires stops_len_bound { length stops.now ≤ most_rows }
-    requires from_bound { get_or lens.old from 0 ≤ most_rows }
-    requires by_index { (k : ℕ) → k < get_or lens.old from 0 → get_or (slot_at cells.old lens.old from) k 0 < most_rows }
-    requires from_bound_2 { get_or loads.old into 0 + get_or loads.old from 0 < 0x1_0000_0000 }
-    ensures { SlotTaken cells.old lens.old loads.old slots.old into from stops.now cells.new lens.new loads.new slots.new }
-{
-    let at = into * sheet::MOST_ROWS;
-    let start = from * sheet::MOST_ROWS;
-    let gone = lens[from] as usize;
-    relabel(slots, &cells[start..start + gone], into as u16);
-    cells[at..at + stops.len()].copy_from_slice(stops);
-    lens[into] = stops.len() as u16;
-    lens[from] = 0;
-    loads[into] = loads[into] + loads[from];
-    loads[from] = 0;
+impl<const CELLS: usize> RouteSlots<CELLS> {
+    pub fn new() -> Self
+        ensures { (n : ℕ) → n ≤ most_rows → n * most_rows ≤ CELLS → Roomy n result.cells result.lens result.loads result.slots }
+    {
+        RouteSlots {
+            cells: [0; CELLS],
+            lens: [0; sheet::MOST_ROWS],
+            loads: [0; sheet::MOST_ROWS],
+            slots: [0; sheet::MOST_ROWS],
+        }
+    }
+
+    // Empties slot `from` into slot `into`, which then has these stops.
+    pub fn take_over(&mut self, into: usize, from: usize, stops: &[u16])
+        requires roomy { Roomy (into + 1) self.old.cells self.old.lens self.old.loads self.old.slots }
+        requires roomy_2 { Roomy (from + 1) self.old.cells self.old.lens self.old.loads self.old.slots }
+        requires stops_len_bound { length stops.now ≤ most_rows }
+        requires from_bound { get_or self.old.lens from 0 ≤ most_rows }
+        requires by_index { (k : ℕ) → k < get_or self.old.lens from 0 → get_or (slot_at self.old.cells self.old.lens from) k 0 < most_rows }
+        requires from_bound_2 { get_or self.old.loads into 0 + get_or self.old.loads from 0 < 0x1_0000_0000 }
+        ensures slot_taken { SlotTaken self.old.cells self.old.lens self.old.loads self.old.slots into from stops.now self.new.cells self.new.lens self.new.loads self.new.slots }
+        ensures slots_len { length self.new.slots ≡ length self.old.slots }
+    {
+        let at = into * sheet::MOST_ROWS;
+        let start = from * sheet::MOST_ROWS;
+        let gone = self.lens[from] as usize;
+        let cells = &mut self.cells[..];
+        relabel(&mut self.slots, &cells[start..start + gone], into as u16);
+        cells[at..at + stops.len()].copy_from_slice(stops);
+        self.lens[into] = stops.len() as u16;
+        self.lens[from] = 0;
+        self.loads[into] += self.loads[from];
+        self.loads[from] = 0;
+    }
 }

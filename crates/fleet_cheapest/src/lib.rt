@@ -60,6 +60,7 @@ fn may_win(sheet: &[u8], windows: Windows, route: &[u16], row: u16, best: Choice
     if windows.soft {
         return true;
     }
+    // by places, one more than stops
     for k in 0..route.len() + 1 {
         if choice::wins(place::detour(sheet, 0, route, row as usize, k), best) {
             return true;
@@ -155,6 +156,7 @@ fn cheapest_insertion(
 {
     let mut best = None;
     let mut start: usize = 0;
+    // by rounds: one stands in two tables, and the choice names it by i
     for i in 0..n {
         let end = ends[i] as usize;
         let room = end - start + 1;
@@ -192,10 +194,8 @@ pub fn cheapest(
     ensures { result ≡ pick_of sheet.now windows.soft (rounds_in stops.now ends.now vehicles.now n 0 0) pending.now }
 {
     let mut best = None;
-    for j in 0..pending.len() {
-        let choice = cheapest_insertion(
-            sheet, windows, stops, ends, vehicles, n, pending[j], trial,
-        );
+    for (j, &row) in pending.iter().enumerate() {
+        let choice = cheapest_insertion(sheet, windows, stops, ends, vehicles, n, row, trial);
         best = fleet::pick_with(best, j, choice);
     }
     best

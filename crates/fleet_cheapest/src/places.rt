@@ -28,6 +28,7 @@ pub fn try_free(
     ensures { result ≡ try_places sheet.now terms route.now j row best (suc (length route.now)) 0 }
 {
     let mut done = best;
+    // by places, one more than stops
     for k in 0..route.len() + 1 {
         let cost = place::detour(sheet, terms.depot, route, row as usize, k);
         let next = choice::better(done, j, k, cost);
@@ -184,6 +185,7 @@ pub fn try_places(
 {
     let walk = evaluation_prefix::start(terms.depot);
     let mut done = Walked { tried, walk };
+    // by places, one more than stops
     for k in 0..route.len() + 1 {
         let next = try_place(sheet, terms, prices, route, row, trial, done, j, k);
         done = rebuilt(next);

@@ -22,12 +22,12 @@ use Rattle.evaluation.specs.Routed.{Routed}
 use Rattle.constructive.specs.Members.{part, Members}
 use Rattle.nearest_neighbor_choice.specs.StopChoice.{StopChoice}
 use Rattle.nearest_neighbor_choice.specs.declared.partial.Partial.{Partial}
-use Rattle.nearest_neighbor.specs.declared.greedy.Heuristic.{Heuristic}
+use Rattle.nearest_neighbor_choice.specs.Heuristic.{Heuristic, offer_by}
 use Rattle.nearest_neighbor_choice.specs.Choice.{choose, Trip, empty_trip}
 use Rattle.nearest_neighbor.specs.Greedy.{Rule, extending, extended, extended_by, extend, extend_on, end_of_trip, vehicle_round}
 use Rattle.nearest_neighbor.specs.Laws.Chosen.{Chosen, choose_chosen}
 use Rattle.nearest_neighbor_choice.specs.Partial.{empty_partial, PartialRoute}
-use Rattle.nearest_neighbor.specs.Heuristic.{limits_by, rule_of, offer_by, onward_by}
+use Rattle.nearest_neighbor.specs.Heuristic.{limits_by, rule_of, onward_by}
 use Rattle.nearest_neighbor.proofs.Leaving.{joins}
 use Rattle.nearest_neighbor.proofs.Keeping.{ride_of, Driven, offers, drives_on, stays_driven, riding, sets_out, off, choose_alike}
 

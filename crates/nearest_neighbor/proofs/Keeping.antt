@@ -27,13 +27,12 @@ use Rattle.evaluation.specs.Laws.Verdict.{longer_feasible}
 use Rattle.evaluation.specs.declared.limits.RouteLimits.{RouteLimits}
 use Rattle.nearest_neighbor_choice.specs.StopChoice.{StopChoice}
 use Rattle.nearest_neighbor_choice.specs.declared.partial.Partial.{Partial}
-use Rattle.nearest_neighbor.specs.declared.greedy.Heuristic.{Heuristic}
-use Rattle.nearest_neighbor.specs.declared.greedy.Heuristic.TheVariants.{Nearest, NearestTw}
+use Rattle.nearest_neighbor_choice.specs.Heuristic.{Heuristic, Nearest, NearestTw, ignores_due, offer_by, clock_by}
 use Rattle.nearest_neighbor_choice.specs.Choice.{Offer, better_stop, choose, Trip, empty_trip as setOff}
 use Rattle.nearest_neighbor_choice.specs.Offers.{allows, there_and_home, nearest_offer, arrival_at, service_start, is_first, window_offer}
 use Rattle.nearest_neighbor.specs.Nearest.{nearest_onward, nearest_limits, window_onward}
 use Rattle.nearest_neighbor_choice.specs.Partial.{pushed_by, allows_by, empty_partial, nearest_by, window_by, ClockKept, PartialRoute}
-use Rattle.nearest_neighbor.specs.Heuristic.{ignores_due, limits_by, partial_with, rule_of, offer_by, onward_by}
+use Rattle.nearest_neighbor.specs.Heuristic.{limits_by, rule_of, onward_by}
 use Rattle.evaluation_clock.specs.declared.clock.BreakClock.{BreakClock}
 
 -- the clock after the stops
@@ -106,15 +105,9 @@ pushed_on s depot (Some b) stops i =
     ∙ sym (ap (break_clock b) (more_clock s (at_start (Some b) depot) stops i)))
 
 pub drives_on : (s : List ℕ) (depot : ℕ) (rest : Option VehicleBreak) (trip : Trip) (h : Heuristic) (index i : ℕ) → onward_by s h (ride_of s depot rest trip) i ≡ ride_of s depot rest ((rule_of s depot h index).onward trip i)
-unfolding onward_by partial_with rule_of nearest_onward window_onward
+unfolding onward_by clock_by rule_of nearest_onward window_onward
 drives_on s depot rest trip Nearest index i = rw (pushed_on s depot rest trip.stops i, one_more trip.stops i)
 drives_on s depot rest trip (NearestTw soft) index i = rw (pushed_on s depot rest trip.stops i, one_more trip.stops i)
-
--- a step is the round with its clock
-pub stepped : (s : List ℕ) (h : Heuristic) (partial : Partial) (i : ℕ) (clock : Float) → clock ≡ (onward_by s h partial i).clock → partial_with s partial i clock ≡ onward_by s h partial i
-unfolding onward_by partial_with
-stepped s Nearest partial i clock e = rw e
-stepped s (NearestTw soft) partial i clock e = rw e
 
 -- the figures stay those of the stops
 pub stays_driven : (s : List ℕ) (depot : ℕ) (trip : Trip) (h : Heuristic) (index i : ℕ) → Accepted s → Driven s depot trip → i < rows_of s → Driven s depot ((rule_of s depot h index).onward trip i)

@@ -19,7 +19,7 @@ use Rattle.constructive.specs.Members.{part, Members, Fleet}
 use Rattle.constructive.specs.Stored.{ends_from, vehicles_from, routed_in, filled_by, Stored, Room}
 use Rattle.constructive.specs.Laws.Entered.{enters_one}
 use Rattle.constructive.specs.Laws.Stored.{chains_aside, chains_append, length_chains, length_ends, length_vehicles, routed_append}
-use Rattle.nearest_neighbor.specs.declared.greedy.Heuristic.{Heuristic}
+use Rattle.nearest_neighbor_choice.specs.Heuristic.{Heuristic}
 use Rattle.nearest_neighbor.specs.Greedy.{Grown, vehicle_round, with_stops, round_then, greedy}
 use Rattle.nearest_neighbor.specs.Heuristic.{rule_of}
 use Rattle.nearest_neighbor.proofs.Leaving.{joins, round_long, round_every}

@@ -8,8 +8,7 @@ use lib.ListN.{length, get_or, length-append}
 use Rattle.lists.specs.Every.{Every}
 use Rattle.lists.specs.Laws.Moved.{without_length, without_every}
 use Rattle.nearest_neighbor_choice.specs.StopChoice.{StopChoice}
-use Rattle.nearest_neighbor.specs.declared.greedy.Heuristic.{Heuristic}
-use Rattle.nearest_neighbor.specs.declared.greedy.Heuristic.TheVariants.{Nearest, NearestTw}
+use Rattle.nearest_neighbor_choice.specs.Heuristic.{Heuristic, Nearest, NearestTw}
 use Rattle.nearest_neighbor_choice.specs.Choice.{choose, Trip, empty_trip}
 use Rattle.nearest_neighbor.specs.Greedy.{Rule, Extension, extending, extended, extended_by, extend, extend_on, end_of_trip, vehicle_round}
 use Rattle.nearest_neighbor.specs.Nearest.{nearest_onward, window_onward}

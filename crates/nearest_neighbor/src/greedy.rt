@@ -1,115 +1,60 @@
 // What both nearest neighbours share: each vehicle in turn grows one round by the best stop left.
-ghost use Rattle.std.specs.Prelude.{◌≡◌, [], ◌∷◌, ◌++◌, ◌+◌, ◌-◌, ◌≤◌, ◌<◌, length, get_or, take, drop, None};
+ghost use Rattle.std.specs.Prelude.{◌≡◌, ◌++◌, ◌+◌, ◌<◌, length};
 ghost use Rattle.wire.specs.Bytes.{write};
 ghost use Rattle.sheet.specs.Accepted.{Accepted};
 ghost use Rattle.sheet.specs.Fields.{rows_of, vehicles_of};
 ghost use Rattle.sheet.specs.Values.{vehicle_of};
-ghost use Rattle.evaluation.specs.Routed.{Routed};
 ghost use Rattle.constructive.specs.Stored.{Stored, Room, filled_by};
 ghost use Rattle.constructive.specs.Members.{part, Members, Fleet};
-ghost use Rattle.nearest_neighbor_choice.specs.Choice.{choose};
 ghost use Rattle.nearest_neighbor.specs.Greedy.{vehicle_round, greedy};
 ghost use Rattle.nearest_neighbor_choice.specs.Partial.{PartialRoute};
-ghost use Rattle.nearest_neighbor.specs.Heuristic.{ignores_due, limits_by, rule_of, offer_by, onward_by, partial_with};
+ghost use Rattle.nearest_neighbor.specs.Heuristic.{limits_by, rule_of, onward_by};
 
 use constructive::tables;
 use constructive::tables::Filled;
 use evaluation::limits;
 use evaluation::limits::RouteLimits;
-use nearest_neighbor_choice::choice::StopChoice;
 use nearest_neighbor_choice::partial::Partial;
-use nearest_neighbor_choice::{nearest, nn_tw, partial};
-use sheet::vehicle::{Vehicle, VehicleBreak};
+use nearest_neighbor_choice::rule::Rule;
+use nearest_neighbor_choice::{partial, rule};
+use sheet::vehicle::Vehicle;
 use sheet::{customer, matrix, vehicle};
 
-// Which of the two; with windows, whether some window has a penalty.
-#[derive(Clone, Copy)]
-pub enum Heuristic {
-    Nearest,
-    NearestTw(bool),
-}
-
-// Whether the depot's due is passed over.
-fn ignores_due(heuristic: Heuristic, rest: Option<VehicleBreak>) -> bool
-    ensures { result ≡ ignores_due heuristic rest }
-{
-    match heuristic {
-        Heuristic::Nearest => rest.is_none(),
-        Heuristic::NearestTw(_) => false,
-    }
-}
-
 // What the rounds of the vehicle at `index` are held to.
-fn limits_for(sheet: &[u8], heuristic: Heuristic, vehicle: Vehicle, index: usize) -> RouteLimits
+fn limits_for<R: Rule>(sheet: &[u8], rule: R, vehicle: Vehicle, index: usize) -> RouteLimits
     requires accepted { Accepted sheet.now }
     requires index_bound { (index < vehicles_of sheet.now) × (0 < rows_of sheet.now) }
     requires vehicle_value { vehicle ≡ vehicle_of sheet.now index }
-    ensures { result ≡ limits_by sheet.now heuristic index }
+    ensures { result ≡ limits_by sheet.now (R.which rule) index }
 {
-    let rest = vehicle.rest;
-    if ignores_due(heuristic, rest) {
+    if rule.ignores_due(vehicle.rest) {
         return limits::limits_of(vehicle);
     }
     limits::limits_at(sheet, index)
 }
 
-fn best_stop(
-    sheet: &[u8],
-    depot: usize,
-    heuristic: Heuristic,
-    vehicle: Vehicle,
-    limits: RouteLimits,
-    partial: Partial,
-    left: &[u16],
-) -> StopChoice
-    requires partial_route { PartialRoute sheet.now partial }
-    requires routed { Routed sheet.now depot left.now }
-    ensures { result ≡ choose (offer_by sheet.now depot heuristic vehicle limits partial) None 0 left.now }
-{
-    match heuristic {
-        Heuristic::Nearest => nearest::nearest(sheet, depot, vehicle, limits, partial, left),
-        Heuristic::NearestTw(soft) => nn_tw::nearest(
-            sheet, depot, vehicle, limits, soft, partial, left,
-        ),
-    }
-}
-
-fn clock_at(sheet: &[u8], heuristic: Heuristic, partial: Partial, row: usize) -> f64
-    requires partial_route { PartialRoute sheet.now partial }
-    requires row_bound { row < rows_of sheet.now }
-    ensures { result ≡ (onward_by sheet.now heuristic partial row).clock }
-{
-    match heuristic {
-        Heuristic::Nearest => nearest::clock_at(sheet, partial, row),
-        Heuristic::NearestTw(_) => nn_tw::clock_at(sheet, partial, row),
-    }
-}
-
 // The round one stop further.
-fn drive_on(sheet: &[u8], heuristic: Heuristic, partial: Partial, row: usize) -> Partial
+fn drive_on<R: Rule>(sheet: &[u8], rule: R, partial: Partial, row: usize) -> Partial
     requires partial_route { PartialRoute sheet.now partial }
     requires row_bound { row < rows_of sheet.now }
-    ensures { result ≡ onward_by sheet.now heuristic partial row }
+    ensures { result ≡ onward_by sheet.now (R.which rule) partial row }
 {
-    let kept = partial.rest;
-    let clock = clock_at(sheet, heuristic, partial, row);
-    let rest = partial::pushed_by(sheet, kept, row);
     Partial {
         current: row,
         served: partial.served + 1,
         load: partial.load + customer::demand(sheet, row),
         travelled: partial.travelled + matrix::distance(sheet, partial.current, row),
-        clock,
-        rest,
+        clock: rule.clock_at(sheet, partial, row),
+        rest: partial::pushed_by(sheet, partial.rest, row),
     }
 }
 
 // A vehicle's round of the stops from `start` to `total`: they then stand first, in order, and those that are left after
 // them. Answers where the round ends.
-fn grow_round(
+fn grow_round<R: Rule>(
     sheet: &[u8],
     depot: usize,
-    heuristic: Heuristic,
+    rule: R,
     index: usize,
     stops: &mut [u16],
     start: usize,
@@ -117,19 +62,19 @@ fn grow_round(
 ) -> usize
     requires members { Members sheet.now depot stops.old start total }
     requires index_bound { index < vehicles_of sheet.now }
-    ensures value { result ≡ start + length (vehicle_round (rule_of sheet.now depot heuristic index) depot (part stops.old start total)).stops }
-    ensures stops_after { stops.new ≡ write stops.old start ((vehicle_round (rule_of sheet.now depot heuristic index) depot (part stops.old start total)).stops ++ (vehicle_round (rule_of sheet.now depot heuristic index) depot (part stops.old start total)).left) }
+    ensures value { result ≡ start + length (vehicle_round (rule_of sheet.now depot (R.which rule) index) depot (part stops.old start total)).stops }
+    ensures stops_after { stops.new ≡ write stops.old start ((vehicle_round (rule_of sheet.now depot (R.which rule) index) depot (part stops.old start total)).stops ++ (vehicle_round (rule_of sheet.now depot (R.which rule) index) depot (part stops.old start total)).left) }
 {
     let vehicle = vehicle::vehicle_at(sheet, index);
-    let limits = limits_for(sheet, heuristic, vehicle, index);
+    let limits = limits_for(sheet, rule, vehicle, index);
     let rest = limits.rest;
     let mut partial = partial::empty_partial(rest, depot);
     let mut end = start;
     while end < total {
-        let Some((j, _)) = best_stop(
+        let Some((j, _)) = rule::nearest(
+            rule,
             sheet,
             depot,
-            heuristic,
             vehicle,
             limits,
             partial,
@@ -138,7 +83,7 @@ fn grow_round(
             return end;
         };
         let from = end + j;
-        partial = drive_on(sheet, heuristic, partial, stops[from] as usize);
+        partial = drive_on(sheet, rule, partial, stops[from] as usize);
         tables::bring(stops, end, from);
         end = end + 1;
     }
@@ -146,10 +91,10 @@ fn grow_round(
 }
 
 // Lays down the rounds of the fleet over the members, which stand in `stops` from where the tables are filled up to `total`.
-pub fn lay_rounds(
+pub fn lay_rounds<R: Rule>(
     sheet: &[u8],
     depot: usize,
-    heuristic: Heuristic,
+    rule: R,
     fleet: &[u16],
     stops: &mut [u16],
     ends: &mut [u16],
@@ -160,14 +105,13 @@ pub fn lay_rounds(
     requires members { Members sheet.now depot stops.old filled.routed total }
     requires room { Room ends.old vehicles.old filled total }
     requires fleet { Fleet sheet.now fleet.now }
-    ensures value { result ≡ filled_by filled (greedy (rule_of sheet.now depot heuristic) depot fleet.now (part stops.old filled.routed total)).rounds }
-    ensures stored { Stored stops.old ends.old vehicles.old filled (greedy (rule_of sheet.now depot heuristic) depot fleet.now (part stops.old filled.routed total)) stops.new ends.new vehicles.new }
+    ensures value { result ≡ filled_by filled (greedy (rule_of sheet.now depot (R.which rule)) depot fleet.now (part stops.old filled.routed total)).rounds }
+    ensures stored { Stored stops.old ends.old vehicles.old filled (greedy (rule_of sheet.now depot (R.which rule)) depot fleet.now (part stops.old filled.routed total)) stops.new ends.new vehicles.new }
 {
     let mut done = filled;
-    for k in 0..fleet.len() {
-        let index = fleet[k];
+    for &index in fleet {
         let start = done.routed;
-        let end = grow_round(sheet, depot, heuristic, index as usize, stops, start, total);
+        let end = grow_round(sheet, depot, rule, index as usize, stops, start, total);
         if end == start {
             continue;
         }

@@ -10,7 +10,8 @@ ghost use Rattle.constructive.specs.Members.{part, Members, Fleet};
 ghost use Rattle.nearest_neighbor.specs.Nearest.{nearest_neighbor, nearest_neighbor_tw};
 
 use constructive::tables::Filled;
-use greedy::Heuristic;
+use nearest_neighbor_choice::nearest::NearestNeighbor;
+use nearest_neighbor_choice::nn_tw::NearestNeighborTw;
 
 // The members stand in `stops` from where the tables are filled up to `total`, ascending; the fleet is the depot's vehicles.
 // Answers how far the tables are filled with the rounds; the stops set aside stand after them, up to `total`.
@@ -33,7 +34,7 @@ pub fn nearest_neighbor(
     greedy::lay_rounds(
         sheet,
         depot,
-        Heuristic::Nearest,
+        NearestNeighbor,
         fleet,
         stops,
         ends,
@@ -65,7 +66,7 @@ pub fn nearest_neighbor_tw(
     greedy::lay_rounds(
         sheet,
         depot,
-        Heuristic::NearestTw(soft),
+        NearestNeighborTw { soft },
         fleet,
         stops,
         ends,

@@ -1,15 +1,14 @@
 -- A stop judged: it keeps the limits, or not; it loses, is out, or is taken; and the best of all stops left, one by one. Assumes nothing.
 use Rattle.std.specs.Prelude.{Option, Some, None}
 use mathlib.Core.Path.{◌≡◌, refl, sym, ap, ◌∙◌}
-use Prim.Native.Nat.{ℕ, ◌+◌, ◌-◌, ◌≤◌, ◌<◌}
+use Prim.Native.Nat.{ℕ, ◌+◌, ◌≤◌, ◌<◌}
 use native.Mathlib.Numerals.{add-one}
 use native.Mathlib.Omega.{arith}
 use mathlib.Core.Bool.{Bool, true, false, ◌||◌, or-false}
-use mathlib.Core.List.{List, [], ◌∷◌}
-use lib.ListN.{length, get_or, take, drop}
+use mathlib.Core.List.{List}
+use lib.ListN.{length, get_or, drop}
 use lib.Seq.{drop-cons, drop-length}
 use lib.Ieee.{Float}
-use Rattle.evaluation.specs.Routed.{Routed}
 use Rattle.evaluation_clock.specs.Clock.{moved_of}
 use Rattle.evaluation.specs.Verdict.{verdict_of}
 use Rattle.evaluation.specs.declared.limits.RouteLimits.{RouteLimits}
@@ -21,11 +20,6 @@ use Rattle.nearest_neighbor_choice.specs.Partial.{allows_by, allows_on_way, allo
 use Rattle.evaluation_clock.specs.declared.clock.BreakClock.{BreakClock}
 
 -- ---- the limits are kept on the way, or with the rest at home
-pub unmarked : (s : List ℕ) (depot : ℕ) (limits : RouteLimits) (kept : Option BreakClock) (i : ℕ) (distance : Float) → limits.at_home ≡ false → allows_home s depot limits kept i distance ≡ false
-unfolding allows_home
-unmarked s depot limits None i distance e = refl
-unmarked s depot limits (Some c) i distance e = rw e refl
-
 split : (s : List ℕ) (depot : ℕ) (limits : RouteLimits) (kept : Option BreakClock) (i : ℕ) (distance duration : Float) → allows_by s depot limits kept i distance duration ≡ (allows_on_way s depot limits kept i distance duration || allows_home s depot limits kept i distance)
 unfolding allows_by allows_on_way allows_home verdict_of moved_of
 split s depot limits None i distance duration = sym (or-false _)
@@ -73,31 +67,3 @@ module _ (offer : ℕ → Offer) (left : List ℕ) (c : StopChoice) (j end : ℕ
   pub ends : end ≤ j → c ≡ choose offer None 0 left
   unfolding choose
   ends h = let e : j ≡ length left = omega (arith, g.last, g.within) in sym (g.same ∙ rw (e, drop-length left))
-
--- ---- a list of one
-pub single : (l : List ℕ) → length l ≡ 1 → l ≡ get_or l 0 0 ∷ []
-single [] h = absurd (omega arith)
-single (x ∷ []) h = refl
-single (x ∷ y ∷ l) h = absurd (omega arith)
-
--- ---- the stop at place j alone
-module _ (left : List ℕ) (j : ℕ) (h : j < length left) where
-  abbrev alone : List ℕ
-  alone = take (j + 1 - j) (drop j left)
-
-  is_alone : alone ≡ get_or left j 0 ∷ []
-  is_alone = let e : j + 1 - j ≡ 1 = omega arith in rw (e, drop-cons left j 0 h)
-
-  pub alone_long : length alone ≡ 1
-  alone_long = rw is_alone
-
-  pub alone_row : get_or alone 0 0 ≡ get_or left j 0
-  alone_row = rw is_alone
-
-  pub alone_routed : (s : List ℕ) (depot : ℕ) → Routed s depot left → Routed s depot alone
-  alone_routed s depot ok = record {
-    sheet = ok.sheet;
-    home = ok.home;
-    few = omega (arith, alone_long);
-    row = λ k l. let e : k ≡ 0 = omega (arith, alone_long) in rw (e, alone_row) (ok.row j h);
-  }

@@ -5,3 +5,4 @@ pub mod choice;
 pub mod nearest;
 pub mod nn_tw;
 pub mod partial;
+pub mod rule;

@@ -1,18 +1,18 @@
 // Nearest neighbour: without a rest it ignores windows and waiting.
-ghost use Rattle.std.specs.Prelude.{◌≡◌, ◌<◌, None};
+ghost use Rattle.std.specs.Prelude.{◌≡◌, ◌<◌};
 ghost use Rattle.sheet.specs.Fields.{rows_of};
-ghost use Rattle.evaluation.specs.Routed.{Routed};
 ghost use Rattle.evaluation_clock.specs.Sums.{◌⊕◌};
 ghost use Rattle.sheet.specs.Values.{stop_of, time_of};
-ghost use Rattle.nearest_neighbor_choice.specs.Choice.{better_stop, choose};
 ghost use Rattle.nearest_neighbor_choice.specs.Offers.{there_and_home};
-ghost use Rattle.nearest_neighbor_choice.specs.Partial.{trip_of, allows_by, nearest_by, nearest_clock, PartialRoute};
+ghost use Rattle.nearest_neighbor_choice.specs.Heuristic.{Nearest as plain_rule};
+ghost use Rattle.nearest_neighbor_choice.specs.Partial.{trip_of, allows_by, PartialRoute};
 
 use crate::choice::StopChoice;
 use crate::partial::Partial;
+use crate::rule::Rule;
 use crate::{choice, partial};
 use evaluation::limits::RouteLimits;
-use sheet::vehicle::Vehicle;
+use sheet::vehicle::{Vehicle, VehicleBreak};
 use sheet::{customer, matrix};
 
 // Whether the limits are kept with the row as the last stop.
@@ -21,85 +21,50 @@ fn fits(sheet: &[u8], depot: usize, limits: RouteLimits, partial: Partial, row: 
     requires row_bound { (row < rows_of sheet.now) × (depot < rows_of sheet.now) }
     ensures { result ≡ allows_by sheet.now depot limits partial.rest row (there_and_home sheet.now depot (trip_of partial) row) (partial.clock ⊕ time_of sheet.now partial.current row ⊕ (stop_of sheet.now row).service ⊕ time_of sheet.now row depot) }
 {
-    let current = partial.current;
-    let kept = partial.rest;
-    let distance = partial.travelled
-        + matrix::distance(sheet, current, row)
-        + matrix::distance(sheet, row, depot);
     let stop = customer::stop_at(sheet, row);
     let duration = partial.clock
-        + matrix::travel_time(sheet, current, row)
+        + matrix::travel_time(sheet, partial.current, row)
         + stop.service
         + matrix::travel_time(sheet, row, depot);
-    if partial::allows_on_way(sheet, depot, limits, kept, row, distance, duration) {
-        return true;
-    }
-    partial::allows_home(sheet, depot, limits, kept, row, distance)
+    partial::allows(sheet, depot, limits, partial, row, duration)
 }
 
-// The better of the best so far and the stop at place j. What is no nearer is not looked at further.
-fn nearer(
-    sheet: &[u8],
-    depot: usize,
-    vehicle: Vehicle,
-    limits: RouteLimits,
-    partial: Partial,
-    best: StopChoice,
-    j: usize,
-    row: usize,
-) -> StopChoice
-    requires partial_route { PartialRoute sheet.now partial }
-    requires row_bound { (row < rows_of sheet.now) × (depot < rows_of sheet.now) }
-    ensures { result ≡ better_stop best j (nearest_by sheet.now depot vehicle limits partial row) }
-{
-    let distance = matrix::distance(sheet, partial.current, row);
-    if !choice::wins(distance, best) {
-        return best;
-    }
-    if !partial::carries(sheet, vehicle, partial, row) {
-        return best;
-    }
-    if !fits(sheet, depot, limits, partial, row) {
-        return best;
-    }
-    Some((j, distance))
-}
+#[derive(Clone, Copy)]
+pub struct NearestNeighbor;
 
-// The nearest of the stops left that the round can take.
-pub fn nearest(
-    sheet: &[u8],
-    depot: usize,
-    vehicle: Vehicle,
-    limits: RouteLimits,
-    partial: Partial,
-    left: &[u16],
-) -> StopChoice
-    requires partial_route { PartialRoute sheet.now partial }
-    requires routed { Routed sheet.now depot left.now }
-    ensures { result ≡ choose (nearest_by sheet.now depot vehicle limits partial) None 0 left.now }
-{
-    let mut best = None;
-    for (j, &row) in left.iter().enumerate() {
-        best = nearer(
-            sheet,
-            depot,
-            vehicle,
-            limits,
-            partial,
-            best,
-            j,
-            row as usize,
-        );
-    }
-    best
-}
+impl Rule for NearestNeighbor {
+    ghost which = { λ _. plain_rule };
 
-// The clock grows by the leg and the service, summed first.
-pub fn clock_at(sheet: &[u8], partial: Partial, row: usize) -> f64
-    requires partial_route { PartialRoute sheet.now partial }
-    requires row_bound { row < rows_of sheet.now }
-    ensures { result ≡ nearest_clock sheet.now partial row }
-{
-    let stop = customer::stop_at(sheet, row);
-    partial.clock + (matrix::travel_time(sheet, partial.current, row) + stop.service)
+    fn ignores_due(self, rest: Option<VehicleBreak>) -> bool {
+        rest.is_none()
+    }
+
+    // What is no nearer is not looked at further.
+    fn nearer(
+        self,
+        sheet: &[u8],
+        depot: usize,
+        vehicle: Vehicle,
+        limits: RouteLimits,
+        partial: Partial,
+        best: StopChoice,
+        j: usize,
+        row: u16,
+    ) -> StopChoice {
+        let at = row as usize;
+        let distance = matrix::distance(sheet, partial.current, at);
+        if choice::wins(distance, best)
+            && partial::carries(sheet, vehicle, partial, at)
+            && fits(sheet, depot, limits, partial, at)
+        {
+            return Some((j, distance));
+        }
+        best
+    }
+
+    // It grows by the leg and the service, summed first.
+    fn clock_at(self, sheet: &[u8], partial: Partial, row: usize) -> f64 {
+        let stop = customer::stop_at(sheet, row);
+        partial.clock + (matrix::travel_time(sheet, partial.current, row) + stop.service)
+    }
 }

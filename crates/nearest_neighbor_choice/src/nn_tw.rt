@@ -1,20 +1,21 @@
 // Nearest neighbour with windows: a stop's key is its distance plus its penalty times its lateness.
-ghost use Rattle.std.specs.Prelude.{◌≡◌, [], ◌∷◌, ◌<◌, length, get_or, None};
+ghost use Rattle.std.specs.Prelude.{◌≡◌, ◌<◌};
 ghost use Rattle.sheet.specs.Fields.{rows_of};
-ghost use Rattle.sheet.specs.Values.{stop_of, distance_of, time_of};
-ghost use Rattle.evaluation.specs.Routed.{Routed};
+ghost use Rattle.sheet.specs.Values.{stop_of};
 ghost use Rattle.evaluation_clock.specs.Sums.{◌⊕◌};
-ghost use Rattle.nearest_neighbor_choice.specs.Choice.{better_stop, choose};
-ghost use Rattle.nearest_neighbor_choice.specs.Offers.{late_at, service_start, penalty_of, missed, there_and_home, arrival_at, marginal};
-ghost use Rattle.nearest_neighbor_choice.specs.Partial.{trip_of, allows_by, partial_too_dear, candidate_of, takes_by, window_by, window_clock, PartialRoute};
+ghost use Rattle.nearest_neighbor_choice.specs.Choice.{better_stop};
+ghost use Rattle.nearest_neighbor_choice.specs.Offers.{late_at, service_start, penalty_of, missed, arrival_at, marginal};
+ghost use Rattle.nearest_neighbor_choice.specs.Heuristic.{NearestTw as window_rule};
+ghost use Rattle.nearest_neighbor_choice.specs.Partial.{trip_of, partial_too_dear, candidate_of, takes_by, window_by, window_clock, PartialRoute};
 
 use crate::choice::StopChoice;
 use crate::partial::Partial;
+use crate::rule::Rule;
 use crate::{choice, partial};
 use evaluation::limits::RouteLimits;
 use evaluation_clock::window;
 use sheet::customer::Gate;
-use sheet::vehicle::Vehicle;
+use sheet::vehicle::{Vehicle, VehicleBreak};
 use sheet::{customer, matrix, vehicle};
 
 // By how much an arrival is late, whatever the window costs.
@@ -68,30 +69,6 @@ fn arrival_at(sheet: &[u8], partial: Partial, row: usize) -> f64
     partial.clock + matrix::travel_time(sheet, partial.current, row)
 }
 
-// Whether the limits are kept with the row, left at `departure`, as the last stop.
-fn fits(
-    sheet: &[u8],
-    depot: usize,
-    limits: RouteLimits,
-    partial: Partial,
-    row: usize,
-    departure: f64,
-) -> bool
-    requires partial_route { PartialRoute sheet.now partial }
-    requires row_bound { (row < rows_of sheet.now) × (depot < rows_of sheet.now) }
-    ensures { result ≡ allows_by sheet.now depot limits partial.rest row (there_and_home sheet.now depot (trip_of partial) row) (departure ⊕ time_of sheet.now row depot) }
-{
-    let kept = partial.rest;
-    let distance = partial.travelled
-        + matrix::distance(sheet, partial.current, row)
-        + matrix::distance(sheet, row, depot);
-    let duration = departure + matrix::travel_time(sheet, row, depot);
-    if partial::allows_on_way(sheet, depot, limits, kept, row, distance, duration) {
-        return true;
-    }
-    partial::allows_home(sheet, depot, limits, kept, row, distance)
-}
-
 // What a stop adds to the round so far, with its lateness.
 fn added(sheet: &[u8], depot: usize, partial: Partial, row: usize, late_cost: f64) -> f64
     requires partial_route { PartialRoute sheet.now partial }
@@ -103,7 +80,7 @@ fn added(sheet: &[u8], depot: usize, partial: Partial, row: usize, late_cost: f6
         + late_cost
 }
 
-// Whether the one stop of `alone` had better go by itself: asked where a window has a penalty, and of no round's first stop.
+// Whether the stop had better go by itself: asked where a window has a penalty, and of no round's first stop.
 fn is_too_dear(
     sheet: &[u8],
     depot: usize,
@@ -111,23 +88,20 @@ fn is_too_dear(
     limits: RouteLimits,
     soft: bool,
     partial: Partial,
-    alone: &[u16],
+    row: u16,
     late_cost: f64,
 ) -> bool
     requires partial_route { PartialRoute sheet.now partial }
-    requires routed { Routed sheet.now depot alone.now }
-    requires alone_len { length alone.now ≡ 1 }
-    ensures { result ≡ partial_too_dear sheet.now depot vehicle limits soft partial (get_or alone.now 0 0) late_cost }
+    requires row_bound { (row < rows_of sheet.now) × (depot < rows_of sheet.now) }
+    ensures { result ≡ partial_too_dear sheet.now depot vehicle limits soft partial row late_cost }
 {
-    if !soft {
+    if !soft || partial.served == 0 {
         return false;
     }
-    if partial.served == 0 {
-        return false;
-    }
-    let cost = evaluation::effective_cost(sheet, alone, depot, limits);
+    let alone = [row];
+    let cost = evaluation::effective_cost(sheet, &alone, depot, limits);
     let most = cost + vehicle::fixed_cost_in_distance(vehicle);
-    most <= added(sheet, depot, partial, alone[0] as usize, late_cost)
+    most <= added(sheet, depot, partial, row as usize, late_cost)
 }
 
 // What the key of a stop is made of.
@@ -158,7 +132,7 @@ fn candidate_at(sheet: &[u8], partial: Partial, row: usize) -> Candidate
     }
 }
 
-// Whether the round can take the one stop of `alone`.
+// Whether the round can take the stop.
 fn takes(
     sheet: &[u8],
     depot: usize,
@@ -166,105 +140,75 @@ fn takes(
     limits: RouteLimits,
     soft: bool,
     partial: Partial,
-    alone: &[u16],
+    row: u16,
     seen: Candidate,
 ) -> bool
     requires partial_route { PartialRoute sheet.now partial }
-    requires routed { Routed sheet.now depot alone.now }
-    requires alone_len { length alone.now ≡ 1 }
-    ensures { result ≡ takes_by sheet.now depot vehicle limits soft partial (get_or alone.now 0 0) seen }
+    requires row_bound { (row < rows_of sheet.now) × (depot < rows_of sheet.now) }
+    ensures { result ≡ takes_by sheet.now depot vehicle limits soft partial row seen }
 {
-    let row = alone[0] as usize;
-    if !partial::carries(sheet, vehicle, partial, row) {
+    let at = row as usize;
+    if !partial::carries(sheet, vehicle, partial, at) {
         return false;
     }
-    let stop = customer::stop_at(sheet, row);
+    let stop = customer::stop_at(sheet, at);
     let gate = stop.gate;
     if is_missed(gate, seen.late) {
         return false;
     }
-    let departure = start_at(gate, seen.arrival) + stop.service;
-    if !fits(sheet, depot, limits, partial, row, departure) {
-        return false;
-    }
-    !is_too_dear(
-        sheet,
-        depot,
-        vehicle,
-        limits,
-        soft,
-        partial,
-        alone,
-        seen.late_cost,
-    )
-}
-
-// The better of the best so far and the one stop of `alone`, at place j. What does not win is not looked at further.
-fn nearer(
-    sheet: &[u8],
-    depot: usize,
-    vehicle: Vehicle,
-    limits: RouteLimits,
-    soft: bool,
-    partial: Partial,
-    best: StopChoice,
-    j: usize,
-    alone: &[u16],
-) -> StopChoice
-    requires partial_route { PartialRoute sheet.now partial }
-    requires routed { Routed sheet.now depot alone.now }
-    requires alone_len { length alone.now ≡ 1 }
-    ensures { result ≡ better_stop best j (window_by sheet.now depot vehicle limits soft partial (get_or alone.now 0 0)) }
-{
-    let seen = candidate_at(sheet, partial, alone[0] as usize);
-    if !choice::wins(seen.key, best) {
-        return best;
-    }
-    if !takes(sheet, depot, vehicle, limits, soft, partial, alone, seen) {
-        return best;
-    }
-    Some((j, seen.key))
-}
-
-// The stop of least key among the stops left that the round can take.
-pub fn nearest(
-    sheet: &[u8],
-    depot: usize,
-    vehicle: Vehicle,
-    limits: RouteLimits,
-    soft: bool,
-    partial: Partial,
-    left: &[u16],
-) -> StopChoice
-    requires partial_route { PartialRoute sheet.now partial }
-    requires routed { Routed sheet.now depot left.now }
-    ensures { result ≡ choose (window_by sheet.now depot vehicle limits soft partial) None 0 left.now }
-{
-    let mut best = None;
-    for j in 0..left.len() {
-        let next = j + 1;
-        best = nearer(
+    let duration = start_at(gate, seen.arrival)
+        + stop.service
+        + matrix::travel_time(sheet, at, depot);
+    partial::allows(sheet, depot, limits, partial, at, duration)
+        && !is_too_dear(
             sheet,
             depot,
             vehicle,
             limits,
             soft,
             partial,
-            best,
-            j,
-            &left[j..next],
-        );
-    }
-    best
+            row,
+            seen.late_cost,
+        )
 }
 
-// The clock after the stop, waiting counted.
-pub fn clock_at(sheet: &[u8], partial: Partial, row: usize) -> f64
-    requires partial_route { PartialRoute sheet.now partial }
-    requires row_bound { row < rows_of sheet.now }
-    ensures { result ≡ window_clock sheet.now partial row }
-{
-    let stop = customer::stop_at(sheet, row);
-    let gate = stop.gate;
-    start_at(gate, arrival_at(sheet, partial, row)) + stop.service
+// With windows; `soft` where some window has a penalty.
+#[derive(Clone, Copy)]
+pub struct NearestNeighborTw {
+    pub soft: bool,
+}
+
+impl Rule for NearestNeighborTw {
+    ghost which = { λ rule. window_rule rule.soft };
+
+    fn ignores_due(self, _rest: Option<VehicleBreak>) -> bool {
+        false
+    }
+
+    // What does not win is not looked at further.
+    fn nearer(
+        self,
+        sheet: &[u8],
+        depot: usize,
+        vehicle: Vehicle,
+        limits: RouteLimits,
+        partial: Partial,
+        best: StopChoice,
+        j: usize,
+        row: u16,
+    ) -> StopChoice {
+        let seen = candidate_at(sheet, partial, row as usize);
+        if choice::wins(seen.key, best)
+            && takes(sheet, depot, vehicle, limits, self.soft, partial, row, seen)
+        {
+            return Some((j, seen.key));
+        }
+        best
+    }
+
+    // Waiting counted.
+    fn clock_at(self, sheet: &[u8], partial: Partial, row: usize) -> f64 {
+        let stop = customer::stop_at(sheet, row);
+        start_at(stop.gate, arrival_at(sheet, partial, row)) + stop.service
+    }
 }

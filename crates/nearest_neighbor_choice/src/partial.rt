@@ -1,13 +1,14 @@
 // A round so far, with what a next stop is judged by.
 ghost use Rattle.std.specs.Prelude.{◌≡◌, ◌<◌};
 ghost use Rattle.sheet.specs.Fields.{rows_of};
-ghost use Rattle.nearest_neighbor_choice.specs.Partial.{empty_partial, clock_for, pushed_by, allows_on_way, allows_home, partial_carries, PartialRoute, ClockKept};
+ghost use Rattle.nearest_neighbor_choice.specs.Offers.{there_and_home};
+ghost use Rattle.nearest_neighbor_choice.specs.Partial.{trip_of, empty_partial, clock_for, pushed_by, allows_by, allows_on_way, allows_home, partial_carries, PartialRoute, ClockKept};
 
 use evaluation::keeping;
 use evaluation::limits::RouteLimits;
 use evaluation_clock::clock::BreakClock;
-use sheet::customer;
 use sheet::vehicle::{Vehicle, VehicleBreak};
+use sheet::{customer, matrix};
 
 // The clock after the round so far, where the vehicle has a rest to place.
 #[derive(Clone, Copy)]
@@ -67,7 +68,7 @@ pub fn carries(sheet: &[u8], vehicle: Vehicle, partial: Partial, row: usize) -> 
 
 // Whether the limits are kept with the row as the last stop and no rest at home: by the clock, where there is one to keep;
 // else by the distance and the duration that are given.
-pub fn allows_on_way(
+fn allows_on_way(
     sheet: &[u8],
     depot: usize,
     limits: RouteLimits,
@@ -88,7 +89,7 @@ pub fn allows_on_way(
 
 // Whether they are kept with the rest at home, where the vehicle has one and may take it there: asked only of what is
 // turned down.
-pub fn allows_home(
+fn allows_home(
     sheet: &[u8],
     depot: usize,
     limits: RouteLimits,
@@ -100,11 +101,33 @@ pub fn allows_home(
     requires row_bound { (row < rows_of sheet.now) × (depot < rows_of sheet.now) }
     ensures { result ≡ allows_home sheet.now depot limits kept row distance }
 {
-    if !limits.at_home {
-        return false;
-    }
     match kept {
         None => false,
-        Some(clock) => keeping::keeps_home(clock, sheet, row, depot, distance, limits),
+        Some(clock) => {
+            limits.at_home && keeping::keeps_home(clock, sheet, row, depot, distance, limits)
+        }
     }
+}
+
+// Whether the limits are kept with the row as the last stop, and the duration as given where there is no clock to keep.
+// Each rule judges every stop by it, so it is inlined in both.
+#[inline(always)]
+pub fn allows(
+    sheet: &[u8],
+    depot: usize,
+    limits: RouteLimits,
+    partial: Partial,
+    row: usize,
+    duration: f64,
+) -> bool
+    requires partial_route { PartialRoute sheet.now partial }
+    requires row_bound { (row < rows_of sheet.now) × (depot < rows_of sheet.now) }
+    ensures { result ≡ allows_by sheet.now depot limits partial.rest row (there_and_home sheet.now depot (trip_of partial) row) duration }
+{
+    let kept = partial.rest;
+    let distance = partial.travelled
+        + matrix::distance(sheet, partial.current, row)
+        + matrix::distance(sheet, row, depot);
+    allows_on_way(sheet, depot, limits, kept, row, distance, duration)
+        || allows_home(sheet, depot, limits, kept, row, distance)
 }

@@ -75,15 +75,9 @@ fn write_visits(
     ensures plan_after { plan.new ≡ with_visits sheet.now placed (begin_of depot) route.now plan.old }
 {
     let mut progress = Progress::new(depot);
-    for i in 0..route.len() {
-        progress = write_visit(
-            plan,
-            sheet,
-            placed,
-            progress,
-            route[i] as usize,
-            link(route, i + 1),
-        );
+    for (i, &row) in route.iter().enumerate() {
+        let next = link(route, i + 1);
+        progress = write_visit(plan, sheet, placed, progress, row as usize, next);
     }
     progress
 }
@@ -148,6 +142,7 @@ fn write_rounds(
 {
     let mut cost = evaluator::price_start();
     let mut start: usize = 0;
+    // by rounds: one stands in two tables, and its record at a place told by k
     for k in 0..rounds {
         let end = ends[k] as usize;
         cost = write_priced(
@@ -179,8 +174,8 @@ fn write_aside(plan: &mut [u8], sheet: &[u8], aside: &[u16]) -> u16
     ensures value { result ≡ first_of aside.now }
     ensures plan_after { plan.new ≡ with_aside sheet.now aside.now plan.old }
 {
-    for i in 0..aside.len() {
-        write_link(plan, sheet, aside[i] as usize, link(aside, i + 1));
+    for (i, &row) in aside.iter().enumerate() {
+        write_link(plan, sheet, row as usize, link(aside, i + 1));
     }
     link(aside, 0)
 }

@@ -143,8 +143,8 @@ fn single(rows: &[u16]) -> bool
     ensures { SingleAs result rows.now }
 {
     let mut met = [false; sheet::MOST_ROWS];
-    for i in 0..rows.len() {
-        let row = rows[i] as usize;
+    for &row in rows {
+        let row = row as usize;
         if met[row] {
             return false;
         }
@@ -160,10 +160,7 @@ fn each_once(sheet: &[u8], depots: usize, rows: &[u16]) -> bool
     requires t { T (links_right sheet.now rows.now) }
     ensures { result ≡ each_once sheet.now rows.now }
 {
-    if rows.len() + depots < sheet::rows(sheet) {
-        return false;
-    }
-    single(rows)
+    sheet::rows(sheet) <= rows.len() + depots && single(rows)
 }
 
 // The rounds, then the stops set aside.

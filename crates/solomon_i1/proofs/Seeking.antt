@@ -1,17 +1,14 @@
 -- The farthest of the stops left, sought one by one. Assumes nothing.
 use mathlib.Core.Path.{◌≡◌, sym, ap, ◌∙◌}
-use Prim.Native.Nat.{ℕ, zero, suc, ◌+◌, ◌≤◌, ◌<◌}
+use Prim.Native.Nat.{ℕ, suc, ◌+◌, ◌≤◌, ◌<◌}
 use native.Mathlib.Numerals.{add-one}
 use native.Mathlib.Omega.{arith}
 use mathlib.Core.Bool.{Bool, true, false, cond}
-use mathlib.Core.List.{List, [], ◌∷◌}
+use mathlib.Core.List.{List}
 use lib.Ieee.{Float, lt}
 use lib.ListN.{length, get_or, drop}
 use lib.Seq.{drop-cons, drop-length}
-use Rattle.sheet.specs.Accepted.{Accepted}
-use Rattle.sheet.specs.Fields.{rows_of}
 use Rattle.sheet.specs.Values.{distance_of}
-use Rattle.evaluation.specs.Routed.{Routed}
 use Rattle.solomon_i1.specs.Insertion.{Farthest, farthest_from, unseen, seed_of}
 
 abbrev so : ℕ → Float → Farthest
@@ -51,11 +48,3 @@ module _ (s : List ℕ) (depot : ℕ) (left : List ℕ) (place : ℕ) (most : Fl
   found l =
       let e : j ≡ length left = omega (arith, g.last, g.within) in
       sym (ap (λ (f : Farthest). f.place) (g.same ∙ ap (farthest_from s depot (so place most) j) (ap (λ (n : ℕ). drop n left) e ∙ drop-length left)))
-
--- a stop alone is a round of rows
-pub alone_routed : (s : List ℕ) (depot row : ℕ) → Accepted s → depot < rows_of s → row < rows_of s → Routed s depot (row ∷ [])
-alone_routed s depot row a h l = record { sheet = a; home = h; few = omega arith; row = go }
-  where
-    go : (k : ℕ) → k < 1 → get_or (row ∷ []) k 0 < rows_of s
-    go zero u = l
-    go (suc k) u = absurd (omega (arith, u))

@@ -15,12 +15,11 @@ pub fn farthest(sheet: &[u8], depot: usize, left: &[u16]) -> usize
 {
     let mut place = 0;
     let mut most = 0.0;
-    for j in 0..left.len() {
-        let distance = matrix::distance(sheet, depot, left[j] as usize);
+    for (j, &row) in left.iter().enumerate() {
+        let distance = matrix::distance(sheet, depot, row as usize);
         if most < distance {
             place = j;
             most = distance;
-            continue;
         }
     }
     place
@@ -32,10 +31,6 @@ pub fn goes_alone(sheet: &[u8], terms: Terms, row: u16) -> bool
     requires depot_bound { (terms.depot < rows_of sheet.now) × (row < rows_of sheet.now) }
     ensures { result ≡ goes_alone sheet.now terms row }
 {
-    if terms.capacity < customer::demand(sheet, row as usize) {
-        return false;
-    }
-    let alone = [row];
-    let limits = terms.limits;
-    evaluation::route_feasible(sheet, &alone, terms.depot, limits)
+    customer::demand(sheet, row as usize) <= terms.capacity
+        && evaluation::route_feasible(sheet, &[row], terms.depot, terms.limits)
 }

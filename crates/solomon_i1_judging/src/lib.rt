@@ -164,6 +164,7 @@ fn try_places(
     ensures trial_2 { Trial route.now row result.at trial.new }
 {
     let mut done = tried;
+    // by places, one more than stops
     for k in 0..route.len() + 1 {
         let next = try_place(sheet, terms, prices, route, row, trial, done, j, k);
         done = rebuilt(next);
@@ -219,8 +220,8 @@ fn try_stops(
         choice: none,
         at: route.len(),
     };
-    for j in 0..left.len() {
-        let next = try_stop(sheet, terms, figures, route, left[j], trial, tried, j);
+    for (j, &row) in left.iter().enumerate() {
+        let next = try_stop(sheet, terms, figures, route, row, trial, tried, j);
         tried = rebuilt(next);
     }
     tried.choice

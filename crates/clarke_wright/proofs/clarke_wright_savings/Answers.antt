@@ -1,17 +1,18 @@
 -- `clarke_wright::clarke_wright_savings` meets its contract. Assumes nothing.
 use native.Mathlib.Omega.{arith}
-use Rattle.clarke_wright_slots.specs.Laws.Slots.{roomy_within}
-use Rattle.clarke_wright.proofs.Tables.{space_within}
-use Rattle.std.proofs.Common.{rules}
+use native.Mathlib.Nat.{mul-le-mul}
+use Prim.Native.Nat.{◌-◌, ◌≤◌}
 use Rattle.clarke_wright.proofs.clarke_wright_savings.Goals as goal
 
-pub plan_by-requires : goal.plan_by-requires
-plan_by-requires c = let p = c.requires in record {
-  members = p.members;
-  room = p.room;
-  vehicle_bound = p.vehicle_bound;
-  by_index = p.by_index;
-  space = space_within {n = 101} (omega (arith, p.members.most)) (record { starts = search rules; ends = search rules; saved = search rules; placed = search rules });
-  roomy = roomy_within {n = 101} (omega (arith, p.members.most)) (record { most = omega arith; celled = search rules; measured = omega arith; loaded = omega arith; known = omega arith });
-  most_rows_in_bounds = (omega arith, omega arith);
-}
+pub by_tables-requires : goal.by_tables-requires
+by_tables-requires c = let p = c.requires in
+    let few : c.args.total - c.args.filled.routed ≤ 101 = (omega (arith, p.members.most)) in
+    record {
+      members = p.members;
+      room = p.room;
+      vehicle_bound = p.vehicle_bound;
+      by_index = p.by_index;
+      members_in_bounds = mul-le-mul few few;
+      cells_in_bounds = omega (arith, few);
+      sizes_bound = (omega arith, omega arith);
+    }

@@ -1,10 +1,7 @@
 -- `clarke_wright_merging::merge_all` meets its contract. Assumes nothing.
-use Prim.Native.Nat.{◌-◌}
+use lib.ListN.{take}
 use Rattle.clarke_wright_merging.proofs.Merging.{Merging}
 use Rattle.clarke_wright_merging.proofs.merge_all.Given as goal
 
-abbrev pub invariant-loop-k : goal.invariant-loop-k
-invariant-loop-k l = Merging l.sheet l.terms l.count l.from l.to l.entries l.initial.cells l.initial.lens l.initial.loads l.initial.slots l.initial.trial l.cells l.lens l.loads l.slots l.trial l.k l.k-end
-
-abbrev pub decreases-loop-k : goal.decreases-loop-k
-decreases-loop-k l = l.k-end - l.k
+abbrev pub invariant-loop-entry : goal.invariant-loop-entry
+invariant-loop-entry g l = Merging l.sheet l.terms l.count g.row.PAIRS l.savings.from l.savings.to (take l.n l.savings.entries) l.initial.slots.cells l.initial.slots.lens l.initial.trial l.slots.cells l.slots.lens l.slots.loads l.slots.slots l.trial l.entry-index

@@ -1,5 +1,4 @@
 -- `fleet_cheapest::cheapest` meets its contract. Assumes nothing.
-use Prim.Native.Nat.{◌-◌}
 use native.Mathlib.Omega.{arith}
 use Rattle.constructive.specs.Outcome.{rounds_in}
 use Rattle.fleet_cheapest.proofs.Pending.{begins, goes_on, done}
@@ -8,24 +7,12 @@ use Rattle.fleet_cheapest.proofs.cheapest.Goals as goal
 pub loop-j-init : goal.loop-j-init
 loop-j-init c = let a = c.args in begins a.sheet.now a.windows.soft (rounds_in a.stops.now a.ends.now a.vehicles.now a.n 0 0) a.pending.now a.trial.now
 
-pub offset_bounds-pending-j : goal.offset_bounds-pending-j
-offset_bounds-pending-j c = omega (arith, c.loop-j.invariant.last)
-
-pub bounds-pending-j : goal.bounds-pending-j
-bounds-pending-j c = omega (arith, c.loop-j.invariant.last)
-
 pub cheapest_insertion-choice-requires : goal.cheapest_insertion-choice-requires
 cheapest_insertion-choice-requires c = let g = c.loop-j.invariant in record {
   windows_of = c.requires.windows_of;
   tables = c.requires.tables;
   row_bound = (c.requires.routed.row c.loop-j.j (omega (arith, g.last)), c.requires.stops_len_bound.0, omega (arith, g.long, c.requires.stops_len_bound.1));
 }
-
-pub overflow_step-j : goal.overflow_step-j
-overflow_step-j c = omega arith
-
-pub loop-j-smaller : goal.loop-j-smaller
-loop-j-smaller c = omega arith
 
 pub loop-j-preserved : goal.loop-j-preserved
 loop-j-preserved c = goes_on _ _ _ _ _ _ _ _ _ c.loop-j.invariant _ _ c.loop-j-test.true c.cheapest_insertion-choice.auto.trial (rw (← c.cheapest_insertion-choice.ensures) c.pick_with-best.ensures)

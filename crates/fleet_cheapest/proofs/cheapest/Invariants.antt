@@ -1,11 +1,7 @@
 -- `fleet_cheapest::cheapest` meets its contract. Assumes nothing.
-use Prim.Native.Nat.{◌-◌}
 use Rattle.constructive.specs.Outcome.{rounds_in}
 use Rattle.fleet_cheapest.proofs.Pending.{Picking}
 use Rattle.fleet_cheapest.proofs.cheapest.Given as goal
 
 abbrev pub invariant-loop-j : goal.invariant-loop-j
 invariant-loop-j l = Picking l.sheet l.windows.soft (rounds_in l.stops l.ends l.vehicles l.n 0 0) l.pending l.initial.trial l.trial l.best l.j l.j-end
-
-abbrev pub decreases-loop-j : goal.decreases-loop-j
-decreases-loop-j l = l.j-end - l.j

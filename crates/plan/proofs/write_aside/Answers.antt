@@ -9,15 +9,6 @@ use Rattle.plan.proofs.write_aside.Goals as goal
 pub loop-i-init : goal.loop-i-init
 loop-i-init c = let a = c.args in (refl, begins a.sheet.now a.aside.now a.plan.now)
 
-pub offset_bounds-aside-i : goal.offset_bounds-aside-i
-offset_bounds-aside-i c = omega arith
-
-pub bounds-aside-i : goal.bounds-aside-i
-bounds-aside-i c = omega (arith, c.loop-i.invariant.0)
-
-pub overflow_cast-aside : goal.overflow_cast-aside
-overflow_cast-aside c = omega (arith, c.shared_slice_known-in-loop-i-1.given c.loop-i.i)
-
 pub overflow_add-i : goal.overflow_add-i
 overflow_add-i c = omega arith
 
@@ -30,12 +21,6 @@ write_link-requires c = let a = c.args in
       sized = pre.chained.sheet;
       row_bound = (pre.chained.row l.i h, l.invariant.1.long ∙ pre.plan_len);
     }
-
-pub overflow_step-i : goal.overflow_step-i
-overflow_step-i c = omega arith
-
-pub loop-i-smaller : goal.loop-i-smaller
-loop-i-smaller c = omega arith
 
 pub loop-i-preserved : goal.loop-i-preserved
 loop-i-preserved c = let a = c.args in

@@ -12,15 +12,6 @@ loop-i-init c = let a = c.args in
     let pre = c.requires in
     (refl, rw c.new-progress.ensures (begins a.sheet.now a.depot a.placed a.route.now pre.routed a.plan.now pre.visits_writable))
 
-pub offset_bounds-route-i : goal.offset_bounds-route-i
-offset_bounds-route-i c = omega arith
-
-pub bounds-route-i : goal.bounds-route-i
-bounds-route-i c = omega (arith, c.loop-i.invariant.0)
-
-pub overflow_cast-route : goal.overflow_cast-route
-overflow_cast-route c = omega (arith, c.shared_slice_known-in-loop-i-1.given c.loop-i.i)
-
 pub overflow_add-i : goal.overflow_add-i
 overflow_add-i c = omega arith
 
@@ -34,19 +25,13 @@ write_visit-progress-requires c = let a = c.args in
       visit_writable = writes a.sheet.now a.depot a.placed a.route.now pre.routed a.plan.now l.plan l.progress l.i l.invariant.1 h;
     }
 
-pub overflow_step-i : goal.overflow_step-i
-overflow_step-i c = omega arith
-
-pub loop-i-smaller : goal.loop-i-smaller
-loop-i-smaller c = omega arith
-
 pub loop-i-preserved : goal.loop-i-preserved
 loop-i-preserved c = let a = c.args in
     let pre = c.requires in
     let l = c.loop-i in
     let w = c.write_visit-progress in
     let h : l.i < length a.route.now = omega (arith, l.invariant.0) in
-    (l.invariant.0, goes_on a.sheet.now a.depot a.placed a.route.now pre.routed a.plan.now l.plan l.progress l.i l.invariant.1 w.result c.link.result w.new.plan h w.ensures.value c.link.ensures w.auto.plan w.ensures.plan_after)
+    (l.invariant.0, goes_on a.sheet.now a.depot a.placed a.route.now pre.routed a.plan.now l.plan l.progress l.i l.invariant.1 w.result c.link-next.result w.new.plan h w.ensures.value c.link-next.ensures w.auto.plan w.ensures.plan_after)
 
 pub shape_of-plan : goal.shape_of-plan
 shape_of-plan c = c.loop-i.invariant.1.long

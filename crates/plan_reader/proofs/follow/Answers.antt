@@ -1,6 +1,5 @@
 -- `plan_reader::follow` meets its contract. Assumes nothing.
 use mathlib.Core.Path.{refl}
-use Prim.Native.Nat.{◌-◌}
 use native.Mathlib.Omega.{arith}
 use Rattle.plan_reader.proofs.Following.{begins, no_stop, no_room, goes_on, ends}
 use Rattle.plan_reader.proofs.follow.Goals as goal

@@ -1,6 +1,5 @@
 -- `plan_reader::index_of` meets its contract. Assumes nothing.
 use mathlib.Core.Path.{◌≡◌, sym, ◌∙◌}
-use Prim.Native.Nat.{◌-◌}
 use native.Mathlib.Omega.{arith}
 use Rattle.plan_reader.proofs.Indexing.{begins, goes_on, finds, ends}
 use Rattle.plan_reader.proofs.index_of.Goals as goal

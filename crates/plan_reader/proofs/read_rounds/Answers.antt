@@ -1,6 +1,6 @@
 -- `plan_reader::read_rounds` meets its contract. Assumes nothing.
 use mathlib.Core.Path.{◌≡◌, refl, ◌∙◌}
-use Prim.Native.Nat.{◌+◌, ◌-◌}
+use Prim.Native.Nat.{◌+◌}
 use native.Mathlib.Omega.{arith}
 use Rattle.plan.specs.Read.{rounds_at}
 use Rattle.plan_reader.proofs.Rounding.{begins, lent, rounds_told}

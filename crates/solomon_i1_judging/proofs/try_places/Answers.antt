@@ -1,6 +1,5 @@
 -- `solomon_i1_judging::try_places` meets its contract. Assumes nothing.
 use mathlib.Core.Path.{sym, ◌∙◌}
-use Prim.Native.Nat.{◌-◌}
 use native.Mathlib.Omega.{arith}
 use Rattle.insertion.proofs.Trying.{trial_long}
 use Rattle.insertion.proofs.Placing.{placing, places, placed}

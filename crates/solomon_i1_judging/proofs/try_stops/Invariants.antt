@@ -1,10 +1,6 @@
 -- `solomon_i1_judging::try_stops` meets its contract. Assumes nothing.
-use Prim.Native.Nat.{◌-◌}
 use Rattle.solomon_i1_judging.proofs.Choosing.{Stopping}
 use Rattle.solomon_i1_judging.proofs.try_stops.Given as goal
 
 abbrev pub invariant-loop-j : goal.invariant-loop-j
 invariant-loop-j l = Stopping l.sheet l.terms l.route l.left l.tried l.trial l.j l.j-end
-
-abbrev pub decreases-loop-j : goal.decreases-loop-j
-decreases-loop-j l = l.j-end - l.j

@@ -1,6 +1,6 @@
 -- `clarke_wright_savings::terms::symmetric_among` meets its contract. Assumes nothing.
 use mathlib.Core.Path.{refl, sym}
-use Prim.Native.Nat.{◌+◌, ◌-◌}
+use Prim.Native.Nat.{◌+◌}
 use native.Mathlib.Omega.{arith}
 use Rattle.clarke_wright_savings.specs.Savings.{same_back, symmetric}
 use Rattle.clarke_wright_savings.proofs.Symmetry.{goes_on, fails, ends, behind, behind_routed}
@@ -13,12 +13,6 @@ returns-then-not-same_back c = rw (← c.same_back.ensures, c.if-not-same_back.t
 pub loop-i-init : goal.loop-i-init
 unfolding symmetric
 loop-i-init c = record { last = refl; within = omega arith; same = rw (← c.same_back.ensures, c.if-not-same_back.false) }
-
-pub offset_bounds-members-i : goal.offset_bounds-members-i
-offset_bounds-members-i c = omega arith
-
-pub overflow_cast-members : goal.overflow_cast-members
-overflow_cast-members c = omega (arith, c.shared_slice_known-in-loop-i-1.given c.loop-i.i)
 
 pub same_back-requires-in-loop-i : goal.same_back-requires-in-loop-i
 same_back-requires-in-loop-i c = behind_routed _ _ c.args.members.now c.requires c.loop-i.i (omega (arith, c.loop-i.invariant.last))

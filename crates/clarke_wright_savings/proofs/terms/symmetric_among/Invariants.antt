@@ -1,5 +1,4 @@
 -- `clarke_wright_savings::terms::symmetric_among` meets its contract. Assumes nothing.
-use Prim.Native.Nat.{◌-◌}
 use mathlib.Core.List.{◌∷◌}
 use Rattle.clarke_wright_savings.specs.Savings.{symmetric}
 use Rattle.clarke_wright_savings.proofs.Symmetry.{Comparing}
@@ -7,6 +6,3 @@ use Rattle.clarke_wright_savings.proofs.terms.symmetric_among.Given as goal
 
 abbrev pub invariant-loop-i : goal.invariant-loop-i
 invariant-loop-i l = Comparing (symmetric l.sheet) (symmetric l.sheet (l.depot ∷ l.members)) l.members l.i l.i-end
-
-abbrev pub decreases-loop-i : goal.decreases-loop-i
-decreases-loop-i l = l.i-end - l.i

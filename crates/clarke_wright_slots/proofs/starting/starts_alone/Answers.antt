@@ -14,6 +14,6 @@ returns-then-not-terms c = rw c.if-not-terms.true
 pub route_feasible-requires : goal.route_feasible-requires
 route_feasible-requires c = record { sheet = c.requires.accepted; home = omega arith; few = omega arith; row = λ k h. every_at (λ (i : ℕ). i < rows_of c.args.sheet.now) 0 (c.args.row ∷ []) k h (omega arith, tt) }
 
-pub returns : goal.returns
+pub returns-else-not-terms : goal.returns-else-not-terms
 unfolding starts_alone
-returns c = rw c.if-not-terms.false c.route_feasible.ensures
+returns-else-not-terms c = rw c.if-not-terms.false c.route_feasible.ensures

@@ -7,7 +7,7 @@ use Rattle.nearest_neighbor.proofs.Growing.{Growing}
 use Rattle.nearest_neighbor.proofs.greedy.grow_round.Given as goal
 
 abbrev pub invariant-loop-end : goal.invariant-loop-end
-invariant-loop-end l = ((l.vehicle ≡ vehicle_of l.sheet l.index) × (l.limits ≡ limits_by l.sheet l.heuristic l.index)) × Growing l.sheet l.depot l.heuristic l.index l.initial.stops l.start l.total l.stops l.partial l.end
+invariant-loop-end g l = ((l.vehicle ≡ vehicle_of l.sheet l.index) × (l.limits ≡ limits_by l.sheet (g.R.Rule.which l.rule) l.index)) × Growing l.sheet l.depot (g.R.Rule.which l.rule) l.index l.initial.stops l.start l.total l.stops l.partial l.end
 
 abbrev pub decreases-loop-end : goal.decreases-loop-end
-decreases-loop-end l = l.total - l.end
+decreases-loop-end g l = l.total - l.end

@@ -1,6 +1,5 @@
 -- `solomon_i1::growing::grow_round` meets its contract. Assumes nothing.
 use mathlib.Core.Path.{◌∙◌}
-use Prim.Native.Nat.{◌-◌}
 use native.Mathlib.Omega.{arith}
 use Rattle.solomon_i1.proofs.Grows.{begins, left_long, joinable, room, grown_full, from_left, to_round, goes_on, grown_out, ends_at, ends_laid}
 use Rattle.solomon_i1.proofs.growing.grow_round.Goals as goal

@@ -1,6 +1,5 @@
 -- `solomon_i1::growing::lay_rounds` meets its contract. Assumes nothing.
 use mathlib.Core.Path.{refl}
-use Prim.Native.Nat.{◌-◌}
 use native.Mathlib.Omega.{arith}
 use Rattle.solomon_i1.proofs.Laying.{begins, stops_long, ends_kept, vehicles_kept, starts, within, most, left_routed, seed_in_lem, known, goes_aside, left_joinable, left_seed, left_room, grown_some, grown_within, close_room, goes_round, ends_entered, ends_laid}
 use Rattle.solomon_i1.proofs.growing.lay_rounds.Goals as goal

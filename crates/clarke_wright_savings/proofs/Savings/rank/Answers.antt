@@ -1,0 +1,31 @@
+-- `clarke_wright_savings::Savings::rank` meets its contract. Assumes nothing.
+use mathlib.Core.Path.{◌∙◌}
+use native.Mathlib.Nat.{le_trans}
+use native.Mathlib.Omega.{arith}
+use lib.Seq.{length-take-le}
+use Rattle.std.proofs.Common.{rules}
+use Rattle.clarke_wright_savings.proofs.Ranking.{listed, entries_hold, numbers, placed, few, in_rank}
+use Rattle.clarke_wright_savings.proofs.Savings.rank.Goals as goal
+
+pub shared_whole_as_front-sort_descending : goal.shared_whole_as_front-sort_descending
+shared_whole_as_front-sort_descending g c = let o = c.push_all-count.ensures in (le_trans (few _ _ _ o.value o.savings_pushed) c.requires.members_in_bounds, search rules)
+
+pub whole_as_front-sort_descending : goal.whole_as_front-sort_descending
+whole_as_front-sort_descending g c = let o = c.push_all-count.ensures in (le_trans (few _ _ _ o.value o.savings_pushed) c.requires.members_in_bounds, search rules)
+
+pub sort_descending-requires : goal.sort_descending-requires
+sort_descending-requires g c = let o = c.push_all-count in record {
+  numbers = (numbers _ _ _ o.ensures.value o.ensures.savings_pushed, placed _ _ _ o.ensures.value o.ensures.savings_pushed);
+  entries_in_bounds = omega (arith, length-take-le o.result o.new.self.entries (entries_hold _ _ _ o.ensures.value o.ensures.savings_pushed), few _ _ _ o.ensures.value o.ensures.savings_pushed, c.requires.scratch_in_bounds);
+}
+
+pub returns : goal.returns
+returns g c = let o = c.push_all-count in
+    let d = c.sort_descending in
+    let e = o.ensures in
+    let l = d.auto.entries ∙ length-take-le o.result o.new.self.entries (entries_hold _ _ _ e.value e.savings_pushed) in
+    record {
+      value = e.value;
+      listed = listed _ _ _ e.value e.savings_pushed;
+      entries_after = in_rank _ _ _ e.value e.savings_pushed d.new.entries _ l d.ensures;
+    }

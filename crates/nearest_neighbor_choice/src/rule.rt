@@ -1,0 +1,65 @@
+// The rule that a round grows by.
+ghost use Rattle.std.specs.Prelude.{◌≡◌, ◌<◌, None};
+ghost use Rattle.sheet.specs.Fields.{rows_of};
+ghost use Rattle.evaluation.specs.Routed.{Routed};
+ghost use Rattle.nearest_neighbor_choice.specs.Choice.{better_stop, choose};
+ghost use Rattle.nearest_neighbor_choice.specs.Heuristic.{Heuristic, ignores_due, offer_by, clock_by};
+ghost use Rattle.nearest_neighbor_choice.specs.Partial.{PartialRoute};
+
+use crate::choice::StopChoice;
+use crate::partial::Partial;
+use evaluation::limits::RouteLimits;
+use sheet::vehicle::{Vehicle, VehicleBreak};
+
+// Either nearest neighbour.
+pub trait Rule: Copy {
+    // which of the two it is
+    ghost which: { Self → Heuristic };
+
+    // Whether the depot's due is passed over.
+    fn ignores_due(self, rest: Option<VehicleBreak>) -> bool
+        ensures { result ≡ ignores_due (which self) rest };
+
+    // The better of the best so far and the stop at place j.
+    fn nearer(
+        self,
+        sheet: &[u8],
+        depot: usize,
+        vehicle: Vehicle,
+        limits: RouteLimits,
+        partial: Partial,
+        best: StopChoice,
+        j: usize,
+        row: u16,
+    ) -> StopChoice
+        requires partial_route { PartialRoute sheet.now partial }
+        requires row_bound { (row < rows_of sheet.now) × (depot < rows_of sheet.now) }
+        ensures { result ≡ better_stop best j (offer_by sheet.now depot (which self) vehicle limits partial row) };
+
+    // The clock after the stop.
+    fn clock_at(self, sheet: &[u8], partial: Partial, row: usize) -> f64
+        requires partial_route { PartialRoute sheet.now partial }
+        requires row_bound { row < rows_of sheet.now }
+        ensures { result ≡ clock_by sheet.now (which self) partial row };
+}
+
+// The best of the stops left that the round can take.
+pub fn nearest<R: Rule>(
+    rule: R,
+    sheet: &[u8],
+    depot: usize,
+    vehicle: Vehicle,
+    limits: RouteLimits,
+    partial: Partial,
+    left: &[u16],
+) -> StopChoice
+    requires partial_route { PartialRoute sheet.now partial }
+    requires routed { Routed sheet.now depot left.now }
+    ensures { result ≡ choose (offer_by sheet.now depot (R.which rule) vehicle limits partial) None 0 left.now }
+{
+    let mut best = None;
+    for (j, &row) in left.iter().enumerate() {
+        best = rule.nearer(sheet, depot, vehicle, limits, partial, best, j, row);
+    }
+    best
+}
