@@ -1,5 +1,6 @@
 pub mod Filling
 pub mod Closing
+pub mod Sending
 pub mod Weighing
 pub mod TakingOut
 pub mod PuttingIn

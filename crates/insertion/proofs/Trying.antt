@@ -4,7 +4,7 @@ use Prim.Native.Nat.{ℕ, suc, ◌+◌, ◌≤◌, ◌<◌}
 use native.Mathlib.Omega.{arith}
 use mathlib.Core.List.{List, [], ◌∷◌, ◌++◌}
 use lib.ListN.{length, get_or, set, take, drop, length-drop, take-append-drop}
-use lib.Seq.{length-take-le, take-length, drop-length, take_at, get_or_at, set_at, drop-append-add}
+use lib.Seq.{length-take-le, drop-length, take_at, get_or_at, set_at, drop-append-add}
 use Rattle.lists.specs.Every.{Every}
 use Rattle.lists.specs.Laws.Every.{every_of, every_at}
 use Rattle.lists.specs.Moved.{without, inserted}
@@ -56,20 +56,21 @@ single [] h = absurd (omega arith)
 single (x ∷ []) h = refl
 single (x ∷ y ∷ l) h = absurd (omega arith)
 
-module _ (route trial : List ℕ) (room : length trial ≡ length route + 1) where
+module _ (route trial copied : List ℕ) (room : length trial ≡ length route + 1) (e : copied ≡ take (length (take (length route) trial)) route) where
   abbrev n : ℕ
   n = length route
 
   abbrev x : ℕ
   x = get_or (drop n trial) 0 0
 
-  laid : route ++ drop n trial ≡ inserted n x route
+  laid : copied ++ drop n trial ≡ inserted n x route
   laid =
-      ap (λ (l : List ℕ). route ++ l) (single (drop n trial) (length-drop n trial ∙ omega arith))
-      ∙ ap (λ (l : List ℕ). l ++ (x ∷ [])) (sym (take-length route)) ∙ ap (λ (l : List ℕ). take n route ++ (x ∷ l)) (sym (drop-length route))
+      let long : length (take n trial) ≡ n = length-take-le n trial (omega arith) in
+      ap (λ (l : List ℕ). l ++ drop n trial) (e ∙ ap (λ (m : ℕ). take m route) long)
+      ∙ ap (λ (l : List ℕ). take n route ++ l) (single (drop n trial) (length-drop n trial ∙ omega arith) ∙ ap (λ (l : List ℕ). x ∷ l) (sym (drop-length route)))
 
-  pub laid_out : Trial route (get_or (route ++ drop n trial) n 0) n (route ++ drop n trial)
-  laid_out = any_stop route x n (route ++ drop n trial) (record { place = omega arith; holds = laid })
+  pub laid_out : Trial route (get_or (copied ++ drop n trial) n 0) n (copied ++ drop n trial)
+  laid_out = any_stop route x n (copied ++ drop n trial) (record { place = omega arith; holds = laid })
 
 -- ---- a round that may be walked
 module _ (s : List ℕ) (t : Terms) (route : List ℕ) (row : ℕ) (ok : Joinable s t route (row ∷ [])) where

@@ -12,7 +12,7 @@ pub fn lay_out(trial: &mut [u16], route: &[u16])
     ensures { Trial route.now (get_or trial.new (length route.now) 0) (length route.now) trial.new }
 {
     let end = route.len();
-    trial[..end].copy_from_slice(route);
+    sorting::copy(route, &mut trial[..end]);
 }
 
 // The stop at `at` goes to place `to` among the others.

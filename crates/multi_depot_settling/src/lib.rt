@@ -82,7 +82,7 @@ pub fn settle(
 {
     let mut any = false;
     'offers: loop {
-        before.copy_from_slice(at);
+        sorting::copy(at, before);
         if !multi_depot_offers::offer(sheet, depots, at, marks) {
             break 'offers;
         }

@@ -9,15 +9,15 @@ use Rattle.constructive.specs.Marks.{Marks}
 use Rattle.multi_depot_offers.specs.ByDepot.{planned_at, after_offers, moved}
 use Rattle.multi_depot_offers.specs.Laws.Settled.{length_offered}
 use Rattle.multi_depot_planning.proofs.Plans.{lent_still}
-use Rattle.multi_depot_settling.proofs.Settling.{begins, falls, goes_on, stays, ends}
+use Rattle.multi_depot_settling.proofs.Settling.{begins, copied, falls, goes_on, stays, ends}
 use Rattle.multi_depot_settling.proofs.settle.Goals as goal
 
 pub offers-init : goal.offers-init
 offers-init c = let p = c.requires in
     (record { marked = refl; fleet_long = refl; stopped = refl; ended = refl; driven = refl }, (begins _ _ p.at_value.0, (p.at_value.1, (p.depots_value.1, λ e. record { stayed = refl; marked = refl; stopped = refl; ended = refl; driven = refl }))))
 
-pub copy_from_slice-requires : goal.copy_from_slice-requires
-copy_from_slice-requires c = let i = c.offers.invariant in i.1.1.1.0 ∙ sym i.1.0.long
+pub copy-requires : goal.copy-requires
+copy-requires c = let i = c.offers.invariant in omega (arith, i.1.1.1.0, i.1.0.long)
 
 pub offer-requires : goal.offer-requires
 offer-requires c = let p = c.requires in
@@ -31,7 +31,7 @@ pub update_changed-requires : goal.update_changed-requires
 update_changed-requires c = let s = c.args.sheet.now in
     let p = c.requires in
     let l = c.offers in
-    let e = c.copy_from_slice.ensures.after in
+    let e = copied l.before l.at (l.invariant.1.1.1.0 ∙ sym l.invariant.1.0.long) c.copy.ensures in
     let o = c.offer.ensures.at_after in
     record {
       planning_tables = lent_still p.planning_tables l.invariant.0 (ap length o ∙ length_offered s l.at ∙ l.invariant.1.0.long);
@@ -56,13 +56,13 @@ offers-preserved c = let i = c.offers.invariant in
       },
       (
         rw o.at_after (goes_on _ _ c.requires.planning_tables.sheet i.1.0 (sym o.value ∙ c.if-not-offer.false)),
-        (w.ensures, (c.copy_from_slice.auto.self ∙ i.1.1.1.0, λ e. absurd (true≢false e))),
+        (w.ensures, (c.copy.auto.to ∙ i.1.1.1.0, λ e. absurd (true≢false e))),
       ),
     )
 
 -- once no stop has moved
 pub shape_of-before : goal.shape_of-before
-shape_of-before c = c.copy_from_slice.auto.self ∙ c.offers.invariant.1.1.1.0 ∙ sym c.requires.depots_value.1
+shape_of-before c = c.copy.auto.to ∙ c.offers.invariant.1.1.1.0 ∙ sym c.requires.depots_value.1
 
 pub shape_of-at : goal.shape_of-at
 shape_of-at c = c.offer.auto.at ∙ c.offers.invariant.1.0.long ∙ sym c.requires.planning_tables.rows
