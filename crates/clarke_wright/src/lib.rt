@@ -12,11 +12,12 @@ ghost use Rattle.clarke_wright_savings.specs.Savings.{clarke_wright};
 use clarke_wright_savings::Savings;
 use clarke_wright_slots::RouteSlots;
 use constructive::tables::Filled;
+use sheet::Sheet;
 
 // The plan by way of tables for so many pairs of members, and for the stops of the rounds. Each size is a function of its own:
 // the large tables' frame is no part of the plans with small ones.
 fn by_tables<const PAIRS: usize, const CELLS: usize>(
-    sheet: &[u8],
+    sheet: &Sheet,
     depot: usize,
     vehicle: u16,
     stops: &mut [u16],
@@ -58,7 +59,7 @@ fn by_tables<const PAIRS: usize, const CELLS: usize>(
 // The members stand in `stops` from where the tables are filled up to `total`; every round is the vehicle's, by its index.
 // Answers how far the tables are filled with the rounds; the stops set aside stand after them, up to `total`.
 pub fn clarke_wright_savings(
-    sheet: &[u8],
+    sheet: &Sheet,
     depot: usize,
     vehicle: u16,
     stops: &mut [u16],
@@ -79,7 +80,7 @@ pub fn clarke_wright_savings(
 
 // The same of at most 24 members, whose tables are a tenth as large: to set up the others takes longer than such a plan.
 pub fn clarke_wright_few(
-    sheet: &[u8],
+    sheet: &Sheet,
     depot: usize,
     vehicle: u16,
     stops: &mut [u16],

@@ -1,11 +1,11 @@
 -- The join of two slots. Assumes nothing.
 use Rattle.std.specs.Prelude.{Some, None}
 use mathlib.Core.Path.{◌≡◌, refl, sym, ap, ◌∙◌, subst}
-use Prim.Native.Nat.{ℕ, zero, suc, ◌+◌, ◌*◌, ◌-◌, ◌≤◌, ◌<◌, zero-le}
+use Prim.Native.Nat.{ℕ, zero, suc, ◌+◌, ◌*◌, ◌≤◌, ◌<◌, zero-le}
 use native.Mathlib.Omega.{arith}
 use mathlib.Core.Bool.{Bool, true, false}
 use mathlib.Core.List.{List, [], ◌∷◌}
-use lib.ListN.{length, get_or, take, drop}
+use lib.ListN.{length, get_or}
 use Rattle.lists.specs.Every.{Every}
 use Rattle.lists.specs.Laws.Every.{every_at}
 use Rattle.sheet.specs.Fields.{rows_of}
@@ -46,33 +46,22 @@ only_apart false = refl
 pub apart_stays : (s : List ℕ) (t : Terms) (routes : List (List ℕ)) → passing s t routes apart ≡ apart
 apart_stays s t routes = only_apart (merge_passes s t routes apart)
 
--- ---- the stops of a slot, as the code reads them
-abbrev pub cut : List ℕ → List ℕ → ℕ → List ℕ
-cut cells lens k = take (101 * k + get_or lens k 0 - 101 * k) (drop (101 * k) cells)
-
-cut_slot : (cells lens : List ℕ) (k : ℕ) → cut cells lens k ≡ slot_at cells lens k
-cut_slot cells lens k =
-    let m : 101 * k + get_or lens k 0 - 101 * k ≡ get_or lens k 0 = omega arith in
-    let e : 101 * k ≡ k * 101 = omega arith in
-    ap (λ (n : ℕ). take n (drop (101 * k) cells)) m ∙ ap (λ (n : ℕ). take (get_or lens k 0) (drop n cells)) e
-
--- what the code's sums and reads ask of two slots
+-- what the reads of two slots ask
 pub record Fitting (cells lens loads : List ℕ) (into from : ℕ) : Type 0 where
   pub into_in : into < 101
   pub from_in : from < 101
-  pub measured : 101 ≤ length lens
   pub into_celled : into * 101 + 101 ≤ length cells
   pub from_celled : from * 101 + 101 ≤ length cells
   pub loaded : 101 ≤ length loads
   pub into_long : get_or lens into 0 ≤ 101
   pub from_long : get_or lens from 0 ≤ 101
 
-module _ (s : List ℕ) (n : ℕ) (cells lens loads slots : List ℕ) (g : Slotted s n cells lens loads slots) where
+module _ {s : List ℕ} {n : ℕ} {cells lens loads slots : List ℕ} (g : Slotted s n cells lens loads slots) where
   abbrev routes : List (List ℕ)
   routes = slots_in n cells lens
 
-  pub cut_route : (k : ℕ) → k < n → cut cells lens k ≡ route_at routes k
-  cut_route k h = cut_slot cells lens k ∙ sym (slots_at n cells lens k h)
+  pub slot_route : (k : ℕ) → k < n → slot_at cells lens k ≡ route_at routes k
+  slot_route k h = sym (slots_at n cells lens k h)
 
   rows_at : (k : ℕ) → k < n → Every (λ (i : ℕ). i < rows_of s) (route_at routes k)
   rows_at k h = every_at (Every (λ (i : ℕ). i < rows_of s)) [] routes k (omega (arith, h, length_slots n cells lens)) g.routes.rows
@@ -91,7 +80,6 @@ module _ (s : List ℕ) (n : ℕ) (cells lens loads slots : List ℕ) (g : Slott
   fit a b p q = record {
     into_in = omega (arith, p, g.room.most);
     from_in = omega (arith, q, g.room.most);
-    measured = g.room.measured;
     into_celled = omega (arith, p, g.room.celled);
     from_celled = omega (arith, q, g.room.celled);
     loaded = g.room.loaded;
@@ -100,7 +88,7 @@ module _ (s : List ℕ) (n : ℕ) (cells lens loads slots : List ℕ) (g : Slott
   }
 
   -- ---- a way that joins two slots
-  module _ (way : Way) (into from : ℕ) (back forth : Bool) (y : WaySlots routes way) (w : way ≡ Some (into, from, back, forth)) where
+  module _ {way : Way} {into from : ℕ} {back forth : Bool} (y : WaySlots routes way) (w : way ≡ Some (into, from, back, forth)) where
     two : Slots routes into from
     two = subst (WaySlots routes) w y
 
@@ -113,22 +101,22 @@ module _ (s : List ℕ) (n : ℕ) (cells lens loads slots : List ℕ) (g : Slott
     pub fitting : Fitting cells lens loads into from
     fitting = fit into from into_in from_in
 
-    pub few_stops : length (cut cells lens into) + length (cut cells lens from) ≤ 101
-    few_stops = rw (cut_route into into_in, cut_route from from_in) (stops_fit into from two.differ)
+    pub few_stops : length (slot_at cells lens into) + length (slot_at cells lens from) ≤ 101
+    few_stops = rw (slot_route into into_in, slot_route from from_in) (stops_fit into from two.differ)
 
     -- the rounds joined
-    module _ (t : Terms) (home : t.depot < rows_of s) (stops : List ℕ) (e : stops ≡ end_to_end back forth (cut cells lens into) (cut cells lens from)) where
+    module _ (t : Terms) (home : t.depot < rows_of s) (stops : List ℕ) (e : stops ≡ end_to_end back forth (slot_at cells lens into) (slot_at cells lens from)) where
       joined_stops : stops ≡ end_to_end back forth (route_at routes into) (route_at routes from)
       joined_stops =
           e
-          ∙ ap (λ (r : List ℕ). end_to_end back forth r (cut cells lens from)) (cut_route into into_in)
-          ∙ ap (λ (r : List ℕ). end_to_end back forth (route_at routes into) r) (cut_route from from_in)
+          ∙ ap (λ (r : List ℕ). end_to_end back forth r (slot_at cells lens from)) (slot_route into into_in)
+          ∙ ap (λ (r : List ℕ). end_to_end back forth (route_at routes into) r) (slot_route from from_in)
 
       same_stops : JoinedStops s (λ (i : ℕ). i < rows_of s) (route_at routes into) (route_at routes from) stops
       same_stops = rw joined_stops (turned_stops s (λ (i : ℕ). i < rows_of s) back forth (route_at routes into) (route_at routes from))
 
       stops_few : length stops ≤ 101
-      stops_few = omega (arith, ap length e, (turned_stops s (λ (i : ℕ). Unit) back forth (cut cells lens into) (cut cells lens from)).long, few_stops)
+      stops_few = omega (arith, ap length e, (turned_stops s (λ (i : ℕ). Unit) back forth (slot_at cells lens into) (slot_at cells lens from)).long, few_stops)
 
       routed_of : (route : List ℕ) → length route ≤ 101 → Every (λ (i : ℕ). i < rows_of s) route → Routed s t.depot route
       routed_of route l r = record {
@@ -139,11 +127,11 @@ module _ (s : List ℕ) (n : ℕ) (cells lens loads slots : List ℕ) (g : Slott
       }
 
       -- what the checks ask
-      pub all_routed : Routed s t.depot (cut cells lens into) × (Routed s t.depot (cut cells lens from) × Routed s t.depot stops)
+      pub all_routed : Routed s t.depot (slot_at cells lens into) × (Routed s t.depot (slot_at cells lens from) × Routed s t.depot stops)
       all_routed = (
-        routed_of (cut cells lens into) (omega (arith, few_stops)) (rw (cut_route into into_in) (rows_at into into_in)),
+        routed_of (slot_at cells lens into) (omega (arith, few_stops)) (rw (slot_route into into_in) (rows_at into into_in)),
         (
-          routed_of (cut cells lens from) (omega (arith, few_stops)) (rw (cut_route from from_in) (rows_at from from_in)),
+          routed_of (slot_at cells lens from) (omega (arith, few_stops)) (rw (slot_route from from_in) (rows_at from from_in)),
           routed_of stops stops_few (same_stops.every (rows_at into into_in) (rows_at from from_in)),
         ),
       )
@@ -162,15 +150,15 @@ module _ (s : List ℕ) (n : ℕ) (cells lens loads slots : List ℕ) (g : Slott
       takes_over = (roomy_within (omega (arith, into_in)) g.room, (roomy_within (omega (arith, from_in)) g.room, (stops_few, (fitting.from_long, (from_row, load_fits)))))
 
       -- ---- whether it passes
-      module _ (passed : Bool) (v : passed ≡ joined_passes s t (cut cells lens into) (cut cells lens from) stops) where
+      module _ (passed : Bool) (v : passed ≡ joined_passes s t (slot_at cells lens into) (slot_at cells lens from) stops) where
         passing_so : passing s t routes (meant routes way) ≡ only_if passed (joined into from stops)
         unfolding merge_passes
         passing_so =
             ap (λ (x : Way). passing s t routes (meant routes x)) w
             ∙ ap (λ (r : List ℕ). passing s t routes (joined into from r)) (sym joined_stops)
             ∙ ap (λ (x : Bool). only_if x (joined into from stops))
-            (ap (λ (r : List ℕ). joined_passes s t r (route_at routes from) stops) (sym (cut_route into into_in))
-            ∙ ap (λ (r : List ℕ). joined_passes s t (cut cells lens into) r stops) (sym (cut_route from from_in))
+            (ap (λ (r : List ℕ). joined_passes s t r (route_at routes from) stops) (sym (slot_route into into_in))
+            ∙ ap (λ (r : List ℕ). joined_passes s t (slot_at cells lens into) r stops) (sym (slot_route from from_in))
             ∙ sym v)
 
         pub not_passed : passed ≡ false → routes ≡ after_merge routes (passing s t routes (meant routes way))

@@ -10,6 +10,7 @@ ghost use Rattle.clarke_wright_joining.specs.Ways.{meant, way_of, WaySlots};
 
 use clarke_wright_slots::RouteSlots;
 use constructive::terms::Terms;
+use sheet::Sheet;
 
 // Two rounds stay apart, or the first slot takes the stops of the second; then whether its own are reversed, and whether those
 // that it takes are.
@@ -64,7 +65,7 @@ pub fn way_between(
 }
 
 // With a soft window: whether two rounds joined cost no less than the two apart and the vehicle that joining saves.
-fn is_too_dear(sheet: &[u8], terms: Terms, into: &[u16], from: &[u16], stops: &[u16]) -> bool
+fn is_too_dear(sheet: &Sheet, terms: Terms, into: &[u16], from: &[u16], stops: &[u16]) -> bool
     requires routed { Routed sheet.now terms.depot into.now }
     requires routed_2 { Routed sheet.now terms.depot from.now }
     requires routed_3 { Routed sheet.now terms.depot stops.now }
@@ -78,8 +79,8 @@ fn is_too_dear(sheet: &[u8], terms: Terms, into: &[u16], from: &[u16], stops: &[
     apart + terms.fixed <= evaluation::effective_cost(sheet, stops, terms.depot, terms.limits)
 }
 
-// Whether two rounds may be joined so.
-fn is_passed(sheet: &[u8], terms: Terms, into: &[u16], from: &[u16], stops: &[u16]) -> bool
+// Whether two rounds may be joined so. Not by `Terms::fits`: both questions are asked only where rounds are checked.
+fn is_passed(sheet: &Sheet, terms: Terms, into: &[u16], from: &[u16], stops: &[u16]) -> bool
     requires routed { Routed sheet.now terms.depot into.now }
     requires routed_2 { Routed sheet.now terms.depot from.now }
     requires routed_3 { Routed sheet.now terms.depot stops.now }
@@ -94,7 +95,7 @@ fn is_passed(sheet: &[u8], terms: Terms, into: &[u16], from: &[u16], stops: &[u1
 
 // Joins two slots this way, where that passes.
 pub fn merge_by<const CELLS: usize>(
-    sheet: &[u8],
+    sheet: &Sheet,
     terms: Terms,
     count: usize,
     way: Way,
@@ -111,19 +112,10 @@ pub fn merge_by<const CELLS: usize>(
     let Some((into, from, back, forth)) = way else {
         return;
     };
-    let at = sheet::MOST_ROWS * into;
-    let end = at + slots.lens[into] as usize;
-    let start = sheet::MOST_ROWS * from;
-    let stop = start + slots.lens[from] as usize;
-    let cells = &slots.cells[..];
-    let n = clarke_wright_slots::join(&cells[at..end], &cells[start..stop], back, forth, trial);
-    if !is_passed(
-        sheet,
-        terms,
-        &cells[at..end],
-        &cells[start..stop],
-        &trial[..n],
-    ) {
+    let ri = slots.route(into);
+    let rj = slots.route(from);
+    let n = clarke_wright_slots::join(ri, rj, back, forth, trial);
+    if !is_passed(sheet, terms, ri, rj, &trial[..n]) {
         return;
     }
     slots.take_over(into, from, &trial[..n]);

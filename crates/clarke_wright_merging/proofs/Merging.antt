@@ -16,12 +16,12 @@ use Rattle.constructive.specs.Load.{load_of}
 use Rattle.clarke_wright_savings.specs.declared.terms.Directed.{Directed}
 use Rattle.clarke_wright_savings.specs.Savings.{route_at, slot_of, first_is, last_is, Merge, apart, joining, only_if, may_join, passing, merge_of, after_merge}
 use Rattle.clarke_wright_savings.specs.Routes.{Slots}
-use Rattle.clarke_wright_slots.specs.Slots.{slots_in, Slotted}
+use Rattle.clarke_wright_slots.specs.Slots.{slot_at as slot_stops, slots_in, Slotted}
 use Rattle.clarke_wright_slots.specs.Laws.Slots.{length_slots, slots_past}
 use Rattle.clarke_wright_joining.specs.Way.{Way}
 use Rattle.clarke_wright_joining.specs.Ways.{meant, way_of, WaySlots}
 use Rattle.clarke_wright_joining.proofs.Ways.{joining_meant, way_slots}
-use Rattle.clarke_wright_joining.proofs.Joining.{only_apart, apart_stays, cut, Fitting, cut_route, loads_fit, fit}
+use Rattle.clarke_wright_joining.proofs.Joining.{only_apart, apart_stays, Fitting, slot_route, loads_fit, fit}
 use Rattle.clarke_wright_merging.specs.Legs.{Legs, merged_in}
 
 -- ---- the slot of a row
@@ -104,12 +104,12 @@ module _ (s : List ℕ) (t : Directed) (routes : List (List ℕ)) (i j : ℕ) wh
       may_be (rw (ne_eqb a b n, le-leb (load_of s ri + load_of s rj) t.common.capacity h))
       ∙ ap (passing s t.common routes) (joining_meant routes a b t.directed i j)
 
-module _ (s : List ℕ) (n : ℕ) (cells lens loads slots : List ℕ) (g : Slotted s n cells lens loads slots) where
+module _ {s : List ℕ} {n : ℕ} {cells lens loads slots : List ℕ} (g : Slotted s n cells lens loads slots) where
   abbrev routes : List (List ℕ)
   routes = slots_in n cells lens
 
   -- ---- the slots of two rows
-  module _ (t : Directed) (i j : ℕ) (hi : i < rows_of s) (hj : j < rows_of s) where
+  module _ (t : Directed) {i j : ℕ} (hi : i < rows_of s) (hj : j < rows_of s) where
     abbrev at : ℕ → ℕ
     at x = get_or slots x 0
 
@@ -143,24 +143,24 @@ module _ (s : List ℕ) (n : ℕ) (cells lens loads slots : List ℕ) (g : Slott
       below_j = slot_in j hj q
 
       pub two_fit : Fitting cells lens loads (at i) (at j)
-      two_fit = fit s n cells lens loads slots g (at i) (at j) below_i below_j
+      two_fit = fit g (at i) (at j) below_i below_j
 
       two_slots : Slots routes (at i) (at j)
       two_slots = record { differ = differ; into = omega (arith, below_i, length_slots n cells lens); from = omega (arith, below_j, length_slots n cells lens) }
 
-      some_at : (x : ℕ) → x < rows_of s → (at x ≡ n → ⊥) → 0 < length (cut cells lens (at x))
+      some_at : (x : ℕ) → x < rows_of s → (at x ≡ n → ⊥) → 0 < length (slot_stops cells lens (at x))
       some_at x h p =
           let below = slot_in x h p in
-          rw (cut_route s n cells lens loads slots g (at x) below, slot_at x h) (slot_some x routes (omega (arith, below, slot_at x h, length_slots n cells lens)))
+          rw (slot_route g (at x) below, slot_at x h) (slot_some x routes (omega (arith, below, slot_at x h, length_slots n cells lens)))
 
-      pub both_some : (0 < length (cut cells lens (at i))) × (0 < length (cut cells lens (at j)))
+      pub both_some : (0 < length (slot_stops cells lens (at i))) × (0 < length (slot_stops cells lens (at j)))
       both_some = (some_at i hi p, some_at j hj q)
 
       load_at : (x : ℕ) → x < rows_of s → (at x ≡ n → ⊥) → get_or loads (at x) 0 ≡ load_of s (route_at routes (slot_of x routes))
       load_at x h p = g.load (at x) (slot_in x h p) ∙ ap (λ (k : ℕ). load_of s (route_at routes k)) (slot_at x h)
 
       pub load_sum : get_or loads (at i) 0 + get_or loads (at j) 0 < 0x1_0000_0000
-      load_sum = loads_fit s n cells lens loads slots g (at i) (at j) differ below_i below_j
+      load_sum = loads_fit g (at i) (at j) differ below_i below_j
 
       pub too_much : t.common.capacity < get_or loads (at i) 0 + get_or loads (at j) 0 → routes ≡ after_merge routes (merge_of s t routes i j)
       too_much h = stays (over_apart s t routes i j (omega (arith, h, load_at i hi p, load_at j hj q)))
@@ -169,17 +169,17 @@ module _ (s : List ℕ) (n : ℕ) (cells lens loads slots : List ℕ) (g : Slott
       abbrev way_at : List ℕ → List ℕ → ℕ → ℕ → Way
       way_at ri rj a b = way_of t.directed (first_is i ri) (last_is i ri) (first_is j rj) (last_is j rj) a b
 
-      module _ (way : Way) (e : way ≡ way_at (cut cells lens (at i)) (cut cells lens (at j)) (at i) (at j)) where
+      module _ (way : Way) (e : way ≡ way_at (slot_stops cells lens (at i)) (slot_stops cells lens (at j)) (at i) (at j)) where
         pub ways : WaySlots routes way
         ways =
             rw e
-            (way_slots routes (at i) (at j) t.directed (first_is i (cut cells lens (at i))) (last_is i (cut cells lens (at i))) (first_is j (cut cells lens (at j))) (last_is j (cut cells lens (at j))) two_slots)
+            (way_slots routes (at i) (at j) t.directed (first_is i (slot_stops cells lens (at i))) (last_is i (slot_stops cells lens (at i))) (first_is j (slot_stops cells lens (at j))) (last_is j (slot_stops cells lens (at j))) two_slots)
 
         found : way ≡ way_at (route_at routes (slot_of i routes)) (route_at routes (slot_of j routes)) (slot_of i routes) (slot_of j routes)
         found =
             e
-            ∙ ap (λ (r : List ℕ). way_at r (cut cells lens (at j)) (at i) (at j)) (cut_route s n cells lens loads slots g (at i) below_i)
-            ∙ ap (λ (r : List ℕ). way_at (route_at routes (at i)) r (at i) (at j)) (cut_route s n cells lens loads slots g (at j) below_j)
+            ∙ ap (λ (r : List ℕ). way_at r (slot_stops cells lens (at j)) (at i) (at j)) (slot_route g (at i) below_i)
+            ∙ ap (λ (r : List ℕ). way_at (route_at routes (at i)) r (at i) (at j)) (slot_route g (at j) below_j)
             ∙ ap (λ (k : ℕ). way_at (route_at routes k) (route_at routes (at j)) k (at j)) (slot_at i hi)
             ∙ ap (λ (k : ℕ). way_at (route_at routes (slot_of i routes)) (route_at routes k) (slot_of i routes) k) (slot_at j hj)
 

@@ -10,10 +10,11 @@ ghost use Rattle.clarke_wright_merging.specs.Legs.{Legs, merged_in};
 use clarke_wright_savings::Savings;
 use clarke_wright_savings::terms::Directed;
 use clarke_wright_slots::RouteSlots;
+use sheet::Sheet;
 
 // What the saving of the leg from a stop to another makes of the rounds.
 fn merge<const CELLS: usize>(
-    sheet: &[u8],
+    sheet: &Sheet,
     terms: Directed,
     count: usize,
     i: u16,
@@ -30,36 +31,21 @@ fn merge<const CELLS: usize>(
 {
     let a = slots.slots[i as usize] as usize;
     let b = slots.slots[j as usize] as usize;
-    if a == b {
+    if a == b
+        || a == count
+        || b == count
+        || terms.common.capacity < slots.loads[a] + slots.loads[b]
+    {
         return;
     }
-    if a == count {
-        return;
-    }
-    if b == count {
-        return;
-    }
-    if terms.common.capacity < slots.loads[a] + slots.loads[b] {
-        return;
-    }
-    let ai = sheet::MOST_ROWS * a;
-    let bj = sheet::MOST_ROWS * b;
-    let cells = &slots.cells[..];
-    let way = clarke_wright_joining::way_between(
-        terms.directed,
-        i,
-        j,
-        a,
-        b,
-        &cells[ai..ai + slots.lens[a] as usize],
-        &cells[bj..bj + slots.lens[b] as usize],
-    );
+    let (ri, rj) = (slots.route(a), slots.route(b));
+    let way = clarke_wright_joining::way_between(terms.directed, i, j, a, b, ri, rj);
     clarke_wright_joining::merge_by(sheet, terms.common, count, way, slots, trial);
 }
 
 // The first n savings at the places in `entries`, one after another.
 pub fn merge_all<const PAIRS: usize, const CELLS: usize>(
-    sheet: &[u8],
+    sheet: &Sheet,
     terms: Directed,
     count: usize,
     savings: &Savings<PAIRS>,

@@ -14,10 +14,11 @@ use clarke_wright_savings::terms::Directed;
 use clarke_wright_savings::{Savings, terms};
 use clarke_wright_slots::RouteSlots;
 use constructive::tables::Filled;
+use sheet::Sheet;
 
 // The members' rounds in the slots, once no saving is left; answers how many stops are set aside.
 fn merge_members<const PAIRS: usize, const CELLS: usize>(
-    sheet: &[u8],
+    sheet: &Sheet,
     terms: Directed,
     members: &[u16],
     savings: &mut Savings<PAIRS>,
@@ -44,7 +45,7 @@ fn merge_members<const PAIRS: usize, const CELLS: usize>(
 
 // The rounds by way of tables that are lent.
 pub fn plan_by<const PAIRS: usize, const CELLS: usize>(
-    sheet: &[u8],
+    sheet: &Sheet,
     depot: usize,
     vehicle: u16,
     stops: &mut [u16],

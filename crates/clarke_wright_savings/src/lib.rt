@@ -3,16 +3,17 @@
 
 pub mod terms;
 
-ghost use Rattle.std.specs.Prelude.{◌≡◌, [], ◌∷◌, ◌+◌, ◌*◌, ◌≤◌, ◌<◌, length, take};
-ghost use Rattle.sheet.specs.Accepted.{Accepted};
-ghost use Rattle.sheet.specs.Fields.{rows_of, tables_at};
+ghost use Rattle.std.specs.Prelude.{◌≡◌, [], ◌∷◌, ◌+◌, ◌*◌, ◌≤◌, ◌<◌, length, take, replicate};
+ghost use Rattle.std.specs.Float.{binary64};
+ghost use Rattle.std.specs.Float.Ieee.{of_bits};
+ghost use Rattle.sheet.specs.Fields.{rows_of};
 ghost use Rattle.sheet.specs.Values.{distance_of};
 ghost use Rattle.evaluation.specs.Routed.{Routed};
 ghost use Rattle.clarke_wright_savings.specs.Savings.{paired, value_of, savings_from, savings_of, ranked};
 ghost use Rattle.clarke_wright_savings.specs.Listed.{SavingsPushed, Listed};
 
 use constructive::terms::Terms;
-use sheet::matrix;
+use sheet::Sheet;
 use terms::Directed;
 
 // The savings: from where, to where, what each saves, and the places in which they are tried.
@@ -31,39 +32,23 @@ fn is_paired(directed: bool, from: u16, to: u16) -> bool
     to != from && (directed || !(to < from))
 }
 
-// The distance of a leg, by where the distances start and how many rows they have.
-fn leg_of(sheet: &[u8], tables: usize, rows: usize, from: usize, to: usize) -> f64
-    requires accepted { Accepted sheet.now }
-    requires tables_value { (tables ≡ tables_at sheet.now) × (rows ≡ rows_of sheet.now) }
-    requires from_lt_rows { (from < rows) × (to < rows) }
-    ensures { result ≡ distance_of sheet.now from to }
-{
-    wire::f64_at(sheet, tables + 8 * (from * rows + to))
-}
-
 // What the leg between two members saves; the leg home is known.
-fn value_of(
-    sheet: &[u8],
-    terms: Terms,
-    tables: usize,
-    rows: usize,
-    home: f64,
-    from: u16,
-    to: u16,
-) -> f64
-    requires accepted { Accepted sheet.now }
-    requires tables_value { (tables ≡ tables_at sheet.now) × (rows ≡ rows_of sheet.now) }
-    requires depot_lt_rows { (terms.depot < rows) × (from < rows) × (to < rows) }
+fn value_of(sheet: &Sheet, terms: Terms, home: f64, from: u16, to: u16) -> f64
+    requires depot_bound { (terms.depot < rows_of sheet.now) × (from < rows_of sheet.now) × (to < rows_of sheet.now) }
     requires home_value { home ≡ distance_of sheet.now from terms.depot }
     ensures { result ≡ value_of sheet.now terms from to }
 {
-    let out = leg_of(sheet, tables, rows, terms.depot, to as usize);
-    let leg = leg_of(sheet, tables, rows, from as usize, to as usize);
+    let out = sheet.distance(terms.depot, to as usize);
+    let leg = sheet.distance(from as usize, to as usize);
     home + out - leg + terms.fixed
 }
 
 impl<const N: usize> Savings<N> {
-    pub fn new() -> Self {
+    // Room for N savings, and none yet.
+    pub fn new() -> Self
+        ensures places { (result.from ≡ replicate N 0) × (result.to ≡ replicate N 0) × (result.entries ≡ replicate N 0) }
+        ensures values { result.values ≡ replicate N (of_bits binary64 0) }
+    {
         Savings {
             from: [0; N],
             to: [0; N],
@@ -87,7 +72,7 @@ impl<const N: usize> Savings<N> {
     // Adds the savings of the legs from a member behind the others; answers how many there are then.
     fn push_from(
         &mut self,
-        sheet: &[u8],
+        sheet: &Sheet,
         terms: Directed,
         start: u16,
         members: &[u16],
@@ -100,15 +85,13 @@ impl<const N: usize> Savings<N> {
         ensures value { result ≡ at + length (savings_from sheet.now terms start members.now) }
         ensures savings_pushed { SavingsPushed self.old.from self.old.to self.old.values self.old.entries at (savings_from sheet.now terms start members.now) self.new.from self.new.to self.new.values self.new.entries }
     {
-        let tables = matrix::tables(sheet);
-        let rows = sheet::rows(sheet);
-        let home = leg_of(sheet, tables, rows, start as usize, terms.common.depot);
+        let home = sheet.distance(start as usize, terms.common.depot);
         let mut end = at;
         for &other in members {
             if !is_paired(terms.directed, start, other) {
                 continue;
             }
-            let value = value_of(sheet, terms.common, tables, rows, home, start, other);
+            let value = value_of(sheet, terms.common, home, start, other);
             if !(0.0 < value) {
                 continue;
             }
@@ -119,7 +102,7 @@ impl<const N: usize> Savings<N> {
     }
 
     // The savings of all legs between members; answers how many.
-    fn push_all(&mut self, sheet: &[u8], terms: Directed, members: &[u16]) -> usize
+    fn push_all(&mut self, sheet: &Sheet, terms: Directed, members: &[u16]) -> usize
         requires routed { Routed sheet.now terms.common.depot members.now }
         requires members_in_bounds { length members.now * length members.now ≤ N }
         ensures value { result ≡ length (savings_of sheet.now terms members.now members.now) }
@@ -135,7 +118,7 @@ impl<const N: usize> Savings<N> {
     // The savings, and in `entries` their places, greatest first; answers how many.
     pub fn rank(
         &mut self,
-        sheet: &[u8],
+        sheet: &Sheet,
         terms: Directed,
         members: &[u16],
         scratch: &mut [u16],

@@ -6,7 +6,7 @@ ghost use Rattle.clarke_wright_savings.specs.Savings.{same_back, symmetric, dire
 
 use constructive::terms;
 use constructive::terms::Terms;
-use sheet::matrix;
+use sheet::Sheet;
 
 // The terms of a constructor with one vehicle, and whether legs have a direction.
 #[derive(Clone, Copy)]
@@ -16,13 +16,13 @@ pub struct Directed {
 }
 
 // Whether each leg from a row is as long as the way back.
-fn same_back(sheet: &[u8], row: usize, others: &[u16]) -> bool
+fn same_back(sheet: &Sheet, row: usize, others: &[u16]) -> bool
     requires { Routed sheet.now row others.now }
     ensures { result ≡ same_back sheet.now row others.now }
 {
     for &other in others {
-        let there = matrix::distance(sheet, row, other as usize);
-        if there != matrix::distance(sheet, other as usize, row) {
+        let there = sheet.distance(row, other as usize);
+        if there != sheet.distance(other as usize, row) {
             return false;
         }
     }
@@ -30,7 +30,7 @@ fn same_back(sheet: &[u8], row: usize, others: &[u16]) -> bool
 }
 
 // Whether the distances among the depot and its members are symmetric.
-fn symmetric_among(sheet: &[u8], depot: usize, members: &[u16]) -> bool
+fn symmetric_among(sheet: &Sheet, depot: usize, members: &[u16]) -> bool
     requires { Routed sheet.now depot members.now }
     ensures { result ≡ symmetric sheet.now (depot ∷ members.now) }
 {
@@ -46,7 +46,7 @@ fn symmetric_among(sheet: &[u8], depot: usize, members: &[u16]) -> bool
 }
 
 // The terms of a depot with its members, all of whose rounds a vehicle makes.
-pub fn directed_of(sheet: &[u8], depot: usize, index: u16, members: &[u16]) -> Directed
+pub fn directed_of(sheet: &Sheet, depot: usize, index: u16, members: &[u16]) -> Directed
     requires routed { Routed sheet.now depot members.now }
     requires index_bound { index < vehicles_of sheet.now }
     ensures { result ≡ directed_of sheet.now depot index members.now }

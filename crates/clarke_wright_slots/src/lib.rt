@@ -76,6 +76,17 @@ impl<const CELLS: usize> RouteSlots<CELLS> {
         }
     }
 
+    // The stops of slot k.
+    pub fn route(&self, k: usize) -> &[u16]
+        requires celled { (k < most_rows) × (k * most_rows + most_rows ≤ length self.now.cells) }
+        requires long { get_or self.now.lens k 0 ≤ most_rows }
+        ensures { result.now ≡ slot_at self.now.cells self.now.lens k }
+    {
+        let at = k * sheet::MOST_ROWS;
+        let cells = &self.cells[..];
+        &cells[at..at + self.lens[k] as usize]
+    }
+
     // Empties slot `from` into slot `into`, which then has these stops.
     pub fn take_over(&mut self, into: usize, from: usize, stops: &[u16])
         requires roomy { Roomy (into + 1) self.old.cells self.old.lens self.old.loads self.old.slots }

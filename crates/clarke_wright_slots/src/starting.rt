@@ -1,41 +1,37 @@
 // Each stop starts on a round of its own, or is set aside.
 ghost use Rattle.std.specs.Prelude.{◌≡◌, ℕ, ◌+◌, ◌≤◌, ◌<◌, length, replicate, take};
 ghost use Rattle.lists.specs.Count.{count};
-ghost use Rattle.sheet.specs.Accepted.{Accepted};
 ghost use Rattle.sheet.specs.Fields.{rows_of, most_rows};
 ghost use Rattle.evaluation.specs.Routed.{Routed};
-ghost use Rattle.clarke_wright_savings.specs.Savings.{starts_alone, starts_of, aside_of};
+ghost use Rattle.clarke_wright_savings.specs.Savings.{starts_of, aside_of};
 ghost use Rattle.clarke_wright_slots.specs.Slots.{slots_in, Roomy, Slotted, RouteStarted};
 
 use crate::RouteSlots;
 use constructive::terms::Terms;
-use sheet::customer;
-
-// Whether a stop may make a round alone; its load is not asked.
-fn starts_alone(sheet: &[u8], terms: Terms, row: u16) -> bool
-    requires accepted { Accepted sheet.now }
-    requires depot_bound { (terms.depot < rows_of sheet.now) × (row < rows_of sheet.now) }
-    ensures { result ≡ starts_alone sheet.now terms row }
-{
-    !terms.constrained || evaluation::route_feasible(sheet, &[row], terms.depot, terms.limits)
-}
+use sheet::Sheet;
 
 impl<const CELLS: usize> RouteSlots<CELLS> {
     // A slot with one stop.
-    fn start_route(&mut self, sheet: &[u8], row: u16, slot: usize)
-        requires accepted { Accepted sheet.now }
+    fn start_route(&mut self, sheet: &Sheet, row: u16, slot: usize)
         requires row_bound { row < rows_of sheet.now }
         requires roomy { Roomy (slot + 1) self.old.cells self.old.lens self.old.loads self.old.slots }
         ensures { RouteStarted sheet.now row slot self.old.cells self.old.lens self.old.loads self.old.slots self.new.cells self.new.lens self.new.loads self.new.slots }
     {
+        sheet.accepted();
         self.cells[sheet::MOST_ROWS * slot] = row;
         self.lens[slot] = 1;
-        self.loads[slot] = customer::demand(sheet, row as usize);
+        self.loads[slot] = sheet.demand(row as usize);
         self.slots[row as usize] = slot as u16;
     }
 
     // A slot for each member, in order; the stops that no round can take stand in `aside`. Answers how many those are.
-    pub fn start(&mut self, sheet: &[u8], terms: Terms, members: &[u16], aside: &mut [u16]) -> usize
+    pub fn start(
+        &mut self,
+        sheet: &Sheet,
+        terms: Terms,
+        members: &[u16],
+        aside: &mut [u16],
+    ) -> usize
         requires routed { Routed sheet.now terms.depot members.now }
         requires by_index { (x : ℕ) → count x members.now ≤ 1 }
         requires roomy { Roomy (length members.now) self.old.cells self.old.lens self.old.loads self.old.slots }
@@ -49,7 +45,7 @@ impl<const CELLS: usize> RouteSlots<CELLS> {
         self.slots.fill(members.len() as u16);
         let mut end: usize = 0;
         for (k, &row) in members.iter().enumerate() {
-            if starts_alone(sheet, terms, row) {
+            if terms.fits(sheet, &[row]) {
                 self.start_route(sheet, row, k);
                 continue;
             }

@@ -3,16 +3,16 @@ ghost use Rattle.std.specs.Prelude.{◌≡◌, ℕ};
 ghost use Rattle.evaluation.specs.Routed.{Routed};
 ghost use Rattle.constructive.specs.Load.{load_of};
 
-use sheet::customer;
+use sheet::Sheet;
 
 // What its stops ask of a vehicle.
-pub fn load_of(sheet: &[u8], route: &[u16]) -> u32
+pub fn load_of(sheet: &Sheet, route: &[u16]) -> u32
     requires { (depot : ℕ) × Routed sheet.now depot route.now }
     ensures { result ≡ load_of sheet.now route.now }
 {
     let mut load: u32 = 0;
     for &stop in route {
-        load += customer::demand(sheet, stop as usize);
+        load += sheet.demand(stop as usize);
     }
     load
 }

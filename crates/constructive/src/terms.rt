@@ -4,11 +4,11 @@ ghost use Rattle.sheet.specs.Fields.{vehicles_of};
 ghost use Rattle.evaluation.specs.Checks.{has_soft_windows};
 ghost use Rattle.evaluation.specs.Limits.{limits_at};
 ghost use Rattle.evaluation.specs.Routed.{Routed};
-ghost use Rattle.constructive.specs.Terms.{terms_of};
+ghost use Rattle.constructive.specs.Terms.{terms_of, route_fits};
 
 use evaluation::limits::RouteLimits;
 use evaluation::{checks, limits};
-use sheet::vehicle;
+use sheet::{Sheet, vehicle};
 
 // The vehicle by its index; whether rounds are checked, and by the soft rules; the vehicle's capacity, its fixed cost in
 // distance and its limits.
@@ -23,8 +23,20 @@ pub struct Terms {
     pub limits: RouteLimits,
 }
 
+impl Terms {
+    // Whether a round may stand, but for its load. It is walked only where rounds are checked. Inlined, as `route_feasible` is.
+    #[inline(always)]
+    #[tactic(auto, unfolding(crate::specs::Terms::route_fits))]
+    pub fn fits(self, sheet: &Sheet, route: &[u16]) -> bool
+        requires { Routed sheet.now self.depot route.now }
+        ensures { result ≡ route_fits sheet.now self route.now }
+    {
+        !self.constrained || evaluation::route_feasible(sheet, route, self.depot, self.limits)
+    }
+}
+
 // Whether the soft rules hold. A depot whose rounds are not checked has no window at all, so its rows are not read again.
-fn soft_rules(sheet: &[u8], depot: usize, members: &[u16], constrained: bool) -> bool
+fn soft_rules(sheet: &Sheet, depot: usize, members: &[u16], constrained: bool) -> bool
     requires routed { Routed sheet.now depot members.now }
     requires members_value { constrained ≡ false → has_soft_windows sheet.now depot members.now ≡ false }
     ensures { result ≡ has_soft_windows sheet.now depot members.now }
@@ -38,7 +50,7 @@ fn soft_rules(sheet: &[u8], depot: usize, members: &[u16], constrained: bool) ->
 // The terms of a depot with its members, and limits that are read already. Without their reading this is small enough to be
 // inlined, and the terms need not lie in memory.
 pub fn terms_with(
-    sheet: &[u8],
+    sheet: &Sheet,
     depot: usize,
     index: u16,
     members: &[u16],
@@ -49,7 +61,7 @@ pub fn terms_with(
     requires limits_value { limits ≡ limits_at sheet.now index }
     ensures { result ≡ terms_of sheet.now depot index members.now }
 {
-    let own = vehicle::vehicle_at(sheet, index as usize);
+    let own = sheet.vehicle_at(index as usize);
     let constrained = checks::route_checks_needed(sheet, depot, members, limits);
     let soft = soft_rules(sheet, depot, members, constrained);
     let fixed = vehicle::fixed_cost_in_distance(own);
@@ -65,7 +77,7 @@ pub fn terms_with(
 }
 
 // The terms of a depot with its members.
-pub fn terms_of(sheet: &[u8], depot: usize, index: u16, members: &[u16]) -> Terms
+pub fn terms_of(sheet: &Sheet, depot: usize, index: u16, members: &[u16]) -> Terms
     requires routed { Routed sheet.now depot members.now }
     requires index_bound { index < vehicles_of sheet.now }
     ensures { result ≡ terms_of sheet.now depot index members.now }

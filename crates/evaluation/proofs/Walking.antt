@@ -22,6 +22,7 @@ use Rattle.evaluation.specs.Routed.{Routed}
 use Rattle.evaluation_clock.specs.Serve.{leaving_at, late_by, departure_of, pass, serve_of}
 use Rattle.evaluation_clock.specs.Clock.{step_of, taken_of, moved_of, alive_of}
 use Rattle.evaluation.specs.Walk.{Position, drive_to, walked_over}
+use Rattle.evaluation.specs.Underway.{position_of}
 use Rattle.evaluation.specs.Laws.Walk.{dead_over}
 
 -- ---- a visit takes no rest
@@ -115,3 +116,9 @@ module _ (s rows : List ℕ) (l₀ : Label) (d₀ : Float) (p₀ : ℕ) (l : Lab
       g.same place
       ∙ fold_done (drive_to s) (plain_at (Some l) distance prev (place + i)) rows i (omega (arith, e))
       ∙ ap (λ (k : ℕ). plain_at (Some l) distance prev (place + k)) e
+
+  -- and where the loop leaves off
+  pub arrives : length rows ≤ i → (place : ℕ) → walked_over s (plain_at (Some l₀) d₀ p₀ place) rows ≡ position_of (record { prev = prev; distance = distance; time = l.time; lateness = l.lateness; lateness_cost = l.lateness_cost }) (place + length rows)
+  arrives h place =
+      ends h place
+      ∙ ap (λ (x : RestAnswer). plain_at (Some (record { time = l.time; lateness = l.lateness; lateness_cost = l.lateness_cost; rest = x })) distance prev (place + length rows)) g.unrested

@@ -1,5 +1,6 @@
 pub mod Routed
 pub mod Walk
+pub mod Underway
 pub mod Limits
 pub mod Verdict
 pub mod Soonest

@@ -1,28 +1,26 @@
 // Whether the rounds of a depot have to be checked at all: read from the depot's row and its members' alone.
 ghost use Rattle.std.specs.Prelude.{◌≡◌, ◌<◌};
-ghost use Rattle.sheet.specs.Accepted.{Accepted};
 ghost use Rattle.sheet.specs.Fields.{rows_of};
 ghost use Rattle.evaluation.specs.Routed.{Routed};
 ghost use Rattle.evaluation.specs.Checks.{row_windowed, any_windowed, has_time_windows, has_soft_windows, route_checks_needed};
 
 use crate::limits::RouteLimits;
-use sheet::customer;
+use sheet::Sheet;
 use sheet::customer::Gate;
 
 // Whether a row has a window, or with `soft` a window with a penalty.
-fn row_windowed(sheet: &[u8], row: usize, soft: bool) -> bool
-    requires accepted { Accepted sheet.now }
-    requires row_bound { row < rows_of sheet.now }
+fn row_windowed(sheet: &Sheet, row: usize, soft: bool) -> bool
+    requires { row < rows_of sheet.now }
     ensures { result ≡ row_windowed soft sheet.now row }
 {
-    match customer::stop_at(sheet, row).gate {
+    match sheet.stop_at(row).gate {
         Gate::Open => false,
         Gate::Hard(_) => !soft,
         Gate::Soft(_, _) => true,
     }
 }
 
-fn any_windowed(sheet: &[u8], depot: usize, members: &[u16], soft: bool) -> bool
+fn any_windowed(sheet: &Sheet, depot: usize, members: &[u16], soft: bool) -> bool
     requires { Routed sheet.now depot members.now }
     ensures { result ≡ any_windowed soft sheet.now depot members.now }
 {
@@ -37,7 +35,7 @@ fn any_windowed(sheet: &[u8], depot: usize, members: &[u16], soft: bool) -> bool
     false
 }
 
-pub fn has_time_windows(sheet: &[u8], depot: usize, members: &[u16]) -> bool
+pub fn has_time_windows(sheet: &Sheet, depot: usize, members: &[u16]) -> bool
     requires { Routed sheet.now depot members.now }
     ensures { result ≡ has_time_windows sheet.now depot members.now }
 {
@@ -45,7 +43,7 @@ pub fn has_time_windows(sheet: &[u8], depot: usize, members: &[u16]) -> bool
 }
 
 // Whether lateness is a cost to weigh and not only a limit to check.
-pub fn has_soft_windows(sheet: &[u8], depot: usize, members: &[u16]) -> bool
+pub fn has_soft_windows(sheet: &Sheet, depot: usize, members: &[u16]) -> bool
     requires { Routed sheet.now depot members.now }
     ensures { result ≡ has_soft_windows sheet.now depot members.now }
 {
@@ -53,7 +51,12 @@ pub fn has_soft_windows(sheet: &[u8], depot: usize, members: &[u16]) -> bool
 }
 
 // Without a window and without limits every round is feasible.
-pub fn route_checks_needed(sheet: &[u8], depot: usize, members: &[u16], limits: RouteLimits) -> bool
+pub fn route_checks_needed(
+    sheet: &Sheet,
+    depot: usize,
+    members: &[u16],
+    limits: RouteLimits,
+) -> bool
     requires { Routed sheet.now depot members.now }
     ensures { result ≡ route_checks_needed sheet.now depot members.now limits }
 {

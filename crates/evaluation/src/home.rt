@@ -4,31 +4,20 @@ ghost use Rattle.sheet.specs.Fields.{rows_of};
 ghost use Rattle.sheet.specs.Values.{time_of};
 ghost use Rattle.evaluation_clock.specs.Clocked.{Clocked};
 ghost use Rattle.evaluation_clock.specs.Clock.{unrested};
-ghost use Rattle.evaluation.specs.Verdict.{home_start, mends, rested_home};
+ghost use Rattle.evaluation.specs.Verdict.{mends, rested_home};
 ghost use Rattle.evaluation.specs.Soonest.{outlasts, sooner_of};
 
 use crate::limits::RouteLimits;
-use evaluation_clock::clock;
 use evaluation_clock::clock::{BreakClock, Schedule};
-use sheet::matrix;
+use evaluation_clock::{clock, label};
+use sheet::Sheet;
 use sheet::vehicle::VehicleBreak;
-
-// The later of the return and the earliest start.
-fn start(rest: VehicleBreak, back: f64) -> f64
-    ensures { result ≡ home_start rest back }
-{
-    if back < rest.earliest {
-        rest.earliest
-    } else {
-        back
-    }
-}
 
 // Whether the rest may be taken after the return at `back`, and the limits are kept by its end.
 pub fn mends(limits: RouteLimits, rest: VehicleBreak, distance: f64, back: f64) -> bool
     ensures { result ≡ mends limits rest distance back }
 {
-    let begun = start(rest, back);
+    let begun = label::later(back, rest.earliest);
     begun <= rest.latest && limits.allow(distance, begun + rest.duration)
 }
 
@@ -36,7 +25,7 @@ pub fn mends(limits: RouteLimits, rest: VehicleBreak, distance: f64, back: f64) 
 pub fn rested(rest: VehicleBreak, place: u16, plain: Schedule) -> Schedule
     ensures { result ≡ rested_home rest place plain }
 {
-    let begun = start(rest, plain.duration);
+    let begun = label::later(plain.duration, rest.earliest);
     Schedule {
         duration: begun + rest.duration,
         rest: Some((place, begun)),
@@ -61,7 +50,7 @@ fn sooner(
 ) -> Option<Schedule>
     ensures { result ≡ sooner_of rest place (Some plain) found }
 {
-    let from = start(rest, plain.duration);
+    let from = label::later(plain.duration, rest.earliest);
     if from <= rest.latest && outlasts(found, from + rest.duration) {
         return Some(rested(rest, place, plain));
     }
@@ -71,7 +60,7 @@ fn sooner(
 // The schedule found of a clock, or the one with the rest at home, where that ends sooner.
 pub fn finish(
     clock: BreakClock,
-    sheet: &[u8],
+    sheet: &Sheet,
     distance: f64,
     depot: usize,
     found: Option<Schedule>,
@@ -80,7 +69,7 @@ pub fn finish(
     requires depot_bound { depot < rows_of sheet.now }
     ensures { result ≡ sooner_of clock.rest clock.place (unrested clock.before distance (time_of sheet.now clock.prev depot)) found }
 {
-    let back = matrix::travel_time(sheet, clock.prev, depot);
+    let back = sheet.travel_time(clock.prev, depot);
     let Some(l) = clock.before else {
         return found;
     };

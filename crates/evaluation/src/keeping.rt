@@ -10,8 +10,8 @@ use crate::home;
 use crate::limits::RouteLimits;
 use evaluation_clock::clock::BreakClock;
 use evaluation_clock::label;
+use sheet::Sheet;
 use sheet::customer::Stop;
-use sheet::{customer, matrix};
 
 // Whether the limits are kept with the rest taken at the next stop or before, and the way home after it.
 fn keeps_rested(
@@ -37,7 +37,7 @@ fn keeps_rested(
 // enough to be inlined where every candidate is judged.
 pub fn keeps_with(
     clock: BreakClock,
-    sheet: &[u8],
+    sheet: &Sheet,
     row: usize,
     depot: usize,
     distance: f64,
@@ -47,9 +47,9 @@ pub fn keeps_with(
     requires row_bound { (row < rows_of sheet.now) × (depot < rows_of sheet.now) }
     ensures { result ≡ is_feasible (held_to limits (finish_of (next_of sheet.now (clock_of clock) row) distance (time_of sheet.now row depot))) }
 {
-    let travel = matrix::travel_time(sheet, clock.prev, row);
-    let back = matrix::travel_time(sheet, row, depot);
-    let stop = customer::stop_at(sheet, row);
+    let travel = sheet.travel_time(clock.prev, row);
+    let back = sheet.travel_time(row, depot);
+    let stop = sheet.stop_at(row);
     let Some(l) = label::step(clock.before, travel, stop) else {
         return keeps_rested(clock, travel, stop, back, distance, limits);
     };
@@ -60,9 +60,10 @@ pub fn keeps_with(
 }
 
 // Whether they are kept with the rest at home, for a vehicle that may take it there.
+// Not one function with `keeps_with`: that took 1.03 to 1.72 of the instructions (docs/BENCHMARKS.md).
 pub fn keeps_home(
     clock: BreakClock,
-    sheet: &[u8],
+    sheet: &Sheet,
     row: usize,
     depot: usize,
     distance: f64,
@@ -72,9 +73,9 @@ pub fn keeps_home(
     requires row_bound { (row < rows_of sheet.now) × (depot < rows_of sheet.now) }
     ensures { result ≡ is_feasible (mended_by limits clock.rest (next_of sheet.now (clock_of clock) row).place (unrested (next_of sheet.now (clock_of clock) row).before distance (time_of sheet.now row depot)) no_schedule) }
 {
-    let travel = matrix::travel_time(sheet, clock.prev, row);
-    let back = matrix::travel_time(sheet, row, depot);
-    let stop = customer::stop_at(sheet, row);
+    let travel = sheet.travel_time(clock.prev, row);
+    let back = sheet.travel_time(row, depot);
+    let stop = sheet.stop_at(row);
     let Some(l) = label::step(clock.before, travel, stop) else {
         return false;
     };

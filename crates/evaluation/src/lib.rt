@@ -6,6 +6,7 @@ pub mod home;
 pub mod keeping;
 pub mod limits;
 pub mod schedule;
+pub mod walker;
 
 ghost use Rattle.std.specs.Prelude.{◌≡◌, Some};
 ghost use Rattle.evaluation.specs.Routed.{Routed};
@@ -14,6 +15,7 @@ ghost use Rattle.evaluation.specs.Feasible.{route_feasible, route_eval, priced_d
 
 use evaluation_clock::clock::Schedule;
 use limits::RouteLimits;
+use sheet::Sheet;
 use sheet::vehicle::VehicleBreak;
 
 // The schedule held to the limits.
@@ -49,7 +51,7 @@ pub fn eval_home(
 // The figures of a round of a vehicle with a rest, where it is feasible. The walk without the rest is made only where it can
 // mend what is turned down.
 pub fn eval_rested(
-    sheet: &[u8],
+    sheet: &Sheet,
     route: &[u16],
     depot: usize,
     limits: RouteLimits,
@@ -72,7 +74,7 @@ pub fn eval_rested(
 
 // Whether a round from `depot` and back misses no hard window, has its rest placed or needs none, and keeps the limits.
 // Capacity is not asked here.
-pub fn route_feasible(sheet: &[u8], route: &[u16], depot: usize, limits: RouteLimits) -> bool
+pub fn route_feasible(sheet: &Sheet, route: &[u16], depot: usize, limits: RouteLimits) -> bool
     requires { Routed sheet.now depot route.now }
     ensures { result ≡ route_feasible sheet.now depot limits route.now }
 {
@@ -87,7 +89,7 @@ pub fn route_feasible(sheet: &[u8], route: &[u16], depot: usize, limits: RouteLi
 
 // The figures of a round, where it is feasible.
 pub fn route_eval(
-    sheet: &[u8],
+    sheet: &Sheet,
     route: &[u16],
     depot: usize,
     limits: RouteLimits,
@@ -118,7 +120,7 @@ fn cost(eval: Option<Schedule>) -> f64
 }
 
 // What a search minimises: infinite where the round is not allowed.
-pub fn effective_cost(sheet: &[u8], route: &[u16], depot: usize, limits: RouteLimits) -> f64
+pub fn effective_cost(sheet: &Sheet, route: &[u16], depot: usize, limits: RouteLimits) -> f64
     requires { Routed sheet.now depot route.now }
     ensures { result ≡ effective_cost sheet.now depot limits route.now }
 {

@@ -1,12 +1,11 @@
 // What a vehicle and its depot ask of a round besides the capacity.
 ghost use Rattle.std.specs.Prelude.{◌≡◌, ◌<◌};
-ghost use Rattle.sheet.specs.Accepted.{Accepted};
 ghost use Rattle.sheet.specs.Fields.{rows_of, vehicles_of};
 ghost use Rattle.evaluation.specs.Limits.{limits_of, latest_return, lower_of, returning_by, limits_at, is_unlimited, within_of, allow_of};
 
+use sheet::Sheet;
 use sheet::customer::Gate;
 use sheet::vehicle::{Vehicle, VehicleBreak};
-use sheet::{customer, vehicle};
 
 #[derive(Clone, Copy)]
 pub struct RouteLimits {
@@ -68,15 +67,14 @@ fn returning_by(due: Option<f64>, at_home: bool, limits: RouteLimits) -> RouteLi
 }
 
 // The limits of the vehicle at `index` of the sheet.
-pub fn limits_at(sheet: &[u8], index: usize) -> RouteLimits
-    requires accepted { Accepted sheet.now }
-    requires index_bound { (index < vehicles_of sheet.now) × (0 < rows_of sheet.now) }
+pub fn limits_at(sheet: &Sheet, index: usize) -> RouteLimits
+    requires { (index < vehicles_of sheet.now) × (0 < rows_of sheet.now) }
     ensures { result ≡ limits_at sheet.now index }
 {
-    let vehicle = vehicle::vehicle_at(sheet, index);
+    let vehicle = sheet.vehicle_at(index);
     let depot = vehicle.depot as usize;
-    let home = customer::stop_at(sheet, depot);
-    let at_home = vehicle::rests_home(sheet, index);
+    let home = sheet.stop_at(depot);
+    let at_home = sheet.rests_home(index);
     returning_by(latest_return(home.gate), at_home, limits_of(vehicle))
 }
 

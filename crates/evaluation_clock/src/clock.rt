@@ -7,9 +7,9 @@ ghost use Rattle.evaluation_clock.specs.Clock.{started, next_of, alive_of, home_
 
 use crate::label;
 use crate::label::{Label, RestAnswer};
+use sheet::Sheet;
 use sheet::customer::Stop;
 use sheet::vehicle::VehicleBreak;
-use sheet::{customer, matrix};
 
 // What a round comes to, depot to depot.
 #[derive(Clone, Copy)]
@@ -73,13 +73,13 @@ impl BreakClock {
 
     // Drives on to `row`, one stop further. Inlined wherever it is asked, so that the clock goes on in registers.
     #[inline(always)]
-    pub fn next(self, sheet: &[u8], row: usize) -> Self
+    pub fn next(self, sheet: &Sheet, row: usize) -> Self
         requires clocked { Clocked sheet.now self }
         requires row_bound { row < rows_of sheet.now }
         ensures { result ≡ next_by sheet.now self row }
     {
-        let travel = matrix::travel_time(sheet, self.prev, row);
-        let stop = customer::stop_at(sheet, row);
+        let travel = sheet.travel_time(self.prev, row);
+        let stop = sheet.stop_at(row);
         let rest = self.rest;
         let before = self.before;
         let after = self.after;
@@ -99,7 +99,7 @@ impl BreakClock {
     }
 
     // The same, in the clock that is lent. Answers whether it is alive.
-    pub fn push(&mut self, sheet: &[u8], row: usize) -> bool
+    pub fn push(&mut self, sheet: &Sheet, row: usize) -> bool
         requires clocked { Clocked sheet.now self.old }
         requires row_bound { row < rows_of sheet.now }
         ensures clock { self.new ≡ next_by sheet.now self.old row }
@@ -110,12 +110,12 @@ impl BreakClock {
     }
 
     // The way home, with `distance` driven in all: without the rest if the return is not after `earliest`.
-    pub fn finish(self, sheet: &[u8], distance: f64, depot: usize) -> Option<Schedule>
+    pub fn finish(self, sheet: &Sheet, distance: f64, depot: usize) -> Option<Schedule>
         requires clocked { Clocked sheet.now self }
         requires depot_bound { depot < rows_of sheet.now }
         ensures { result ≡ finish_of (clock_of self) distance (time_of sheet.now self.prev depot) }
     {
-        let back = matrix::travel_time(sheet, self.prev, depot);
+        let back = sheet.travel_time(self.prev, depot);
         let Some(l) = self.before else {
             return ended(self.after, distance, back);
         };

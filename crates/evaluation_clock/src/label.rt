@@ -45,7 +45,8 @@ pub fn start() -> Label
     }
 }
 
-fn later(a: f64, b: f64) -> f64
+// The later of two times; the first where one is no number, as `f64::max` would not have it.
+pub fn later(a: f64, b: f64) -> f64
     ensures { result ≡ later_of a b }
 {
     if a < b { b } else { a }

@@ -1,8 +1,8 @@
-// An arrival at a window. Callers know these three functions by their definitions alone.
+// An arrival at a window. Callers know these functions by their definitions alone.
 ghost use Rattle.std.specs.Prelude.{◌≡◌};
-ghost use Rattle.evaluation_clock.specs.Window.{violated_of, waiting_of, lateness_of};
+ghost use Rattle.evaluation_clock.specs.Window.{violated_of, waiting_of, lateness_of, service_start};
 
-use sheet::customer::Window;
+use sheet::customer::{Gate, Window};
 
 pub fn violated(w: Window, arrival: f64) -> bool
     ensures { result ≡ violated_of w arrival }
@@ -19,6 +19,17 @@ pub fn waiting(w: Window, arrival: f64) -> f64
         ready - arrival
     } else {
         0.0
+    }
+}
+
+// When the service begins: arrival, plus the wait. The nearest neighbours ask it of every candidate.
+#[inline(always)]
+pub fn service_start(gate: Gate, arrival: f64) -> f64
+    ensures { result ≡ service_start gate arrival }
+{
+    match gate {
+        Gate::Open => arrival,
+        Gate::Hard(w) | Gate::Soft(w, _) => arrival + waiting(w, arrival),
     }
 }
 

@@ -1,1 +1,2 @@
 pub mod Prefix
+pub mod Laws

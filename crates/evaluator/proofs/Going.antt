@@ -4,21 +4,33 @@ use Prim.Native.Nat.{ℕ, ◌+◌, ◌*◌, ◌≤◌, ◌<◌}
 use native.Mathlib.Omega.{arith}
 use mathlib.Core.List.{List}
 use lib.ListN.{length, drop, get_or}
+use lib.Ieee.{Float}
 use Rattle.lists.specs.Laws.Fold.{fold_turn, fold_done}
 use Rattle.sheet.specs.Fields.{rows_of}
 use Rattle.sheet.specs.Accepted.{Accepted}
 use Rattle.sheet.specs.Values.{stop_of}
 use Rattle.sheet.specs.Laws.Finite.{demand_bounded}
 use Rattle.sheet.specs.declared.customer.Stop.{Stop}
+use Rattle.sheet.specs.declared.customer.Gate.{Gate}
+use Rattle.sheet.specs.declared.customer.Gate.TheVariants.{Open, Hard, Soft}
+use Rattle.evaluation_clock.specs.Sums.{◌⊕◌}
+use Rattle.evaluation_clock.specs.Window.{service_start}
 use Rattle.evaluation.specs.Routed.{Routed}
 use Rattle.evaluator.specs.declared.Progress.{Progress}
 use Rattle.evaluator.specs.declared.Placed.{Placed}
 use Rattle.evaluator.specs.Driven.{Driven}
-use Rattle.evaluator.specs.Record.{begin_of, visited_of, progress_of}
+use Rattle.evaluator.specs.Record.{departs_at, begin_of, visited_of, progress_of}
 
 pub stop_demand : (s : List ℕ) → Accepted s → (i : ℕ) → i < rows_of s → (t : Stop) → t ≡ stop_of s i → t.demand ≤ 1000000
 unfolding stop_of
 stop_demand s a i h t e = subst (λ (u : Stop). u.demand ≤ 1000000) (sym e) (demand_bounded s a i h)
+
+-- the departure is the service's start, plus the service
+pub departs_lem : (g : Gate) (ready service : Float) → departs_at g ready service ≡ service_start g ready ⊕ service
+unfolding departs_at
+departs_lem Open ready service = refl
+departs_lem (Hard w) ready service = refl
+departs_lem (Soft w penalty) ready service = refl
 
 -- what holds after i stops
 pub record Going (s : List ℕ) (depot : ℕ) (t : Placed) (route : List ℕ) (p : Progress) (i : ℕ) : Type 0 where

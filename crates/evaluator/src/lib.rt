@@ -2,11 +2,10 @@
 #![tactic(auto)]
 
 ghost use Rattle.std.specs.Prelude.{◌≡◌, ◌+◌, ◌*◌, ◌≤◌, ◌<◌, Some};
-ghost use Rattle.sheet.specs.Accepted.{Accepted};
 ghost use Rattle.sheet.specs.Fields.{rows_of};
 ghost use Rattle.evaluation.specs.Routed.{Routed};
 ghost use Rattle.evaluation.specs.Verdict.{held_to, verdict_on, placed_rest};
-ghost use Rattle.evaluator.specs.Record.{placed_of, ready_for, departs_at, late_after, cost_after, begin_of, visited_of, progress_of, record_of, build_route, route_cost, price_start, price_with};
+ghost use Rattle.evaluator.specs.Record.{placed_of, ready_for, late_after, cost_after, begin_of, visited_of, progress_of, record_of, build_route, route_cost, price_start, price_with};
 ghost use Rattle.evaluator.specs.Driven.{Driven};
 
 use evaluation::limits::RouteLimits;
@@ -14,9 +13,9 @@ use evaluation::schedule;
 use evaluation_clock::clock::Schedule;
 use evaluation_clock::label::RestAnswer;
 use evaluation_clock::window;
+use sheet::Sheet;
 use sheet::customer::Gate;
 use sheet::vehicle::{Vehicle, VehicleBreak};
-use sheet::{customer, matrix};
 
 // The round so far: its last visit, and what it has come to. `load` is after that visit.
 #[derive(Clone, Copy)]
@@ -42,7 +41,7 @@ pub struct Record {
     pub rest: RestAnswer,
 }
 
-// The rest of a round: where it stands, and how long it is.
+// The rest of a round: where it stands, and how long it is. Not one Option: a round's record tells the place and the start alone.
 #[derive(Clone, Copy)]
 pub struct Placed {
     pub answer: RestAnswer,
@@ -59,7 +58,7 @@ fn answer(scheduled: Option<Schedule>) -> RestAnswer
 // Where a vehicle that has a rest takes it. The limits are asked only where it may be at home: that is for a round that they
 // turn down, and one that it does not mend keeps the schedule's.
 fn rest_answer(
-    sheet: &[u8],
+    sheet: &Sheet,
     route: &[u16],
     depot: usize,
     limits: RouteLimits,
@@ -79,7 +78,7 @@ fn rest_answer(
 }
 
 // The rest that a vehicle takes on a round; none where the round has no schedule.
-pub fn place_rest(sheet: &[u8], route: &[u16], depot: usize, limits: RouteLimits) -> Placed
+pub fn place_rest(sheet: &Sheet, route: &[u16], depot: usize, limits: RouteLimits) -> Placed
     requires { Routed sheet.now depot route.now }
     ensures { result ≡ placed_of sheet.now depot limits route.now }
 {
@@ -113,43 +112,17 @@ fn ready_for(answer: RestAnswer, duration: f64, place: u16, arrival: f64) -> f64
     }
 }
 
-fn departure(gate: Gate, ready: f64, service: f64) -> f64
-    ensures { result ≡ departs_at gate ready service }
+// The lateness so far and its cost, after a stop that the vehicle is ready for at `ready`: a soft window that is missed counts.
+#[tactic(auto, unfolding(crate::specs::Record::late_after, crate::specs::Record::cost_after))]
+fn late_after(gate: Gate, ready: f64, late: f64, cost: f64) -> (f64, f64)
+    ensures { (result.0 ≡ late_after gate ready late) × (result.1 ≡ cost_after gate ready cost) }
 {
     match gate {
-        Gate::Open => ready + service,
-        Gate::Hard(w) => (ready + window::waiting(w, ready)) + service,
-        Gate::Soft(w, _) => (ready + window::waiting(w, ready)) + service,
-    }
-}
-
-fn late_after(gate: Gate, ready: f64, late: f64) -> f64
-    ensures { result ≡ late_after gate ready late }
-{
-    match gate {
-        Gate::Open => late,
-        Gate::Hard(_) => late,
-        Gate::Soft(w, _) => {
-            if window::violated(w, ready) {
-                return late + window::lateness(w, ready);
-            }
-            late
+        Gate::Soft(w, penalty) if window::violated(w, ready) => {
+            let more = window::lateness(w, ready);
+            (late + more, cost + penalty * more)
         }
-    }
-}
-
-fn cost_after(gate: Gate, ready: f64, cost: f64) -> f64
-    ensures { result ≡ cost_after gate ready cost }
-{
-    match gate {
-        Gate::Open => cost,
-        Gate::Hard(_) => cost,
-        Gate::Soft(w, penalty) => {
-            if window::violated(w, ready) {
-                return cost + penalty * window::lateness(w, ready);
-            }
-            cost
-        }
+        _ => (late, cost),
     }
 }
 
@@ -171,41 +144,41 @@ impl Progress {
     }
 
     // The visit of one row more.
-    pub fn visited(self, sheet: &[u8], placed: Placed, row: usize) -> Self
+    pub fn visited(self, sheet: &Sheet, placed: Placed, row: usize) -> Self
         requires driven { Driven sheet.now self }
         requires row_bound { row < rows_of sheet.now }
         ensures { result ≡ visited_of sheet.now placed self row }
     {
         let prev = self.prev;
-        let arrival = self.departure + matrix::travel_time(sheet, prev, row);
+        let arrival = self.departure + sheet.travel_time(prev, row);
         let answer = placed.answer;
         let ready = ready_for(answer, placed.duration, self.place, arrival);
-        let stop = customer::stop_at(sheet, row);
+        let stop = sheet.stop_at(row);
         let gate = stop.gate;
+        let (lateness, lateness_cost) = late_after(gate, ready, self.lateness, self.lateness_cost);
         Progress {
             arrival,
-            departure: departure(gate, ready, stop.service),
+            departure: window::service_start(gate, ready) + stop.service,
             load: self.load + stop.demand,
-            distance: self.distance + matrix::distance(sheet, prev, row),
-            lateness: late_after(gate, ready, self.lateness),
-            lateness_cost: cost_after(gate, ready, self.lateness_cost),
+            distance: self.distance + sheet.distance(prev, row),
+            lateness,
+            lateness_cost,
             prev: row,
             place: self.place + 1,
         }
     }
 
     // Home at `depot`.
-    pub fn record(self, sheet: &[u8], depot: usize, placed: Placed) -> Record
-        requires accepted { Accepted sheet.now }
-        requires prev_bound { (self.prev < rows_of sheet.now) × (depot < rows_of sheet.now) }
+    pub fn record(self, sheet: &Sheet, depot: usize, placed: Placed) -> Record
+        requires { (self.prev < rows_of sheet.now) × (depot < rows_of sheet.now) }
         ensures { result ≡ record_of sheet.now depot placed self }
     {
         let prev = self.prev;
         let answer = placed.answer;
-        let back = self.departure + matrix::travel_time(sheet, prev, depot);
+        let back = self.departure + sheet.travel_time(prev, depot);
         Record {
             load: self.load,
-            distance: self.distance + matrix::distance(sheet, prev, depot),
+            distance: self.distance + sheet.distance(prev, depot),
             duration: ready_for(answer, placed.duration, self.place, back),
             lateness: self.lateness,
             lateness_cost: self.lateness_cost,
@@ -215,7 +188,7 @@ impl Progress {
 }
 
 // The round so far after `route`, with its rest where `placed` says.
-pub fn progress_after(sheet: &[u8], route: &[u16], depot: usize, placed: Placed) -> Progress
+pub fn progress_after(sheet: &Sheet, route: &[u16], depot: usize, placed: Placed) -> Progress
     requires { Routed sheet.now depot route.now }
     ensures value { result ≡ progress_of sheet.now placed (begin_of depot) route.now }
     ensures prev_bound { result.prev < rows_of sheet.now }
@@ -228,7 +201,7 @@ pub fn progress_after(sheet: &[u8], route: &[u16], depot: usize, placed: Placed)
 }
 
 // The figures of a round from `depot` and back.
-pub fn build_route(sheet: &[u8], route: &[u16], depot: usize, limits: RouteLimits) -> Record
+pub fn build_route(sheet: &Sheet, route: &[u16], depot: usize, limits: RouteLimits) -> Record
     requires { Routed sheet.now depot route.now }
     ensures { result ≡ build_route sheet.now depot limits route.now }
 {
@@ -247,7 +220,7 @@ pub fn route_cost(vehicle: Vehicle, distance: f64) -> f64
 pub fn price_start() -> f64
     ensures { result ≡ price_start }
 {
-    f64::from_bits(0x8000_0000_0000_0000)
+    -0.0
 }
 
 // The cost of a plan with one round more. Lateness is priced like distance.

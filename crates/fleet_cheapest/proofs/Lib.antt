@@ -3,5 +3,3 @@ pub mod Judged
 pub mod Rounds
 pub mod Pending
 pub mod Unwon
-pub mod Prefix
-pub mod Freely

@@ -1,10 +1,7 @@
 // The cheapest insertion of the stops pending, over every round and place.
 #![tactic(auto)]
 
-mod places;
-
 ghost use Rattle.std.specs.Prelude.{◌≡◌, false, ◌+◌, ◌<◌, length};
-ghost use Rattle.sheet.specs.Accepted.{Accepted};
 ghost use Rattle.sheet.specs.Fields.{rows_of, vehicles_of, most_rows};
 ghost use Rattle.evaluation.specs.Routed.{Routed};
 ghost use Rattle.constructive.specs.Outcome.{rounds_in};
@@ -15,11 +12,12 @@ ghost use Rattle.fleet_cheapest.specs.Promises.{WindowsOf, Unwon, terms_at};
 use constructive::load;
 use constructive::terms::Terms;
 use evaluation::limits;
+use evaluation_prefix::Prefix;
 use fleet::Pick;
 use insertion::choice::Choice;
 use insertion::place::{Prices, Tried};
-use insertion::{choice, place, trial};
-use sheet::{customer, vehicle};
+use insertion::{choice, place, places, trial};
+use sheet::Sheet;
 
 // Whether some row has a window, and whether one has a window with a penalty.
 #[derive(Clone, Copy)]
@@ -29,30 +27,28 @@ pub struct Windows {
 }
 
 // What a vehicle's rounds are judged by. A stop that no round takes does not go alone: that costs without end.
-fn terms_at(sheet: &[u8], windows: Windows, index: u16) -> Terms
-    requires accepted { Accepted sheet.now }
-    requires index_bound { (index < vehicles_of sheet.now) × (0 < rows_of sheet.now) }
+fn terms_at(sheet: &Sheet, windows: Windows, index: u16) -> Terms
+    requires { (index < vehicles_of sheet.now) × (0 < rows_of sheet.now) }
     ensures { result ≡ terms_at sheet.now windows index }
 {
-    let own = vehicle::vehicle_at(sheet, index as usize);
+    let own = sheet.vehicle_at(index as usize);
     let limits = limits::limits_at(sheet, index as usize);
     let unlimited = limits.is_unlimited();
     let constrained = windows.any || !unlimited;
-    let fixed = f64::from_bits(0x7ff0_0000_0000_0000);
     Terms {
         depot: 0,
         vehicle: index,
         constrained,
         soft: windows.soft,
         capacity: own.capacity,
-        fixed,
+        fixed: f64::INFINITY,
         limits,
     }
 }
 
 // Whether the stop would cost less than the best so far at some place of the round, windows and limits apart. With soft windows
 // that is not told by the legs.
-fn may_win(sheet: &[u8], windows: Windows, route: &[u16], row: u16, best: Choice) -> bool
+fn may_win(sheet: &Sheet, windows: Windows, route: &[u16], row: u16, best: Choice) -> bool
     requires routed { Routed sheet.now 0 route.now }
     requires row_bound { row < rows_of sheet.now }
     ensures { result ≡ false → (windows.soft ≡ false) × Unwon sheet.now route.now row best (length route.now + 1) }
@@ -69,10 +65,10 @@ fn may_win(sheet: &[u8], windows: Windows, route: &[u16], row: u16, best: Choice
     false
 }
 
-// The better of the best so far and the stop at its places in the round counted i, each that may win walked. `trial` has room
-// for the round with the stop.
+// The better of the best so far and the stop at its places in the round counted i, each that may win walked: rounds grow long
+// here, so from a place that all places after it share (docs/BENCHMARKS.md). `trial` has room for the round with the stop.
 fn try_walks(
-    sheet: &[u8],
+    sheet: &Sheet,
     windows: Windows,
     index: u16,
     route: &[u16],
@@ -88,16 +84,15 @@ fn try_walks(
     ensures { result ≡ in_round sheet.now windows.soft row best i (record { vehicle = index; stops = route.now }) }
 {
     let terms = terms_at(sheet, windows, index);
-    if terms.capacity < load::load_of(sheet, route) + customer::demand(sheet, row as usize) {
+    if terms.capacity < load::load_of(sheet, route) + sheet.demand(row as usize) {
         return best;
     }
     if !terms.constrained {
         return places::try_free(sheet, terms, route, row, best, i);
     }
     // With soft windows a round that is not allowed as it stands costs without end, and takes no stop.
-    let endless = f64::from_bits(0x7ff0_0000_0000_0000);
     let round = place::soft_cost(sheet, terms, route);
-    if endless <= round {
+    if f64::INFINITY <= round {
         return best;
     }
     let end = route.len();
@@ -105,19 +100,19 @@ fn try_walks(
     trial[end] = row;
     let prices = Prices {
         round,
-        alone: endless,
+        alone: f64::INFINITY,
     };
     let tried = Tried {
         choice: best,
         at: end,
     };
-    let done = places::try_places(sheet, terms, prices, route, row, trial, tried, i);
+    let done = places::try_places::<Prefix>(sheet, terms, prices, route, row, trial, tried, i);
     done.choice
 }
 
 // The same. Most rounds have no place that may win, and are looked at no further.
 fn try_round(
-    sheet: &[u8],
+    sheet: &Sheet,
     windows: Windows,
     index: u16,
     route: &[u16],
@@ -140,7 +135,7 @@ fn try_round(
 
 // The cheapest insertion of one stop into the n rounds of the tables.
 fn cheapest_insertion(
-    sheet: &[u8],
+    sheet: &Sheet,
     windows: Windows,
     stops: &[u16],
     ends: &[u16],
@@ -178,7 +173,7 @@ fn cheapest_insertion(
 
 // The cheapest insertion of the stops pending, which stand in `pending`, into the n rounds of the tables.
 pub fn cheapest(
-    sheet: &[u8],
+    sheet: &Sheet,
     windows: Windows,
     stops: &[u16],
     ends: &[u16],

@@ -15,9 +15,10 @@ ghost use Rattle.fleet_limiter.specs.Promises.{windows_in, TablesHold, Triable, 
 use evaluation::checks;
 use fleet::Pick;
 use fleet_cheapest::Windows;
+use sheet::Sheet;
 
 // What rows have of windows: the depot's, and these.
-fn windows_in(sheet: &[u8], stops: &[u16]) -> Windows
+fn windows_in(sheet: &Sheet, stops: &[u16]) -> Windows
     requires { Routed sheet.now 0 stops.now }
     ensures { result ≡ windows_in sheet.now stops.now }
 {
@@ -28,7 +29,7 @@ fn windows_in(sheet: &[u8], stops: &[u16]) -> Windows
 
 // The cheapest insertion of the stops behind the n rounds.
 fn choose(
-    sheet: &[u8],
+    sheet: &Sheet,
     windows: Windows,
     stops: &[u16],
     ends: &[u16],
@@ -56,7 +57,7 @@ fn choose(
 
 // The stops behind the n rounds go into them, the cheapest first, until no round takes one.
 fn refit(
-    sheet: &[u8],
+    sheet: &Sheet,
     windows: Windows,
     stops: &mut [u16],
     ends: &mut [u16],
@@ -80,7 +81,7 @@ fn refit(
 
 // Drops one of the n rounds, whose stops are all of `stops`: those that no other takes stand behind the rounds.
 fn drop_round(
-    sheet: &[u8],
+    sheet: &Sheet,
     windows: Windows,
     stops: &mut [u16],
     ends: &mut [u16],
@@ -101,7 +102,7 @@ fn drop_round(
 // Drops rounds until there are no more than `greatest`; answers how many are left. What no round takes stands before the stops
 // set aside already.
 fn drop_rounds(
-    sheet: &[u8],
+    sheet: &Sheet,
     windows: Windows,
     greatest: usize,
     stops: &mut [u16],
@@ -135,7 +136,7 @@ fn drop_rounds(
 
 // The same; windows are read only where a round is dropped.
 fn limit(
-    sheet: &[u8],
+    sheet: &Sheet,
     greatest: usize,
     stops: &mut [u16],
     ends: &mut [u16],
@@ -159,7 +160,7 @@ fn limit(
 // Brings the `rounds` rounds of the tables, which have every stop, down to `greatest`; answers how many are left. The stops set
 // aside come out ascending. `marks` has a number for each row, `trial` for the longest round.
 pub fn limit_routes(
-    sheet: &[u8],
+    sheet: &Sheet,
     greatest: u32,
     stops: &mut [u16],
     ends: &mut [u16],
@@ -184,7 +185,7 @@ pub fn limit_routes(
         total,
     );
     let from = constructive::tables::end_of(ends, n);
-    let rows = sheet::rows(sheet);
+    let rows = sheet.rows();
     fleet_tables::order_aside(sheet, stops, &mut marks[..rows], from, total);
     n
 }

@@ -2,3 +2,4 @@ pub mod Judged
 pub mod Placing
 pub mod Sliding
 pub mod Trying
+pub mod Freely

@@ -4,7 +4,7 @@ use Prim.Native.Nat.{ℕ, suc, ◌+◌, ◌≤◌, ◌<◌}
 use native.Mathlib.Omega.{arith}
 use mathlib.Core.List.{List, [], ◌∷◌, ◌++◌}
 use lib.ListN.{length, get_or, set, take, drop, length-drop, take-append-drop}
-use lib.Seq.{length-take-le, drop-length, take_at, get_or_at, set_at, drop-append-add}
+use lib.Seq.{length-take-le, take-append-le, take-take, drop-length, take_at, get_or_at, set_at, drop-append-add}
 use Rattle.lists.specs.Every.{Every}
 use Rattle.lists.specs.Laws.Every.{every_of, every_at}
 use Rattle.lists.specs.Moved.{without, inserted}
@@ -71,6 +71,17 @@ module _ (route trial copied : List ℕ) (room : length trial ≡ length route +
 
   pub laid_out : Trial route (get_or (copied ++ drop n trial) n 0) n (copied ++ drop n trial)
   laid_out = any_stop route x n (copied ++ drop n trial) (record { place = omega arith; holds = laid })
+
+-- ---- the round and the round with the stop in it
+module _ (route : List ℕ) (row k : ℕ) (trial : List ℕ) (g : Trial route row k trial) where
+  pub front_alike : (a : ℕ) → a ≤ k → take a trial ≡ take a route
+  front_alike a h =
+      ap (take a) g.holds
+      ∙ take-append-le a (take k route) (row ∷ drop k route) (rw (length-take-le k route g.place) h)
+      ∙ take-take a k route h
+
+  pub trial_grown : length route ≤ length trial
+  trial_grown = omega (arith, trial_long route row k trial g)
 
 -- ---- a round that may be walked
 module _ (s : List ℕ) (t : Terms) (route : List ℕ) (row : ℕ) (ok : Joinable s t route (row ∷ [])) where

@@ -1,6 +1,7 @@
-// What insertion and the limiter share: one place for one stop, the round on trial, and the best choice so far.
+// What insertion and the limiter share: the places of a round for one stop, the round on trial, and the best choice so far.
 #![tactic(auto)]
 
 pub mod choice;
 pub mod place;
+pub mod places;
 pub mod trial;

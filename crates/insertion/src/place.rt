@@ -7,7 +7,7 @@ ghost use Rattle.insertion.specs.Trial.{soft_cost};
 
 use crate::choice::Choice;
 use constructive::terms::Terms;
-use sheet::matrix;
+use sheet::Sheet;
 
 // The best so far, and where the stop stands in the round on trial.
 #[derive(Clone, Copy)]
@@ -46,19 +46,18 @@ fn behind_at(depot: usize, route: &[u16], k: usize) -> usize
 }
 
 // The way past the stop, less the leg that it breaks.
-pub fn detour(sheet: &[u8], depot: usize, route: &[u16], row: usize, k: usize) -> f64
+pub fn detour(sheet: &Sheet, depot: usize, route: &[u16], row: usize, k: usize) -> f64
     requires routed { Routed sheet.now depot route.now }
     requires row_bound { (row < rows_of sheet.now) × (k ≤ length route.now) }
     ensures { result ≡ detour sheet.now depot route.now row k }
 {
     let prev = before_at(depot, route, k);
     let next = behind_at(depot, route, k);
-    matrix::distance(sheet, prev, row) + matrix::distance(sheet, row, next)
-        - matrix::distance(sheet, prev, next)
+    sheet.distance(prev, row) + sheet.distance(row, next) - sheet.distance(prev, next)
 }
 
 // What a round costs, which only the soft rules ask.
-pub fn soft_cost(sheet: &[u8], terms: Terms, route: &[u16]) -> f64
+pub fn soft_cost(sheet: &Sheet, terms: Terms, route: &[u16]) -> f64
     requires { Routed sheet.now terms.depot route.now }
     ensures { result ≡ soft_cost sheet.now terms route.now }
 {

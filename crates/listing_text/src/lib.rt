@@ -38,7 +38,7 @@ fn put_chain(out: &mut [u8], at: usize, sheet: &[u8], plan: &[u8], first: u16) -
             return end;
         }
         links -= 1;
-        row = wire::u16_at(plan, plan::visit_place(sheet, row as usize));
+        row = wire::u16_at(plan, plan::visit_place(sheet::rows(sheet), row as usize));
     }
     end
 }
@@ -63,6 +63,7 @@ fn put_rounds(out: &mut [u8], at: usize, sheet: &[u8], plan: &[u8]) -> usize
 {
     let rounds = wire::u16_at(plan, 0) as usize;
     let mut end = at;
+    // Over numbers: the rounds stand in the plan's bytes.
     for k in 0..rounds {
         end = put_round(out, end, sheet, plan, k);
     }

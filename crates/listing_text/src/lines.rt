@@ -65,7 +65,7 @@ pub fn put_stop_line(out: &mut [u8], at: usize, sheet: &[u8], plan: &[u8], row: 
     requires text_room { TextRoom out.old at (stop_line plan.now (rows_of sheet.now) row) }
     ensures { Put out.old out.new at (stop_line plan.now (rows_of sheet.now) row) result }
 {
-    let place = plan::visit_place(sheet, row as usize);
+    let place = plan::visit_place(sheet::rows(sheet), row as usize);
     let stop = put_field(out, at, b"stop ", row as u32);
     let next = put_field(out, stop, b" next ", wire::u16_at(plan, place) as u32);
     let load = put_field(out, next, b" load ", wire::u32_at(plan, place + 4));

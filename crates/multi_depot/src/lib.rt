@@ -12,12 +12,12 @@ ghost use Rattle.multi_depot.specs.Promises.{OutcomeTables, OutcomeStored};
 
 use constructive::tables::Filled;
 use multi_depot_offers::members;
-use sheet::customer;
+use sheet::Sheet;
 
 // Every depot planned; then the stops are settled and, where one has moved, every depot is planned once more: between offers
 // only the marks are kept.
 fn by_depot(
-    sheet: &[u8],
+    sheet: &Sheet,
     at: &mut [u16],
     marks: &mut [u16],
     fleet: &mut [u16],
@@ -29,7 +29,7 @@ fn by_depot(
     requires sheet_in_bounds { rows_of sheet.now ≤ length marks.old }
     ensures { HoldsOutcome stops.new ends.new vehicles.new result (rows_of sheet.now - depots_of sheet.now) (by_depot sheet.now) }
 {
-    let depots = customer::depots(sheet);
+    let depots = sheet.depots();
     let rows = at.len();
     let mut before = [0u16; sheet::MOST_ROWS];
     multi_depot_offers::first_at(sheet, depots, at);
@@ -60,7 +60,7 @@ fn by_depot(
 // The sheet's outcome in the tables that are lent: its rounds, and behind them the stops set aside. `at` and `marks` are for
 // the offers, `fleet` for a depot's vehicles.
 pub fn outcome(
-    sheet: &[u8],
+    sheet: &Sheet,
     at: &mut [u16],
     marks: &mut [u16],
     fleet: &mut [u16],
@@ -71,8 +71,8 @@ pub fn outcome(
     requires { OutcomeTables sheet.now at.old marks.old fleet.old stops.old ends.old vehicles.old }
     ensures { OutcomeStored sheet.now stops.new ends.new vehicles.new result (outcome_of sheet.now) }
 {
-    let rows = sheet::rows(sheet);
-    if customer::depots(sheet) == 1 {
+    let rows = sheet.rows();
+    if sheet.depots() == 1 {
         return multi_depot_planning::one_depot(
             sheet,
             &mut at[0..rows],

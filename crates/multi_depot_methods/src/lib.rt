@@ -4,6 +4,7 @@
 ghost use Rattle.std.specs.Prelude.{◌≡◌, true, false, ℕ, ◌-◌, ◌≤◌, ◌<◌, length};
 ghost use Rattle.lists.specs.Count.{count};
 ghost use Rattle.sheet.specs.Fields.{vehicles_of, method_of};
+ghost use Rattle.sheet.specs.Method.{code_of};
 ghost use Rattle.constructive.specs.Stored.{Stored, Room, filled_by};
 ghost use Rattle.constructive.specs.Members.{part, Members};
 ghost use Rattle.multi_depot_offers.specs.ByDepot.{with_vehicle};
@@ -11,14 +12,14 @@ ghost use Rattle.multi_depot_offers.specs.Promises.{Ready, construct_at};
 
 use constructive::tables::Filled;
 use multi_depot_offers::members;
-use sheet::method;
+use sheet::Sheet;
 use sheet::method::Method;
 
-// Savings with the depot's first vehicle, by way of the large tables; without one every stop is set aside, as it stands. Called
-// by `plan_depot` and by `one_depot` each (`multi_depot_planning`): a function with two callers is not inlined, so no other
-// planning has its frame.
+// Savings with the depot's first vehicle, by way of the large tables; without one every stop is set aside, as it stands. Not
+// inlined, so that no other planning has its frame.
+#[inline(never)]
 pub fn by_savings(
-    sheet: &[u8],
+    sheet: &Sheet,
     depot: usize,
     fleet: &mut [u16],
     stops: &mut [u16],
@@ -42,7 +43,7 @@ pub fn by_savings(
 
 // One vehicle for all rounds: savings of few members, insertion or sweep, by the method's number.
 fn with_vehicle(
-    sheet: &[u8],
+    sheet: &Sheet,
     depot: usize,
     vehicle: u16,
     stops: &mut [u16],
@@ -59,7 +60,7 @@ fn with_vehicle(
     ensures value { result ≡ filled_by filled (with_vehicle sheet.now depot (part stops.old filled.routed total) vehicle).rounds }
     ensures stored { Stored stops.old ends.old vehicles.old filled (with_vehicle sheet.now depot (part stops.old filled.routed total) vehicle) stops.new ends.new vehicles.new }
 {
-    match method::accepted_method(sheet) {
+    match sheet.method() {
         Method::Savings => clarke_wright::clarke_wright_few(
             sheet, depot, vehicle, stops, ends, vehicles, filled, total,
         ),
@@ -70,9 +71,10 @@ fn with_vehicle(
     }
 }
 
-// Every other planning: the nearest neighbours with the depot's vehicles, the other methods with the first.
+// Every other planning: the nearest neighbours with the depot's vehicles, the other methods with the first. Likewise.
+#[inline(never)]
 pub fn construct(
-    sheet: &[u8],
+    sheet: &Sheet,
     depot: usize,
     fleet: &mut [u16],
     stops: &mut [u16],
@@ -87,7 +89,7 @@ pub fn construct(
     ensures stored { Stored stops.old ends.old vehicles.old filled (construct_at sheet.now depot (part stops.old filled.routed total)) stops.new ends.new vehicles.new }
 {
     let n = members::fleet_of(sheet, depot, fleet);
-    let method = method::accepted_method(sheet);
+    let method = sheet.method();
     match method {
         Method::NearestNeighbor => nearest_neighbor::nearest_neighbor(
             sheet,
@@ -116,10 +118,9 @@ pub fn construct(
 
 // Whether savings are asked of more members than `construct` takes them of. The contract leaves the choice for fewer members
 // open: either way the outcome is the same.
-pub fn saves_many(sheet: &[u8], members: usize) -> bool
-    requires { 16 ≤ length sheet.now }
-    ensures sheet_value { result ≡ true → method_of sheet.now ≡ 0 }
-    ensures members_bound { result ≡ false → method_of sheet.now ≡ 0 → members ≤ 24 }
+pub fn saves_many(method: Method, members: usize) -> bool
+    ensures method_value { result ≡ true → code_of method ≡ 0 }
+    ensures members_bound { result ≡ false → code_of method ≡ 0 → members ≤ 24 }
 {
-    method::method_of(sheet) == Ok(Method::Savings) && 24 < members
+    method == Method::Savings && 24 < members
 }

@@ -1,21 +1,20 @@
 -- Which depots are asked, and the search for the nearest of them. Assumes nothing.
-use mathlib.Core.Path.{◌≡◌, refl, sym, ◌∙◌}
+use mathlib.Core.Path.{◌≡◌, refl, sym, ap, ◌∙◌}
 use Prim.Native.Nat.{ℕ, zero, suc, ◌+◌, ◌-◌, ◌≤◌, ◌<◌}
 use native.Mathlib.Nat.{sub-zero}
 use native.Mathlib.Omega.{arith}
-use mathlib.Core.Bool.{Bool, true, false, not, ◌&&◌, ◌||◌, cond}
+use mathlib.Core.Bool.{Bool, true, false, ◌&&◌, ◌||◌, cond}
 use mathlib.Core.List.{List}
-use borrow.Author.Tests.{le-leb, lt-leb}
+use lib.Dec.{ltb}
+use borrow.Author.Tests.{le-leb, lt-leb, ltb-false}
+use Rattle.std.specs.Bool.{then_some}
+use Rattle.std.proofs.Common.{◌≢◌, Option, None, Some, IfSome, unwrap_or}
 use Rattle.sheet.specs.Fields.{rows_of}
 use Rattle.sheet.specs.Depots.{depots_of}
 use Rattle.sheet.specs.Laws.Depots.{depots_few}
-use Rattle.multi_depot_offers.specs.ByDepot.{has_vehicle, is_no_depot, sooner, asked_after, nearer, nearest_from, next_depot, moves_to}
-use Rattle.multi_depot_offers.specs.Laws.Settled.{and_false}
+use Rattle.multi_depot_offers.specs.ByDepot.{is_no_depot, sooner, asked_after, nearer, nearest_from, next_depot, moves_to}
+use Rattle.multi_depot_offers.specs.Laws.Settled.{attempts, and_false, next_asked, attempts_fall}
 use Rattle.multi_depot_offers.specs.Promises.{RowAsked}
-
-and_true : (b : Bool) → (b && true) ≡ b
-and_true true = refl
-and_true false = refl
 
 module _ (s : List ℕ) (depots stop : ℕ) (a : RowAsked s depots stop) where
   pub depot_row : (d : ℕ) → d < depots → d < rows_of s
@@ -27,18 +26,15 @@ module _ (s : List ℕ) (depots stop : ℕ) (a : RowAsked s depots stop) where
   pub assigned : (d : ℕ) → d < depots → is_no_depot s d ≡ false
   assigned d h = lt-leb (depots_of s) d (omega (arith, a.count))
 
-  module _ (after d : ℕ) where
-    pub asked_first : depots ≤ after → has_vehicle s d ≡ asked_after s stop after d
-    unfolding asked_after
-    asked_first h = rw (unassigned after h) (sym (and_true (has_vehicle s d)))
+-- the nearest so far, and one depot more: it is asked and wins, or is not asked, or does not win
+pub taken : {asked wins : Bool} (d best : ℕ) → asked ≡ true → wins ≡ true → cond (asked && wins) d best ≡ d
+taken d best e f = rw (e, f)
 
-    pub not_asked_lem : after < depots → sooner s stop after d ≡ false → false ≡ asked_after s stop after d
-    unfolding asked_after
-    not_asked_lem h e = rw (assigned after h, e) (sym (and_false (has_vehicle s d)))
+pub not_asked_lem : {asked : Bool} (wins : Bool) (d best : ℕ) → asked ≡ false → cond (asked && wins) d best ≡ best
+not_asked_lem wins d best e = rw e
 
-    pub asked_next : after < depots → sooner s stop after d ≡ true → has_vehicle s d ≡ asked_after s stop after d
-    unfolding asked_after
-    asked_next h e = rw (assigned after h, e) (sym (and_true (has_vehicle s d)))
+pub beaten : (asked : Bool) {wins : Bool} (d best : ℕ) → wins ≡ false → cond (asked && wins) d best ≡ best
+beaten asked d best e = rw (e, and_false asked)
 
 -- the nearest so far, with the depots from d on, is the next
 abbrev pub Seeking : List ℕ → ℕ → ℕ → ℕ → ℕ → ℕ → Type 0
@@ -74,12 +70,37 @@ pub next_upto : (s : List ℕ) (stop after : ℕ) → next_depot s stop after �
 unfolding next_depot
 next_upto s stop after = nearest_upto s stop after (depots_of s) 0 (depots_of s) (omega arith) (omega arith)
 
--- a row that moves goes to a depot
-pub moves_upto : (s : List ℕ) (turned : Bool) (stop d : ℕ) → (moves_to s turned stop d ≡ d → ⊥) → moves_to s turned stop d ≤ depots_of s
-unfolding moves_to
-moves_upto s false stop d h = absurd (h refl)
-moves_upto s true stop d h = go (is_no_depot s (next_depot s stop d)) h
-  where
-    go : (b : Bool) → (cond (not b) (next_depot s stop d) d ≡ d → ⊥) → cond (not b) (next_depot s stop d) d ≤ depots_of s
-    go true k = absurd (k refl)
-    go false k = next_upto s stop d
+-- after a number for no depot the same depots are asked, whichever it is
+none_alike : (s : List ℕ) (stop after n d best : ℕ) → depots_of s ≤ after → nearest_from s stop after n d best ≡ nearest_from s stop (depots_of s) n d best
+unfolding nearest_from asked_after
+none_alike s stop after zero d best h = refl
+none_alike s stop after (suc n) d best h =
+    rw (le-leb (depots_of s) after h, le-leb (depots_of s) (depots_of s) (omega arith)) (none_alike s stop after n (d + 1) _ h)
+
+pub next_of_none : (s : List ℕ) (stop after : ℕ) → depots_of s ≤ after → next_depot s stop after ≡ next_depot s stop (depots_of s)
+unfolding next_depot
+next_of_none s stop after h = none_alike s stop after (depots_of s) 0 (depots_of s) h
+
+-- where a row turned down moves to: another depot, or nowhere
+module _ (s : List ℕ) (depots stop : ℕ) (a : RowAsked s depots stop) (d : ℕ) where
+  -- the number in the table, as an option
+  same_next : (b : Bool) → ltb d depots ≡ b → next_depot s stop (unwrap_or (then_some b d) depots) ≡ next_depot s stop d
+  same_next true e = refl
+  same_next false e = let l = ltb-false d depots e in rw a.count (sym (next_of_none s stop d (omega (arith, a.count))))
+
+  another : (x : ℕ) → x < depots → x ≡ next_depot s stop d → x ≢ d
+  another x h e q =
+      let k : is_no_depot s (next_depot s stop d) ≡ false = rw (← e) (assigned s depots stop a x h) in
+      let l : next_depot s stop d < depots_of s = omega (arith, a.count) in
+      let m = attempts_fall s a.sheet stop a.row d (next_depot s stop d) l (next_asked s stop d k) in
+      omega (arith, ap (attempts s stop) (sym e ∙ q))
+
+  pub turned_down : (r : Option ℕ) → unwrap_or r depots ≡ next_depot s stop (unwrap_or (then_some (ltb d depots) d) depots) → IfSome r (λ x. x < depots)
+      → (unwrap_or r d ≡ moves_to s true stop d) × IfSome r (λ x. (x < depots) × (x ≢ d))
+  unfolding moves_to
+  turned_down None e b =
+      let n : depots ≡ next_depot s stop d = e ∙ same_next (ltb d depots) refl in
+      (rw (← n, unassigned s depots stop a depots (omega arith)), tt)
+  turned_down (Some x) e b =
+      let n : x ≡ next_depot s stop d = e ∙ same_next (ltb d depots) refl in
+      (rw (← n, assigned s depots stop a x b), (b, another x b n))

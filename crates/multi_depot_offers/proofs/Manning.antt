@@ -1,39 +1,31 @@
--- The search for a vehicle of a depot: it goes on, stops, or ends. Assumes nothing.
-use mathlib.Core.Path.{◌≡◌}
-use Prim.Native.Nat.{ℕ, suc, ◌+◌, ◌-◌, ◌≤◌, ◌<◌}
-use native.Mathlib.Nat.{sub-zero}
-use native.Mathlib.Omega.{arith}
-use mathlib.Core.Bool.{Bool, true, false}
+-- Whether a depot has a vehicle, said of the vehicles one after another. Assumes nothing.
+use mathlib.Core.Path.{◌≡◌, refl}
+use Prim.Native.Nat.{ℕ, zero, suc, ◌+◌, ◌≤◌}
+use mathlib.Core.Bool.{Bool, true, false, ◌||◌}
 use mathlib.Core.List.{List}
 use lib.Dec.{eqb}
-use borrow.Author.Tests.{eq-eqb, ne_eqb}
-use Rattle.lists.specs.Filter.{filtered}
+use lib.ListN.{length}
+use Rattle.std.specs.List.{list_any, range_with_len}
+use Rattle.lists.specs.Filter.{keep_if, filtered}
+use Rattle.lists.specs.Laws.Filter.{those_few}
 use Rattle.sheet.specs.Fields.{vehicles_of}
 use Rattle.sheet.specs.Values.{vehicle_of}
 use Rattle.sheet.specs.Fleet.{fleet_of}
 use Rattle.multi_depot_offers.specs.ByDepot.{has_any, has_vehicle}
 
--- among the vehicles from v on
-abbrev pub some_from : List ℕ → ℕ → ℕ → Bool
-some_from s depot v = has_any (filtered (λ v. eqb (vehicle_of s v).depot depot) (vehicles_of s - v) v)
+any_filtered : (p : ℕ → Bool) (n i : ℕ) → list_any p (range_with_len i n) ≡ has_any (filtered p n i)
+unfolding filtered
+any_filtered p zero i = refl
+any_filtered p (suc n) i = go (p i) (any_filtered p n (i + 1))
+  where
+    go : (b : Bool) → list_any p (range_with_len (i + 1) n) ≡ has_any (filtered p n (i + 1)) → (b || list_any p (range_with_len (i + 1) n)) ≡ has_any (keep_if b i (filtered p n (i + 1)))
+    go true e = refl
+    go false e = e
 
-module _ (s : List ℕ) (depot : ℕ) where
-  pub begins : has_vehicle s depot ≡ some_from s depot 0
-  unfolding has_vehicle fleet_of
-  begins = rw sub-zero
+pub any_vehicle : (s : List ℕ) (depot : ℕ) → list_any (λ (v : ℕ). eqb (vehicle_of s v).depot depot) (range_with_len 0 (vehicles_of s)) ≡ has_vehicle s depot
+unfolding has_vehicle fleet_of
+any_vehicle s depot = any_filtered (λ (v : ℕ). eqb (vehicle_of s v).depot depot) (vehicles_of s) 0
 
-  module _ (v : ℕ) where
-    left : v < vehicles_of s → vehicles_of s - v ≡ suc (vehicles_of s - (v + 1))
-    left h = omega arith
-
-    pub stops : v < vehicles_of s → (vehicle_of s v).depot ≡ depot → some_from s depot v ≡ true
-    unfolding filtered
-    stops h e = rw (left h, eq-eqb (vehicle_of s v).depot depot e)
-
-    pub goes_on : v < vehicles_of s → ((vehicle_of s v).depot ≡ depot → ⊥) → some_from s depot v ≡ some_from s depot (v + 1)
-    unfolding filtered
-    goes_on h e = rw (left h, ne_eqb (vehicle_of s v).depot depot e)
-
-    pub ends : vehicles_of s ≤ v → some_from s depot v ≡ false
-    unfolding filtered
-    ends h = let e : vehicles_of s - v ≡ 0 = omega arith in rw e
+pub fleet_small : (s : List ℕ) (depot : ℕ) → length (fleet_of s depot) ≤ vehicles_of s
+unfolding fleet_of
+fleet_small s depot = those_few (λ v. eqb (vehicle_of s v).depot depot) (vehicles_of s) 0

@@ -1,92 +1,71 @@
 // The depots that a stop is offered to, nearest first.
-ghost use Rattle.std.specs.Prelude.{◌≡◌, ◌||◌, ◌<◌};
-ghost use Rattle.sheet.specs.Accepted.{Accepted};
+ghost use Rattle.std.specs.Prelude.{◌≡◌, ◌||◌, ◌<◌, ℕ, Option, IfSome, unwrap_or};
+ghost use Rattle.std.specs.Option.{ForSome};
 ghost use Rattle.sheet.specs.Fields.{rows_of};
 ghost use Rattle.multi_depot_offers.specs.ByDepot.{has_vehicle, is_no_depot, sooner, asked_after, nearer, next_depot};
 ghost use Rattle.multi_depot_offers.specs.Promises.{RowAsked};
 
-use sheet::{matrix, vehicle};
+use sheet::Sheet;
 
 // Whether a depot has a vehicle.
-fn has_vehicle(sheet: &[u8], depot: usize) -> bool
-    requires { Accepted sheet.now }
+fn has_vehicle(sheet: &Sheet, depot: usize) -> bool
     ensures { result ≡ has_vehicle sheet.now depot }
 {
-    for v in 0..sheet::vehicles(sheet) {
-        let vehicle = vehicle::vehicle_at(sheet, v);
-        if vehicle.depot as usize == depot {
-            return true;
-        }
-    }
-    false
+    (0..sheet.vehicles()).any(|v| sheet.vehicle_at(v).depot as usize == depot)
 }
 
 // Whether the stop is nearer to depot d than to depot e; a tie goes to the lower.
-fn is_sooner(sheet: &[u8], stop: usize, d: usize, e: usize) -> bool
-    requires accepted { Accepted sheet.now }
-    requires stop_bound { (stop < rows_of sheet.now) × ((d < rows_of sheet.now) × (e < rows_of sheet.now)) }
+#[tactic(auto, unfolding(crate::specs::ByDepot::sooner))]
+fn is_sooner(sheet: &Sheet, stop: usize, d: usize, e: usize) -> bool
+    requires { (stop < rows_of sheet.now) × ((d < rows_of sheet.now) × (e < rows_of sheet.now)) }
     ensures { result ≡ sooner sheet.now stop d e }
 {
-    let here = matrix::distance(sheet, d, stop);
-    let there = matrix::distance(sheet, e, stop);
-    if here < there {
-        return true;
-    }
-    if here == there {
-        return d < e;
-    }
-    false
+    let here = sheet.distance(d, stop);
+    let there = sheet.distance(e, stop);
+    here < there || here == there && d < e
 }
 
-// Whether depot d is asked after depot `after`, or at all where that is none of the `depots`.
-fn is_asked(sheet: &[u8], depots: usize, stop: usize, after: usize, d: usize) -> bool
+// Whether depot d is asked: it has a vehicle, and is no nearer than `after`, if any.
+#[tactic(auto, using(crate::proofs::Asking::depot_row), unfolding(crate::specs::ByDepot::asked_after))]
+fn is_asked(sheet: &Sheet, depots: usize, stop: usize, after: Option<usize>, d: usize) -> bool
     requires row_asked { RowAsked sheet.now depots stop }
+    requires after_bound { ForSome after (λ a. a < depots) }
     requires d_lt_depots { d < depots }
-    ensures { result ≡ asked_after sheet.now stop after d }
+    ensures { result ≡ asked_after sheet.now stop (unwrap_or after depots) d }
 {
-    if depots <= after {
+    let Some(after) = after else {
         return has_vehicle(sheet, d);
-    }
-    if !is_sooner(sheet, stop, after, d) {
-        return false;
-    }
-    has_vehicle(sheet, d)
+    };
+    is_sooner(sheet, stop, after, d) && has_vehicle(sheet, d)
 }
 
 // Whether depot d is nearer than the nearest so far.
-fn wins(sheet: &[u8], depots: usize, stop: usize, d: usize, best: usize) -> bool
+#[tactic(auto, using(crate::proofs::Asking::depot_row))]
+fn wins(sheet: &Sheet, depots: usize, stop: usize, d: usize, best: Option<usize>) -> bool
     requires row_asked { RowAsked sheet.now depots stop }
+    requires best_bound { ForSome best (λ b. b < depots) }
     requires d_lt_depots { d < depots }
-    ensures { result ≡ (is_no_depot sheet.now best || sooner sheet.now stop d best) }
+    ensures { result ≡ (is_no_depot sheet.now (unwrap_or best depots) || sooner sheet.now stop d (unwrap_or best depots)) }
 {
-    if depots <= best {
+    let Some(best) = best else {
         return true;
-    }
+    };
     is_sooner(sheet, stop, d, best)
 }
 
-fn nearer(sheet: &[u8], depots: usize, stop: usize, after: usize, best: usize, d: usize) -> usize
+// The nearest depot with a vehicle after `after`, or of all where that is none.
+pub fn next_depot(sheet: &Sheet, depots: usize, stop: usize, after: Option<usize>) -> Option<usize>
     requires row_asked { RowAsked sheet.now depots stop }
-    requires d_lt_depots { d < depots }
-    ensures { result ≡ nearer sheet.now stop after best d }
+    requires after_bound { ForSome after (λ a. a < depots) }
+    ensures value { unwrap_or result depots ≡ next_depot sheet.now stop (unwrap_or after depots) }
+    ensures bound { IfSome result (λ d. d < depots) }
 {
-    if !wins(sheet, depots, stop, d, best) {
-        return best;
-    }
-    if !is_asked(sheet, depots, stop, after, d) {
-        return best;
-    }
-    d
-}
-
-// The nearest depot with a vehicle after `after`, or `depots` where there is none.
-pub fn next_depot(sheet: &[u8], depots: usize, stop: usize, after: usize) -> usize
-    requires { RowAsked sheet.now depots stop }
-    ensures { result ≡ next_depot sheet.now stop after }
-{
-    let mut best = depots;
+    let mut best = None;
+    // Over numbers: a depot is a row of the sheet, and no slice stands behind it.
     for d in 0..depots {
-        best = nearer(sheet, depots, stop, after, best, d);
+        if wins(sheet, depots, stop, d, best) && is_asked(sheet, depots, stop, after, d) {
+            best = Some(d);
+        }
     }
     best
 }

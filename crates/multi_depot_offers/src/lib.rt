@@ -1,22 +1,24 @@
 // Rounds of offers: where each row goes at first, and where it goes once it is turned down.
 #![tactic(auto)]
 
-ghost use Rattle.std.specs.Prelude.{◌≡◌, false, ℕ, ◌≤◌, ◌<◌, length, get_or, replicate};
+ghost use Rattle.std.specs.Prelude.{◌≡◌, ◌≢◌, false, ℕ, ◌≤◌, ◌<◌, length, get_or, replicate, Option, IfSome, unwrap_or};
 ghost use Rattle.constructive.specs.Members.{part};
 ghost use Rattle.constructive.specs.Marks.{Marks, marked_by};
 ghost use Rattle.multi_depot_offers.specs.ByDepot.{planned_at, moves_to, after_offers, moved, first_depots};
 ghost use Rattle.multi_depot_offers.specs.Promises.{RowAsked, Offering, Cleared, Alike};
 
+use sheet::Sheet;
+
 mod depots;
 pub mod members;
 
-// Every row at its nearest depot with a vehicle.
-pub fn first_at(sheet: &[u8], depots: usize, at: &mut [u16])
+// Every row at its nearest depot with a vehicle; the table, in fixed memory, has the number of depots for none.
+pub fn first_at(sheet: &Sheet, depots: usize, at: &mut [u16])
     requires { Offering sheet.now depots at.old }
     ensures { at.new ≡ first_depots sheet.now }
 {
-    for row in 0..at.len() {
-        at[row] = depots::next_depot(sheet, depots, row, depots) as u16;
+    for (row, home) in at.iter_mut().enumerate() {
+        *home = depots::next_depot(sheet, depots, row, None).unwrap_or(depots) as u16;
     }
 }
 
@@ -25,11 +27,10 @@ pub fn clear(at: &[u16], marks: &mut [u16], depot: usize)
     requires { length at.now ≤ length marks.old }
     ensures { Cleared at.now marks.old depot marks.new }
 {
-    for row in 0..at.len() {
-        if at[row] as usize != depot {
-            continue;
+    for (row, &home) in at.iter().enumerate() {
+        if home as usize == depot {
+            marks[row] = 0;
         }
-        marks[row] = 0;
     }
 }
 
@@ -39,53 +40,35 @@ pub fn is_changed(before: &[u16], at: &[u16], depot: usize) -> bool
     requires { length before.now ≡ length at.now }
     ensures { result ≡ false → Alike before.now at.now depot }
 {
-    for row in 0..at.len() {
-        let was = before[row] as usize;
-        let is = at[row] as usize;
-        if was == is {
-            continue;
-        }
-        if was == depot {
-            return true;
-        }
-        if is == depot {
-            return true;
-        }
-    }
-    false
+    before.iter().zip(at).any(|(&was, &is)| (was as usize == depot) != (is as usize == depot))
 }
 
-// The depot of a row after an offer: a stop turned down goes to its next depot, where there is one.
-fn moves_to(sheet: &[u8], depots: usize, turned: bool, row: usize, depot: usize) -> usize
+// The depot that a row at `depot` moves to: a stop turned down goes to its next depot, where there is one.
+fn moves_to(sheet: &Sheet, depots: usize, turned: bool, row: usize, depot: usize) -> Option<usize>
     requires { RowAsked sheet.now depots row }
-    ensures { result ≡ moves_to sheet.now turned row depot }
+    ensures value { unwrap_or result depot ≡ moves_to sheet.now turned row depot }
+    ensures another { IfSome result (λ d. (d < depots) × (d ≢ depot)) }
 {
     if !turned {
-        return depot;
+        return None;
     }
-    let next = depots::next_depot(sheet, depots, row, depot);
-    if depots <= next {
-        return depot;
-    }
-    next
+    depots::next_depot(sheet, depots, row, (depot < depots).then_some(depot))
 }
 
 // Offers every stop turned down to its next depot; answers whether one has moved.
-pub fn offer(sheet: &[u8], depots: usize, at: &mut [u16], marks: &[u16]) -> bool
+pub fn offer(sheet: &Sheet, depots: usize, at: &mut [u16], marks: &[u16]) -> bool
     requires offering { Offering sheet.now depots at.old }
     requires marks { Marks sheet.now marks.now (planned_at sheet.now at.old).aside }
     ensures value { result ≡ moved at.old (after_offers sheet.now at.old) }
     ensures at_after { at.new ≡ after_offers sheet.now at.old }
 {
     let mut any = false;
-    for row in 0..at.len() {
-        let here = at[row] as usize;
-        let next = moves_to(sheet, depots, marks[row] == 1, row, here);
-        if next == here {
-            continue;
+    for (row, home) in at.iter_mut().enumerate() {
+        let here = *home as usize;
+        if let Some(next) = moves_to(sheet, depots, marks[row] == 1, row, here) {
+            *home = next as u16;
+            any = true;
         }
-        at[row] = next as u16;
-        any = true;
     }
     any
 }

@@ -18,7 +18,8 @@ use Rattle.constructive.specs.TableContents.{HoldsOutcome}
 use Rattle.constructive.specs.Laws.TableContents.{empty, holds_none}
 use Rattle.multi_depot_offers.specs.ByDepot.{planned_of}
 use Rattle.multi_depot_offers.specs.Promises.{PlanningTables, Next}
-use Rattle.multi_depot_planning.proofs.Sharing.{Shared, length_planned}
+use Rattle.multi_depot_planning.specs.DepotLaid.{DepotLaid}
+use Rattle.multi_depot_planning.proofs.Sharing.{length_planned}
 
 zeros_members : (s : List ℕ) (n : ℕ) → n ≡ rows_of s → members_of s (replicate n 0) 0 ≡ all_stops s
 unfolding members_of
@@ -36,8 +37,8 @@ module _ {s at₀ fleet stops ends vehicles : List ℕ} (lent : PlanningTables s
   pub next_zeros : Next s at 0 empty
   next_zeros = record { home = depots_some s; rounds = omega arith; room = rw members_all (omega (arith, those_all (rows_of s - depots_of s) (depots_of s))) }
 
-  pub one_held : {stops' ends' vehicles' : List ℕ} {done : Filled} {total : ℕ} → Shared stops ends vehicles empty (planned_of s 0 (members_of s at 0)) stops' ends' vehicles' done total → HoldsOutcome stops' ends' vehicles' done (rows_of s - depots_of s) (planned_of s 0 (all_stops s))
+  pub one_held : {stops' ends' vehicles' : List ℕ} {done : Filled} {total : ℕ} → DepotLaid stops ends vehicles empty (planned_of s 0 (members_of s at 0)) stops' ends' vehicles' done total → HoldsOutcome stops' ends' vehicles' done (rows_of s - depots_of s) (planned_of s 0 (all_stops s))
   one_held {stops'} {ends'} {vehicles'} {done} {total} h =
-      let k : Shared stops ends vehicles empty (planned_of s 0 (all_stops s)) stops' ends' vehicles' done total = rw members_all at h in
+      let k : DepotLaid stops ends vehicles empty (planned_of s 0 (all_stops s)) stops' ends' vehicles' done total = rw members_all at h in
       let n : total ≡ rows_of s - depots_of s = omega (arith, k.count, length_planned s 0 (all_stops s), those_all (rows_of s - depots_of s) (depots_of s)) in
       subst (λ (m : ℕ). HoldsOutcome stops' ends' vehicles' done m (planned_of s 0 (all_stops s))) n (record { holds = k.holds [] (holds_none stops ends vehicles); from = k.from; within = k.within; aside = k.aside })

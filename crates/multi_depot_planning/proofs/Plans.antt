@@ -30,7 +30,7 @@ use Rattle.multi_depot_offers.specs.ByDepot.{planned_of, planned_upto}
 use Rattle.multi_depot_offers.specs.Laws.Once.{planned_keeps, one_more, upto_count}
 use Rattle.multi_depot_offers.specs.Laws.Rounds.{upto_routed}
 use Rattle.multi_depot_offers.specs.Promises.{PlanningTables, Next, Added, Planned}
-use Rattle.multi_depot_planning.proofs.Sharing.{Shared}
+use Rattle.multi_depot_planning.specs.DepotLaid.{DepotLaid}
 
 -- ---- room for the next members
 upto_length : (s at : List ℕ) (n : ℕ) → length (stops_of (planned_upto s at n)) ≡ length (stops_with s (λ c. ltb (get_or at c 0) n))
@@ -74,7 +74,7 @@ aside_known s at marks d l k h = omega (arith, aside_row s at d k h)
 
 -- ---- a depot laid down, and its stops set aside marked
 module _ (s at marks : List ℕ) (d : ℕ) (long : rows_of s ≤ length marks)
-    {stops ends vehicles : List ℕ} {f : Filled} {stops' ends' vehicles' : List ℕ} {done : Filled} {total : ℕ} (laid : Shared stops ends vehicles f (planned_of s d (members_of s at d)) stops' ends' vehicles' done total) where
+    {stops ends vehicles : List ℕ} {f : Filled} {stops' ends' vehicles' : List ℕ} {done : Filled} {total : ℕ} (laid : DepotLaid stops ends vehicles f (planned_of s d (members_of s at d)) stops' ends' vehicles' done total) where
   -- the stops that are to be marked
   pub turned_known : (k : ℕ) → done.routed ≤ k → k < total → get_or stops' k 0 < length marks
   turned_known k l h =
@@ -85,11 +85,6 @@ module _ (s at marks : List ℕ) (d : ℕ) (long : rows_of s ≤ length marks)
 
   pub adds : {marks' : List ℕ} → marks' ≡ marked_by marks (part stops' done.routed total) → Added marks stops ends vehicles f (planned_of s d (members_of s at d)) marks' stops' ends' vehicles' done
   adds marked = record { holds = laid.holds; turned = marked ∙ ap (marked_by marks) laid.aside }
-
-  -- without members none is
-  pub adds_none : total ≡ done.routed → Added marks stops ends vehicles f (planned_of s d (members_of s at d)) marks stops' ends' vehicles' done
-  unfolding marked_by
-  adds_none e = let z : total - done.routed ≡ 0 = omega arith in adds (rw z)
 
 -- ---- behind the depots before it
 pub planned_more : {s : List ℕ} (at : List ℕ) {marks stops ends vehicles : List ℕ} (d : ℕ) {f : Filled} {marks' stops' ends' vehicles' : List ℕ} {done : Filled} → Planned s marks stops ends vehicles f (planned_upto s at d)

@@ -30,14 +30,7 @@ use Rattle.multi_depot_offers.specs.ByDepot.{construct_of, planned_of}
 use Rattle.multi_depot_offers.specs.Laws.Once.{planned_keeps}
 use Rattle.multi_depot_offers.specs.Laws.Rounds.{planned_routed}
 use Rattle.multi_depot_offers.specs.Promises.{PlanningTables, Ready, Next, construct_at}
-
--- a depot's outcome behind the rounds that the tables held: how far they are filled with it, and where its stops set aside end
-pub record Shared (stops ends vehicles : List ℕ) (f : Filled) (o : Outcome) (stops' ends' vehicles' : List ℕ) (done : Filled) (total : ℕ) : Type 0 where
-  pub holds : (rounds : List Round) → HoldsRounds stops ends vehicles f rounds → HoldsRounds stops' ends' vehicles' done (rounds ++ o.rounds)
-  pub count : total ≡ f.routed + length (stops_of o)
-  pub from : done.routed ≤ total
-  pub within : total ≤ length stops'
-  pub aside : part stops' done.routed total ≡ o.aside
+use Rattle.multi_depot_planning.specs.DepotLaid.{DepotLaid}
 
 -- ---- what is written stands there
 pub part_there : (s : List ℕ) (at : ℕ) (xs : List ℕ) → at + length xs ≤ length s → part (write s at xs) at (at + length xs) ≡ xs
@@ -89,7 +82,7 @@ module _ {s at fleet stops ends vehicles : List ℕ} {depot : ℕ} {f : Filled} 
         go [] h = refl
         go (m ∷ ms) h = absurd (omega arith)
 
-    pub none_shared : total ≡ f.routed → Shared stops ends vehicles f (planned_of s depot (members_of s at depot)) stops₁ ends vehicles f total
+    pub none_shared : total ≡ f.routed → DepotLaid stops ends vehicles f (planned_of s depot (members_of s at depot)) stops₁ ends vehicles f total
     unfolding chains
     none_shared e = rw (unassigned e) (record {
       holds = λ rounds h. rw (append-nil rounds) (still rounds h);
@@ -152,7 +145,7 @@ module _ {s at fleet stops ends vehicles : List ℕ} {depot : ℕ} {f : Filled} 
             rw (filled_so, m, laid_so.stopped, ← length_routed o.rounds, chains_aside o.rounds o.aside)
             (part_write stops₁ f.routed (chains o.rounds []) o.aside (rw (chains_aside o.rounds o.aside) at fits))
 
-        pub shares : Shared stops ends vehicles f o stops₂ ends₂ vehicles₂ done total
+        pub shares : DepotLaid stops ends vehicles f o stops₂ ends₂ vehicles₂ done total
         shares = record {
           holds = λ rounds h. rw filled_so (holds_more stops₁ ends vehicles f rounds (still rounds h) o stops₂ ends₂ vehicles₂ laid_so fits
               (omega (arith, planned_routed s depot (members_of s at depot), all, parts, next.rounds, next.room, lent.ended))

@@ -9,12 +9,47 @@ ghost use Rattle.constructive.specs.TableContents.{HoldsOutcome};
 ghost use Rattle.constructive.specs.Members.{members_of};
 ghost use Rattle.multi_depot_offers.specs.ByDepot.{planned_of, planned_at};
 ghost use Rattle.multi_depot_offers.specs.Promises.{PlanningTables, Next, Added, Planned};
+ghost use Rattle.multi_depot_planning.specs.DepotLaid.{DepotLaid};
 
 use constructive::tables::Filled;
+use sheet::Sheet;
 
-// A depot with its members, which no other has; without any it is not planned. The stops that it turns down are marked.
+// A depot with its members, which no other has, behind the rounds that the tables hold; without any it is not planned. Told
+// with how far the tables are filled is where the stops that it turns down end.
+fn lay_depot(
+    sheet: &Sheet,
+    at: &[u16],
+    fleet: &mut [u16],
+    stops: &mut [u16],
+    ends: &mut [u16],
+    vehicles: &mut [u16],
+    depot: usize,
+    filled: Filled,
+) -> (Filled, usize)
+    requires planning_tables { PlanningTables sheet.now at.now fleet.old stops.old ends.old vehicles.old }
+    requires next { Next sheet.now at.now depot filled }
+    ensures { DepotLaid stops.old ends.old vehicles.old filled (planned_of sheet.now depot (members_of sheet.now at.now depot)) stops.new ends.new vehicles.new result.0 result.1 }
+{
+    let from = filled.routed;
+    let total = constructive::members::members_of(sheet, at, depot, stops, from);
+    if total == from {
+        return (filled, total);
+    }
+    if multi_depot_methods::saves_many(sheet.method(), total - from) {
+        let saved = multi_depot_methods::by_savings(
+            sheet, depot, fleet, stops, ends, vehicles, filled, total,
+        );
+        return (saved, total);
+    }
+    let done = multi_depot_methods::construct(
+        sheet, depot, fleet, stops, ends, vehicles, filled, total,
+    );
+    (done, total)
+}
+
+// The same with the stops that it turns down marked.
 pub fn plan_depot(
-    sheet: &[u8],
+    sheet: &Sheet,
     at: &[u16],
     marks: &mut [u16],
     fleet: &mut [u16],
@@ -28,28 +63,14 @@ pub fn plan_depot(
     requires next { Next sheet.now at.now depot filled × (rows_of sheet.now ≤ length marks.old) }
     ensures { Added marks.old stops.old ends.old vehicles.old filled (planned_of sheet.now depot (members_of sheet.now at.now depot)) marks.new stops.new ends.new vehicles.new result }
 {
-    let from = filled.routed;
-    let total = constructive::members::members_of(sheet, at, depot, stops, from);
-    if total == from {
-        return filled;
-    }
-    if multi_depot_methods::saves_many(sheet, total - from) {
-        let saved = multi_depot_methods::by_savings(
-            sheet, depot, fleet, stops, ends, vehicles, filled, total,
-        );
-        constructive::marks::mark(marks, stops, saved.routed, total);
-        return saved;
-    }
-    let done = multi_depot_methods::construct(
-        sheet, depot, fleet, stops, ends, vehicles, filled, total,
-    );
+    let (done, total) = lay_depot(sheet, at, fleet, stops, ends, vehicles, depot, filled);
     constructive::marks::mark(marks, stops, done.routed, total);
     done
 }
 
 // Every depot in order.
 pub fn plan_depots(
-    sheet: &[u8],
+    sheet: &Sheet,
     depots: usize,
     at: &[u16],
     marks: &mut [u16],
@@ -67,6 +88,7 @@ pub fn plan_depots(
         rounds: 0,
         routed: 0,
     };
+    // Over numbers: a depot is a row of the sheet, and no slice stands behind it.
     for depot in 0..depots {
         filled = plan_depot(
             sheet, at, marks, fleet, stops, ends, vehicles, depot, filled,
@@ -77,7 +99,7 @@ pub fn plan_depots(
 
 // One depot with every stop.
 pub fn one_depot(
-    sheet: &[u8],
+    sheet: &Sheet,
     at: &mut [u16],
     fleet: &mut [u16],
     stops: &mut [u16],
@@ -92,14 +114,6 @@ pub fn one_depot(
         rounds: 0,
         routed: 0,
     };
-    let total = constructive::members::members_of(sheet, at, 0, stops, 0);
-    if total == 0 {
-        return filled;
-    }
-    if multi_depot_methods::saves_many(sheet, total) {
-        return multi_depot_methods::by_savings(
-            sheet, 0, fleet, stops, ends, vehicles, filled, total,
-        );
-    }
-    multi_depot_methods::construct(sheet, 0, fleet, stops, ends, vehicles, filled, total)
+    let (done, _) = lay_depot(sheet, at, fleet, stops, ends, vehicles, 0, filled);
+    done
 }

@@ -10,10 +10,11 @@ ghost use Rattle.multi_depot_offers.specs.Promises.{PlanningTables};
 ghost use Rattle.multi_depot_settling.specs.Promises.{MarksUpdated, Untouched};
 
 use constructive::tables::Filled;
+use sheet::Sheet;
 
 // A depot planned anew, from the start of the tables on: only its marks are needed.
 fn update_marks(
-    sheet: &[u8],
+    sheet: &Sheet,
     at: &[u16],
     marks: &mut [u16],
     fleet: &mut [u16],
@@ -38,7 +39,7 @@ fn update_marks(
 
 // The marks after an offer. A depot whose members are the same turns the same ones down, so that it is not planned.
 fn update_changed(
-    sheet: &[u8],
+    sheet: &Sheet,
     depots: usize,
     before: &[u16],
     at: &[u16],
@@ -53,6 +54,7 @@ fn update_changed(
     requires marks { Marks sheet.now marks.old (planned_at sheet.now before.now).aside }
     ensures { Marks sheet.now marks.new (planned_at sheet.now at.now).aside }
 {
+    // Over numbers: a depot is a row of the sheet, and no slice stands behind it.
     for depot in 0..depots {
         if !multi_depot_offers::is_changed(before, at, depot) {
             continue;
@@ -64,7 +66,7 @@ fn update_changed(
 // Offers until no stop moves: each that moves one lowers the attempts left. Answers whether one has moved; what the tables held
 // is lost then.
 pub fn settle(
-    sheet: &[u8],
+    sheet: &Sheet,
     depots: usize,
     before: &mut [u16],
     at: &mut [u16],

@@ -29,7 +29,8 @@ use Rattle.nearest_neighbor_choice.specs.StopChoice.{StopChoice}
 use Rattle.nearest_neighbor_choice.specs.declared.partial.Partial.{Partial}
 use Rattle.nearest_neighbor_choice.specs.Heuristic.{Heuristic, Nearest, NearestTw, ignores_due, offer_by, clock_by}
 use Rattle.nearest_neighbor_choice.specs.Choice.{Offer, better_stop, choose, Trip, empty_trip as setOff}
-use Rattle.nearest_neighbor_choice.specs.Offers.{allows, there_and_home, nearest_offer, arrival_at, service_start, is_first, window_offer}
+use Rattle.evaluation_clock.specs.Window.{service_start}
+use Rattle.nearest_neighbor_choice.specs.Offers.{allows, there_and_home, nearest_offer, arrival_at, is_first, window_offer}
 use Rattle.nearest_neighbor.specs.Nearest.{nearest_onward, nearest_limits, window_onward}
 use Rattle.nearest_neighbor_choice.specs.Partial.{pushed_by, allows_by, empty_partial, nearest_by, window_by, ClockKept, PartialRoute}
 use Rattle.nearest_neighbor.specs.Heuristic.{limits_by, rule_of, onward_by}

@@ -7,7 +7,8 @@ use Rattle.evaluation.specs.declared.limits.RouteLimits.{RouteLimits}
 use Rattle.evaluation.specs.Checks.{has_soft_windows}
 use Rattle.constructive.specs.Outcome.{Outcome}
 use Rattle.nearest_neighbor_choice.specs.Choice.{Trip}
-use Rattle.nearest_neighbor_choice.specs.Offers.{nearest_offer, arrival_at, service_start, window_offer}
+use Rattle.evaluation_clock.specs.Window.{service_start}
+use Rattle.nearest_neighbor_choice.specs.Offers.{nearest_offer, arrival_at, window_offer}
 use Rattle.nearest_neighbor.specs.Greedy.{Rule, greedy}
 use Rattle.sheet.specs.declared.vehicle.VehicleBreak.{VehicleBreak}
 

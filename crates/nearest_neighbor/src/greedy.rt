@@ -1,7 +1,6 @@
 // What both nearest neighbours share: each vehicle in turn grows one round by the best stop left.
 ghost use Rattle.std.specs.Prelude.{◌≡◌, ◌++◌, ◌+◌, ◌<◌, length};
 ghost use Rattle.wire.specs.Bytes.{write};
-ghost use Rattle.sheet.specs.Accepted.{Accepted};
 ghost use Rattle.sheet.specs.Fields.{rows_of, vehicles_of};
 ghost use Rattle.sheet.specs.Values.{vehicle_of};
 ghost use Rattle.constructive.specs.Stored.{Stored, Room, filled_by};
@@ -17,12 +16,11 @@ use evaluation::limits::RouteLimits;
 use nearest_neighbor_choice::partial::Partial;
 use nearest_neighbor_choice::rule::Rule;
 use nearest_neighbor_choice::{partial, rule};
+use sheet::Sheet;
 use sheet::vehicle::Vehicle;
-use sheet::{customer, matrix, vehicle};
 
 // What the rounds of the vehicle at `index` are held to.
-fn limits_for<R: Rule>(sheet: &[u8], rule: R, vehicle: Vehicle, index: usize) -> RouteLimits
-    requires accepted { Accepted sheet.now }
+fn limits_for<R: Rule>(sheet: &Sheet, rule: R, vehicle: Vehicle, index: usize) -> RouteLimits
     requires index_bound { (index < vehicles_of sheet.now) × (0 < rows_of sheet.now) }
     requires vehicle_value { vehicle ≡ vehicle_of sheet.now index }
     ensures { result ≡ limits_by sheet.now (R.which rule) index }
@@ -34,7 +32,7 @@ fn limits_for<R: Rule>(sheet: &[u8], rule: R, vehicle: Vehicle, index: usize) ->
 }
 
 // The round one stop further.
-fn drive_on<R: Rule>(sheet: &[u8], rule: R, partial: Partial, row: usize) -> Partial
+fn drive_on<R: Rule>(sheet: &Sheet, rule: R, partial: Partial, row: usize) -> Partial
     requires partial_route { PartialRoute sheet.now partial }
     requires row_bound { row < rows_of sheet.now }
     ensures { result ≡ onward_by sheet.now (R.which rule) partial row }
@@ -42,8 +40,8 @@ fn drive_on<R: Rule>(sheet: &[u8], rule: R, partial: Partial, row: usize) -> Par
     Partial {
         current: row,
         served: partial.served + 1,
-        load: partial.load + customer::demand(sheet, row),
-        travelled: partial.travelled + matrix::distance(sheet, partial.current, row),
+        load: partial.load + sheet.demand(row),
+        travelled: partial.travelled + sheet.distance(partial.current, row),
         clock: rule.clock_at(sheet, partial, row),
         rest: partial::pushed_by(sheet, partial.rest, row),
     }
@@ -52,7 +50,7 @@ fn drive_on<R: Rule>(sheet: &[u8], rule: R, partial: Partial, row: usize) -> Par
 // A vehicle's round of the stops from `start` to `total`: they then stand first, in order, and those that are left after
 // them. Answers where the round ends.
 fn grow_round<R: Rule>(
-    sheet: &[u8],
+    sheet: &Sheet,
     depot: usize,
     rule: R,
     index: usize,
@@ -65,7 +63,7 @@ fn grow_round<R: Rule>(
     ensures value { result ≡ start + length (vehicle_round (rule_of sheet.now depot (R.which rule) index) depot (part stops.old start total)).stops }
     ensures stops_after { stops.new ≡ write stops.old start ((vehicle_round (rule_of sheet.now depot (R.which rule) index) depot (part stops.old start total)).stops ++ (vehicle_round (rule_of sheet.now depot (R.which rule) index) depot (part stops.old start total)).left) }
 {
-    let vehicle = vehicle::vehicle_at(sheet, index);
+    let vehicle = sheet.vehicle_at(index);
     let limits = limits_for(sheet, rule, vehicle, index);
     let rest = limits.rest;
     let mut partial = partial::empty_partial(rest, depot);
@@ -92,7 +90,7 @@ fn grow_round<R: Rule>(
 
 // Lays down the rounds of the fleet over the members, which stand in `stops` from where the tables are filled up to `total`.
 pub fn lay_rounds<R: Rule>(
-    sheet: &[u8],
+    sheet: &Sheet,
     depot: usize,
     rule: R,
     fleet: &[u16],

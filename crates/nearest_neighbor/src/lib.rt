@@ -12,11 +12,12 @@ ghost use Rattle.nearest_neighbor.specs.Nearest.{nearest_neighbor, nearest_neigh
 use constructive::tables::Filled;
 use nearest_neighbor_choice::nearest::NearestNeighbor;
 use nearest_neighbor_choice::nn_tw::NearestNeighborTw;
+use sheet::Sheet;
 
 // The members stand in `stops` from where the tables are filled up to `total`, ascending; the fleet is the depot's vehicles.
 // Answers how far the tables are filled with the rounds; the stops set aside stand after them, up to `total`.
 pub fn nearest_neighbor(
-    sheet: &[u8],
+    sheet: &Sheet,
     depot: usize,
     fleet: &[u16],
     stops: &mut [u16],
@@ -46,7 +47,7 @@ pub fn nearest_neighbor(
 
 // The same with windows.
 pub fn nearest_neighbor_tw(
-    sheet: &[u8],
+    sheet: &Sheet,
     depot: usize,
     fleet: &[u16],
     stops: &mut [u16],

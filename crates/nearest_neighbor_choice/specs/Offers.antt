@@ -6,7 +6,7 @@ use Rattle.sheet.specs.declared.customer.Gate.{Gate}
 use Rattle.sheet.specs.declared.customer.Gate.TheVariants.{Open, Hard, Soft}
 use Rattle.sheet.specs.declared.vehicle.Vehicle.{Vehicle}
 use Rattle.evaluation_clock.specs.Sums.{◌⊕◌, ◌⊖◌, ◌⊗◌}
-use Rattle.evaluation_clock.specs.Window.{waiting_of, lateness_of}
+use Rattle.evaluation_clock.specs.Window.{lateness_of, service_start}
 use Rattle.evaluation.specs.Limits.{allow_of}
 use Rattle.evaluation.specs.declared.limits.RouteLimits.{RouteLimits}
 use Rattle.evaluation.specs.Feasible.{route_feasible, effective_cost}
@@ -49,12 +49,6 @@ abbrev pub late_at : Gate → Float → Float
 late_at Open arrival = nought
 late_at (Hard w) arrival = lateness_of w arrival
 late_at (Soft w penalty) arrival = lateness_of w arrival
-
--- arrival, plus the wait
-abbrev pub service_start : Gate → Float → Float
-service_start Open arrival = arrival
-service_start (Hard w) arrival = arrival ⊕ waiting_of w arrival
-service_start (Soft w penalty) arrival = arrival ⊕ waiting_of w arrival
 
 abbrev pub penalty_of : Gate → Float
 penalty_of Open = nought

@@ -15,7 +15,8 @@ use Rattle.evaluation.specs.declared.limits.RouteLimits.{RouteLimits}
 use Rattle.nearest_neighbor_choice.specs.declared.partial.Partial.{Partial}
 use Rattle.nearest_neighbor_choice.specs.declared.nn_tw.Candidate.{Candidate}
 use Rattle.nearest_neighbor_choice.specs.Choice.{Offer, Trip}
-use Rattle.nearest_neighbor_choice.specs.Offers.{trip_carries, offer_if, there_and_home, arrival_at, late_at, service_start, penalty_of, missed, marginal}
+use Rattle.evaluation_clock.specs.Window.{service_start}
+use Rattle.nearest_neighbor_choice.specs.Offers.{trip_carries, offer_if, there_and_home, arrival_at, late_at, penalty_of, missed, marginal}
 use Rattle.sheet.specs.declared.vehicle.VehicleBreak.{VehicleBreak}
 use Rattle.evaluation_clock.specs.declared.clock.BreakClock.{BreakClock}
 

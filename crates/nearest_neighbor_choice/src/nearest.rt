@@ -12,20 +12,20 @@ use crate::partial::Partial;
 use crate::rule::Rule;
 use crate::{choice, partial};
 use evaluation::limits::RouteLimits;
+use sheet::Sheet;
 use sheet::vehicle::{Vehicle, VehicleBreak};
-use sheet::{customer, matrix};
 
 // Whether the limits are kept with the row as the last stop.
-fn fits(sheet: &[u8], depot: usize, limits: RouteLimits, partial: Partial, row: usize) -> bool
+fn fits(sheet: &Sheet, depot: usize, limits: RouteLimits, partial: Partial, row: usize) -> bool
     requires partial_route { PartialRoute sheet.now partial }
     requires row_bound { (row < rows_of sheet.now) × (depot < rows_of sheet.now) }
     ensures { result ≡ allows_by sheet.now depot limits partial.rest row (there_and_home sheet.now depot (trip_of partial) row) (partial.clock ⊕ time_of sheet.now partial.current row ⊕ (stop_of sheet.now row).service ⊕ time_of sheet.now row depot) }
 {
-    let stop = customer::stop_at(sheet, row);
+    let stop = sheet.stop_at(row);
     let duration = partial.clock
-        + matrix::travel_time(sheet, partial.current, row)
+        + sheet.travel_time(partial.current, row)
         + stop.service
-        + matrix::travel_time(sheet, row, depot);
+        + sheet.travel_time(row, depot);
     partial::allows(sheet, depot, limits, partial, row, duration)
 }
 
@@ -42,7 +42,7 @@ impl Rule for NearestNeighbor {
     // What is no nearer is not looked at further.
     fn nearer(
         self,
-        sheet: &[u8],
+        sheet: &Sheet,
         depot: usize,
         vehicle: Vehicle,
         limits: RouteLimits,
@@ -52,7 +52,7 @@ impl Rule for NearestNeighbor {
         row: u16,
     ) -> StopChoice {
         let at = row as usize;
-        let distance = matrix::distance(sheet, partial.current, at);
+        let distance = sheet.distance(partial.current, at);
         if choice::wins(distance, best)
             && partial::carries(sheet, vehicle, partial, at)
             && fits(sheet, depot, limits, partial, at)
@@ -63,8 +63,8 @@ impl Rule for NearestNeighbor {
     }
 
     // It grows by the leg and the service, summed first.
-    fn clock_at(self, sheet: &[u8], partial: Partial, row: usize) -> f64 {
-        let stop = customer::stop_at(sheet, row);
-        partial.clock + (matrix::travel_time(sheet, partial.current, row) + stop.service)
+    fn clock_at(self, sheet: &Sheet, partial: Partial, row: usize) -> f64 {
+        let stop = sheet.stop_at(row);
+        partial.clock + (sheet.travel_time(partial.current, row) + stop.service)
     }
 }

@@ -4,7 +4,7 @@ ghost use Rattle.sheet.specs.Fields.{rows_of};
 ghost use Rattle.sheet.specs.Values.{stop_of};
 ghost use Rattle.evaluation_clock.specs.Sums.{◌⊕◌};
 ghost use Rattle.nearest_neighbor_choice.specs.Choice.{better_stop};
-ghost use Rattle.nearest_neighbor_choice.specs.Offers.{late_at, service_start, penalty_of, missed, arrival_at, marginal};
+ghost use Rattle.nearest_neighbor_choice.specs.Offers.{late_at, penalty_of, missed, arrival_at, marginal};
 ghost use Rattle.nearest_neighbor_choice.specs.Heuristic.{NearestTw as window_rule};
 ghost use Rattle.nearest_neighbor_choice.specs.Partial.{trip_of, partial_too_dear, candidate_of, takes_by, window_by, window_clock, PartialRoute};
 
@@ -16,7 +16,7 @@ use evaluation::limits::RouteLimits;
 use evaluation_clock::window;
 use sheet::customer::Gate;
 use sheet::vehicle::{Vehicle, VehicleBreak};
-use sheet::{customer, matrix, vehicle};
+use sheet::{Sheet, vehicle};
 
 // By how much an arrival is late, whatever the window costs.
 fn late_at(gate: Gate, arrival: f64) -> f64
@@ -24,19 +24,7 @@ fn late_at(gate: Gate, arrival: f64) -> f64
 {
     match gate {
         Gate::Open => 0.0,
-        Gate::Hard(w) => window::lateness(w, arrival),
-        Gate::Soft(w, _) => window::lateness(w, arrival),
-    }
-}
-
-// Arrival, plus the wait.
-fn start_at(gate: Gate, arrival: f64) -> f64
-    ensures { result ≡ service_start gate arrival }
-{
-    match gate {
-        Gate::Open => arrival,
-        Gate::Hard(w) => arrival + window::waiting(w, arrival),
-        Gate::Soft(w, _) => arrival + window::waiting(w, arrival),
+        Gate::Hard(w) | Gate::Soft(w, _) => window::lateness(w, arrival),
     }
 }
 
@@ -44,8 +32,7 @@ fn penalty_of(gate: Gate) -> f64
     ensures { result ≡ penalty_of gate }
 {
     match gate {
-        Gate::Open => 0.0,
-        Gate::Hard(_) => 0.0,
+        Gate::Open | Gate::Hard(_) => 0.0,
         Gate::Soft(_, penalty) => penalty,
     }
 }
@@ -55,34 +42,33 @@ fn is_missed(gate: Gate, late: f64) -> bool
     ensures { result ≡ missed gate late }
 {
     match gate {
-        Gate::Open => false,
         Gate::Hard(_) => 0.0 < late,
-        Gate::Soft(_, _) => false,
+        Gate::Open | Gate::Soft(_, _) => false,
     }
 }
 
-fn arrival_at(sheet: &[u8], partial: Partial, row: usize) -> f64
+fn arrival_at(sheet: &Sheet, partial: Partial, row: usize) -> f64
     requires partial_route { PartialRoute sheet.now partial }
     requires row_bound { row < rows_of sheet.now }
     ensures { result ≡ arrival_at sheet.now (trip_of partial) row }
 {
-    partial.clock + matrix::travel_time(sheet, partial.current, row)
+    partial.clock + sheet.travel_time(partial.current, row)
 }
 
 // What a stop adds to the round so far, with its lateness.
-fn added(sheet: &[u8], depot: usize, partial: Partial, row: usize, late_cost: f64) -> f64
+fn added(sheet: &Sheet, depot: usize, partial: Partial, row: usize, late_cost: f64) -> f64
     requires partial_route { PartialRoute sheet.now partial }
     requires row_bound { (row < rows_of sheet.now) × (depot < rows_of sheet.now) }
     ensures { result ≡ marginal sheet.now depot (trip_of partial) row late_cost }
 {
-    matrix::distance(sheet, partial.current, row) + matrix::distance(sheet, row, depot)
-        - matrix::distance(sheet, partial.current, depot)
+    sheet.distance(partial.current, row) + sheet.distance(row, depot)
+        - sheet.distance(partial.current, depot)
         + late_cost
 }
 
 // Whether the stop had better go by itself: asked where a window has a penalty, and of no round's first stop.
 fn is_too_dear(
-    sheet: &[u8],
+    sheet: &Sheet,
     depot: usize,
     vehicle: Vehicle,
     limits: RouteLimits,
@@ -113,17 +99,17 @@ pub struct Candidate {
     pub key: f64,
 }
 
-fn candidate_at(sheet: &[u8], partial: Partial, row: usize) -> Candidate
+fn candidate_at(sheet: &Sheet, partial: Partial, row: usize) -> Candidate
     requires partial_route { PartialRoute sheet.now partial }
     requires row_bound { row < rows_of sheet.now }
     ensures { result ≡ candidate_of sheet.now partial row }
 {
-    let stop = customer::stop_at(sheet, row);
+    let stop = sheet.stop_at(row);
     let gate = stop.gate;
     let arrival = arrival_at(sheet, partial, row);
     let late = late_at(gate, arrival);
     let late_cost = penalty_of(gate) * late;
-    let key = matrix::distance(sheet, partial.current, row) + late_cost;
+    let key = sheet.distance(partial.current, row) + late_cost;
     Candidate {
         arrival,
         late,
@@ -134,7 +120,7 @@ fn candidate_at(sheet: &[u8], partial: Partial, row: usize) -> Candidate
 
 // Whether the round can take the stop.
 fn takes(
-    sheet: &[u8],
+    sheet: &Sheet,
     depot: usize,
     vehicle: Vehicle,
     limits: RouteLimits,
@@ -148,18 +134,21 @@ fn takes(
     ensures { result ≡ takes_by sheet.now depot vehicle limits soft partial row seen }
 {
     let at = row as usize;
+    // Asked before the rest of the stop is read.
     if !partial::carries(sheet, vehicle, partial, at) {
         return false;
     }
-    let stop = customer::stop_at(sheet, at);
+    let stop = sheet.stop_at(at);
     let gate = stop.gate;
-    if is_missed(gate, seen.late) {
-        return false;
-    }
-    let duration = start_at(gate, seen.arrival)
-        + stop.service
-        + matrix::travel_time(sheet, at, depot);
-    partial::allows(sheet, depot, limits, partial, at, duration)
+    !is_missed(gate, seen.late)
+        && partial::allows(
+            sheet,
+            depot,
+            limits,
+            partial,
+            at,
+            window::service_start(gate, seen.arrival) + stop.service + sheet.travel_time(at, depot),
+        )
         && !is_too_dear(
             sheet,
             depot,
@@ -188,7 +177,7 @@ impl Rule for NearestNeighborTw {
     // What does not win is not looked at further.
     fn nearer(
         self,
-        sheet: &[u8],
+        sheet: &Sheet,
         depot: usize,
         vehicle: Vehicle,
         limits: RouteLimits,
@@ -207,8 +196,8 @@ impl Rule for NearestNeighborTw {
     }
 
     // Waiting counted.
-    fn clock_at(self, sheet: &[u8], partial: Partial, row: usize) -> f64 {
-        let stop = customer::stop_at(sheet, row);
-        start_at(stop.gate, arrival_at(sheet, partial, row)) + stop.service
+    fn clock_at(self, sheet: &Sheet, partial: Partial, row: usize) -> f64 {
+        let stop = sheet.stop_at(row);
+        window::service_start(stop.gate, arrival_at(sheet, partial, row)) + stop.service
     }
 }

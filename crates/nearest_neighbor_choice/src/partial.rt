@@ -7,8 +7,8 @@ ghost use Rattle.nearest_neighbor_choice.specs.Partial.{trip_of, empty_partial, 
 use evaluation::keeping;
 use evaluation::limits::RouteLimits;
 use evaluation_clock::clock::BreakClock;
+use sheet::Sheet;
 use sheet::vehicle::{Vehicle, VehicleBreak};
-use sheet::{customer, matrix};
 
 // The clock after the round so far, where the vehicle has a rest to place.
 #[derive(Clone, Copy)]
@@ -46,7 +46,7 @@ pub fn empty_partial(rest: Option<VehicleBreak>, depot: usize) -> Partial
 }
 
 // The clock driven on to `row`.
-pub fn pushed_by(sheet: &[u8], kept: Option<BreakClock>, row: usize) -> Option<BreakClock>
+pub fn pushed_by(sheet: &Sheet, kept: Option<BreakClock>, row: usize) -> Option<BreakClock>
     requires clock_kept { ClockKept sheet.now kept }
     requires row_bound { row < rows_of sheet.now }
     ensures { result ≡ pushed_by sheet.now kept row }
@@ -58,18 +58,18 @@ pub fn pushed_by(sheet: &[u8], kept: Option<BreakClock>, row: usize) -> Option<B
 }
 
 // Whether the vehicle can load what the row asks.
-pub fn carries(sheet: &[u8], vehicle: Vehicle, partial: Partial, row: usize) -> bool
+pub fn carries(sheet: &Sheet, vehicle: Vehicle, partial: Partial, row: usize) -> bool
     requires partial_route { PartialRoute sheet.now partial }
     requires row_bound { row < rows_of sheet.now }
     ensures { result ≡ partial_carries sheet.now vehicle partial row }
 {
-    partial.load + customer::demand(sheet, row) <= vehicle.capacity
+    partial.load + sheet.demand(row) <= vehicle.capacity
 }
 
 // Whether the limits are kept with the row as the last stop and no rest at home: by the clock, where there is one to keep;
 // else by the distance and the duration that are given.
 fn allows_on_way(
-    sheet: &[u8],
+    sheet: &Sheet,
     depot: usize,
     limits: RouteLimits,
     kept: Option<BreakClock>,
@@ -90,7 +90,7 @@ fn allows_on_way(
 // Whether they are kept with the rest at home, where the vehicle has one and may take it there: asked only of what is
 // turned down.
 fn allows_home(
-    sheet: &[u8],
+    sheet: &Sheet,
     depot: usize,
     limits: RouteLimits,
     kept: Option<BreakClock>,
@@ -113,7 +113,7 @@ fn allows_home(
 // Each rule judges every stop by it, so it is inlined in both.
 #[inline(always)]
 pub fn allows(
-    sheet: &[u8],
+    sheet: &Sheet,
     depot: usize,
     limits: RouteLimits,
     partial: Partial,
@@ -126,8 +126,8 @@ pub fn allows(
 {
     let kept = partial.rest;
     let distance = partial.travelled
-        + matrix::distance(sheet, partial.current, row)
-        + matrix::distance(sheet, row, depot);
+        + sheet.distance(partial.current, row)
+        + sheet.distance(row, depot);
     allows_on_way(sheet, depot, limits, kept, row, distance, duration)
         || allows_home(sheet, depot, limits, kept, row, distance)
 }

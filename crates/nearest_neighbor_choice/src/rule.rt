@@ -9,6 +9,7 @@ ghost use Rattle.nearest_neighbor_choice.specs.Partial.{PartialRoute};
 use crate::choice::StopChoice;
 use crate::partial::Partial;
 use evaluation::limits::RouteLimits;
+use sheet::Sheet;
 use sheet::vehicle::{Vehicle, VehicleBreak};
 
 // Either nearest neighbour.
@@ -23,7 +24,7 @@ pub trait Rule: Copy {
     // The better of the best so far and the stop at place j.
     fn nearer(
         self,
-        sheet: &[u8],
+        sheet: &Sheet,
         depot: usize,
         vehicle: Vehicle,
         limits: RouteLimits,
@@ -37,7 +38,7 @@ pub trait Rule: Copy {
         ensures { result ≡ better_stop best j (offer_by sheet.now depot (which self) vehicle limits partial row) };
 
     // The clock after the stop.
-    fn clock_at(self, sheet: &[u8], partial: Partial, row: usize) -> f64
+    fn clock_at(self, sheet: &Sheet, partial: Partial, row: usize) -> f64
         requires partial_route { PartialRoute sheet.now partial }
         requires row_bound { row < rows_of sheet.now }
         ensures { result ≡ clock_by sheet.now (which self) partial row };
@@ -46,7 +47,7 @@ pub trait Rule: Copy {
 // The best of the stops left that the round can take.
 pub fn nearest<R: Rule>(
     rule: R,
-    sheet: &[u8],
+    sheet: &Sheet,
     depot: usize,
     vehicle: Vehicle,
     limits: RouteLimits,

@@ -1,10 +1,9 @@
 // The plan's bytes, written from an outcome's tables.
 #![tactic(auto)]
 
-ghost use Rattle.std.specs.Prelude.{◌≡◌, ◌+◌, ◌≤◌, ◌<◌, length, drop};
+ghost use Rattle.std.specs.Prelude.{◌≡◌, ◌+◌, ◌*◌, ◌≤◌, ◌<◌, length, drop};
 ghost use Rattle.wire.specs.Bytes.{write};
-ghost use Rattle.sheet.specs.Accepted.{Sized};
-ghost use Rattle.sheet.specs.Fields.{rows_of, plan_length};
+ghost use Rattle.sheet.specs.Fields.{rows_of, plan_length, most_rows};
 ghost use Rattle.sheet.specs.Values.{vehicle_of};
 ghost use Rattle.evaluation.specs.Limits.{limits_at};
 ghost use Rattle.evaluation.specs.Routed.{Routed};
@@ -19,7 +18,7 @@ use constructive::tables;
 use evaluation::limits;
 use evaluation::limits::RouteLimits;
 use evaluator::{Placed, Progress, Record};
-use sheet::vehicle;
+use sheet::Sheet;
 use sheet::vehicle::Vehicle;
 
 mod records;
@@ -31,19 +30,18 @@ fn link(chain: &[u16], i: usize) -> u16
     if i < chain.len() { chain[i] } else { 0 }
 }
 
-// Where the record of a row stands.
-pub fn visit_place(sheet: &[u8], row: usize) -> usize
-    requires sized { Sized sheet.now }
-    requires row_bound { row < rows_of sheet.now }
-    ensures { (result ≡ row_record_at (rows_of sheet.now) row) × (result + 24 ≤ plan_length sheet.now) }
+// Where the record of a row stands in the plan of a sheet of so many rows.
+pub fn visit_place(rows: usize, row: usize) -> usize
+    requires { (rows ≤ most_rows) × (row < rows) }
+    ensures { (result ≡ row_record_at rows row) × (result + 24 ≤ 16 + 80 * rows) }
 {
-    16 + 56 * sheet::rows(sheet) + 24 * row
+    16 + 56 * rows + 24 * row
 }
 
 // One stop's visit.
 fn write_visit(
     plan: &mut [u8],
-    sheet: &[u8],
+    sheet: &Sheet,
     placed: Placed,
     progress: Progress,
     row: usize,
@@ -56,14 +54,14 @@ fn write_visit(
     ensures plan_after { plan.new ≡ write plan.old (row_record_at (rows_of sheet.now) row) (visit_bytes next result) }
 {
     let visit = progress.visited(sheet, placed, row);
-    records::put_visit(plan, visit_place(sheet, row), next, visit);
+    records::put_visit(plan, visit_place(sheet.rows(), row), next, visit);
     visit
 }
 
 // The visits of a round's stops, and what they come to.
 fn write_visits(
     plan: &mut [u8],
-    sheet: &[u8],
+    sheet: &Sheet,
     placed: Placed,
     route: &[u16],
     depot: usize,
@@ -85,7 +83,7 @@ fn write_visits(
 // A vehicle's round, counted k from 0, and its figures.
 fn write_round(
     plan: &mut [u8],
-    sheet: &[u8],
+    sheet: &Sheet,
     k: usize,
     vehicle: Vehicle,
     limits: RouteLimits,
@@ -108,7 +106,7 @@ fn write_round(
 // The round of the vehicle at `index`, and the plan's cost with it.
 fn write_priced(
     plan: &mut [u8],
-    sheet: &[u8],
+    sheet: &Sheet,
     k: usize,
     index: usize,
     route: &[u16],
@@ -120,7 +118,7 @@ fn write_priced(
     ensures value { result ≡ price_after sheet.now cost index route.now }
     ensures plan_after { plan.new ≡ with_round sheet.now k (vehicle_of sheet.now index) (limits_at sheet.now index) route.now plan.old }
 {
-    let vehicle = vehicle::vehicle_at(sheet, index);
+    let vehicle = sheet.vehicle_at(index);
     let limits = limits::limits_at(sheet, index);
     let figures = write_round(plan, sheet, k, vehicle, limits, route);
     evaluator::price_with(cost, vehicle, figures)
@@ -129,7 +127,7 @@ fn write_priced(
 // The rounds one after another, and what they cost.
 fn write_rounds(
     plan: &mut [u8],
-    sheet: &[u8],
+    sheet: &Sheet,
     stops: &[u16],
     ends: &[u16],
     vehicles: &[u16],
@@ -159,16 +157,15 @@ fn write_rounds(
 }
 
 // One stop set aside.
-fn write_link(plan: &mut [u8], sheet: &[u8], row: usize, next: u16)
-    requires sized { Sized sheet.now }
-    requires row_bound { (row < rows_of sheet.now) × (length plan.old ≡ plan_length sheet.now) }
+fn write_link(plan: &mut [u8], sheet: &Sheet, row: usize, next: u16)
+    requires { (row < rows_of sheet.now) × (length plan.old ≡ plan_length sheet.now) }
     ensures { plan.new ≡ write plan.old (row_record_at (rows_of sheet.now) row) (aside_bytes next) }
 {
-    wire::put_u16(plan, visit_place(sheet, row), next);
+    wire::put_u16(plan, visit_place(sheet.rows(), row), next);
 }
 
 // The stops set aside, and the first of them.
-fn write_aside(plan: &mut [u8], sheet: &[u8], aside: &[u16]) -> u16
+fn write_aside(plan: &mut [u8], sheet: &Sheet, aside: &[u16]) -> u16
     requires chained { Chained sheet.now aside.now }
     requires plan_len { length plan.old ≡ plan_length sheet.now }
     ensures value { result ≡ first_of aside.now }
@@ -189,7 +186,7 @@ fn cost_of(priced: bool, price: f64) -> f64
 // The plan of the outcome in the tables: `rounds` rounds, `total` stops with those set aside.
 pub fn write_plan(
     plan: &mut [u8],
-    sheet: &[u8],
+    sheet: &Sheet,
     stops: &[u16],
     ends: &[u16],
     vehicles: &[u16],
@@ -209,7 +206,7 @@ pub fn write_plan(
         plan,
         rounds as u16,
         aside,
-        sheet::rows(sheet) as u16,
+        sheet.rows() as u16,
         cost_of(priced, price),
     );
 }

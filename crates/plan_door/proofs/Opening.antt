@@ -1,6 +1,8 @@
 -- The refusals of a sheet and a plan before the plan is read, from those of the planner. Assumes nothing.
 use Rattle.std.specs.Prelude.{Option, Some, None, ℕ}
-use mathlib.Core.Path.{◌≡◌, refl, sym, ◌∙◌, subst}
+use Rattle.std.specs.Option.{ok_or}
+use Rattle.sheet.specs.declared.refusal.Refusal.{Refusal}
+use mathlib.Core.Path.{◌≡◌, refl, sym, ◌∙◌}
 use Prim.Native.Nat.{ℕ, zero, suc, ◌≤◌, ◌<◌}
 use native.Mathlib.Omega.{arith}
 use mathlib.Core.Bool.{Bool, true, false, not, ◌&&◌, ◌||◌}
@@ -16,7 +18,7 @@ use Rattle.sheet.specs.Accepted.{Accepted}
 use Rattle.sheet.specs.Laws.Accepted.{accepted}
 use Rattle.plan.specs.Read.{plan_right}
 use Rattle.plan_reader.specs.Reading.{ReaderTables, ReadRight, ReadAs}
-use Rattle.plan_door.specs.Door.{or_else, one_depot, unread_refusal, door_refusal, DoorTables, LetIn}
+use Rattle.plan_door.specs.Door.{or_else, one_depot, unread_refusal, door_refusal, DoorTables, LetIn, EntryAs}
 use Rattle.plan_door.specs.Laws.Door.{unread_open}
 
 module _ (s : List ℕ) (m : ℕ) (room one : Bool) where
@@ -73,7 +75,7 @@ module _ (s plan : List ℕ) (room one : Bool) where
       go (suc k) e = e
 
   module _ (none : 0 ≡ unread_refusal s (length plan) room one) where
-    fine : Accepted s × (length plan ≡ plan_length s)
+    pub fine : Accepted s × (length plan ≡ plan_length s)
     fine = accepted s (length plan) (unread_open s (length plan) room one (sym none)).sheet
 
     pub door_reads : (stops ends vehicles : List ℕ) → DoorTables stops ends vehicles → ReaderTables s plan stops ends vehicles
@@ -85,15 +87,13 @@ module _ (s plan : List ℕ) (room one : Bool) where
     unfolding door_refusal
     past = rw (← none) refl
 
-    pub door_wrong : plan_right s plan ≡ false → 10 ≡ door_refusal s plan room one
+    door_wrong : plan_right s plan ≡ false → 10 ≡ door_refusal s plan room one
     door_wrong h = sym (past ∙ rw h refl)
 
-    pub door_right : (stops ends vehicles : List ℕ) (k : ℕ) → ReadRight s plan stops ends vehicles k → LetIn s plan room one stops ends vehicles k
+    door_right : (stops ends vehicles : List ℕ) (k : ℕ) → ReadRight s plan stops ends vehicles k → LetIn s plan room one stops ends vehicles k
     door_right stops ends vehicles k r = record { free = past ∙ rw r.right refl; sheet = fine.0; read = r }
 
--- ---- what the reader told
-pub read_wrong : (s plan stops ends vehicles : List ℕ) (r : Option ℕ) → ReadAs s plan r stops ends vehicles → r ≡ None → plan_right s plan ≡ false
-read_wrong s plan stops ends vehicles r a e = subst (λ (x : Option ℕ). ReadAs s plan x stops ends vehicles) e a
-
-pub read_right : (s plan stops ends vehicles : List ℕ) (r : Option ℕ) (n : ℕ) → ReadAs s plan r stops ends vehicles → r ≡ Some n → ReadRight s plan stops ends vehicles n
-read_right s plan stops ends vehicles r n a e = subst (λ (x : Option ℕ). ReadAs s plan x stops ends vehicles) e a
+    -- by what the reader told
+    pub entered : (stops ends vehicles : List ℕ) (r : Option ℕ) → ReadAs s plan r stops ends vehicles → EntryAs s plan room one (ok_or r Refusal.Plan) stops ends vehicles
+    entered stops ends vehicles None h = door_wrong h
+    entered stops ends vehicles (Some n) h = door_right stops ends vehicles n h

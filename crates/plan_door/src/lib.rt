@@ -6,8 +6,8 @@ ghost use Rattle.std.specs.Prelude.{◌≡◌};
 ghost use Rattle.sheet.specs.Told.{told};
 ghost use Rattle.plan_door.specs.Door.{unread_refusal, DoorTables, EntryAs};
 
-use sheet::customer;
 use sheet::refusal::Refusal;
+use sheet::{Sheet, customer};
 
 // What is told before the plan is read. `room` says whether a further buffer has its length, `one` whether one depot is asked for.
 pub fn unread_refusal(sheet: &[u8], plan_len: usize, room: bool, one: bool) -> Result<(), Refusal>
@@ -38,8 +38,5 @@ pub fn enter(
     ensures { EntryAs sheet.now plan.now room one result stops.new ends.new vehicles.new }
 {
     unread_refusal(sheet, plan.len(), room, one)?;
-    let Some(rounds) = plan_reader::read_plan(sheet, plan, stops, ends, vehicles) else {
-        return Err(Refusal::Plan);
-    };
-    Ok(rounds)
+    plan_reader::read_plan(&Sheet::new(sheet), plan, stops, ends, vehicles).ok_or(Refusal::Plan)
 }

@@ -10,15 +10,15 @@ ghost use Rattle.plan_figures.specs.Walked.{FigureTables, FiguresIn, WalkedAs};
 
 use evaluation::limits;
 use evaluator::Record;
+use sheet::Sheet;
 use sheet::refusal::Refusal;
-use sheet::vehicle;
 
 // The figures of a round of the vehicle at `index`, from that vehicle's depot.
-fn built(sheet: &[u8], index: usize, route: &[u16]) -> Record
+fn built(sheet: &Sheet, index: usize, route: &[u16]) -> Record
     requires { RoundOf sheet.now (record { vehicle = index; stops = route.now }) }
     ensures { result ≡ built_record sheet.now (record { vehicle = index; stops = route.now }) }
 {
-    let vehicle = vehicle::vehicle_at(sheet, index);
+    let vehicle = sheet.vehicle_at(index);
     let depot = vehicle.depot as usize;
     let limits = limits::limits_at(sheet, index);
     evaluator::build_route(sheet, route, depot, limits)
@@ -26,7 +26,7 @@ fn built(sheet: &[u8], index: usize, route: &[u16]) -> Record
 
 // The distance and the duration of each round in the tables.
 fn walk_rounds(
-    sheet: &[u8],
+    sheet: &Sheet,
     stops: &[u16],
     ends: &[u16],
     vehicles: &[u16],
@@ -39,6 +39,7 @@ fn walk_rounds(
     ensures { FiguresIn sheet.now (rounds_in stops.now ends.now vehicles.now rounds 0 0) distances.new durations.new }
 {
     let mut start: usize = 0;
+    // by rounds: one stands in two tables, and its figures in two more
     for k in 0..rounds {
         let end = ends[k] as usize;
         let figures = built(sheet, vehicles[k] as usize, &stops[start..end]);
@@ -48,28 +49,7 @@ fn walk_rounds(
     }
 }
 
-// The plan's refusal, or its rounds walked, by way of tables that are lent.
-fn walk_by(
-    sheet: &[u8],
-    plan: &[u8],
-    room: bool,
-    one: bool,
-    distances: &mut [f64],
-    durations: &mut [f64],
-    stops: &mut [u16],
-    ends: &mut [u16],
-    vehicles: &mut [u16],
-) -> Result<usize, Refusal>
-    requires figure_tables { FigureTables distances.old durations.old }
-    requires door_tables { DoorTables stops.old ends.old vehicles.old }
-    ensures { WalkedAs sheet.now plan.now room one result distances.new durations.new }
-{
-    let rounds = plan_door::enter(sheet, plan, room, one, stops, ends, vehicles)?;
-    walk_rounds(sheet, stops, ends, vehicles, rounds, distances, durations);
-    Ok(rounds)
-}
-
-// The same. The tables stand here.
+// The plan's refusal, or its rounds walked. The tables stand here.
 pub fn walk_plan(
     sheet: &[u8],
     plan: &[u8],
@@ -84,15 +64,15 @@ pub fn walk_plan(
     let mut stops = [0u16; sheet::MOST_ROWS];
     let mut ends = [0u16; sheet::MOST_ROWS];
     let mut vehicles = [0u16; sheet::MOST_ROWS];
-    walk_by(
-        sheet,
-        plan,
-        room,
-        one,
+    let rounds = plan_door::enter(sheet, plan, room, one, &mut stops, &mut ends, &mut vehicles)?;
+    walk_rounds(
+        &Sheet::new(sheet),
+        &stops,
+        &ends,
+        &vehicles,
+        rounds,
         distances,
         durations,
-        &mut stops,
-        &mut ends,
-        &mut vehicles,
-    )
+    );
+    Ok(rounds)
 }

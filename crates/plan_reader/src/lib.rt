@@ -1,8 +1,7 @@
 // The plan's reader: what stands in its bytes, as an outcome's tables.
 #![tactic(auto)]
 
-ghost use Rattle.std.specs.Prelude.{◌≡◌, ℕ, ◌+◌, ◌<◌, ◌≤◌, ◌++◌, T, length, take, get_or};
-ghost use Rattle.sheet.specs.Accepted.{Sized};
+ghost use Rattle.std.specs.Prelude.{◌≡◌, ℕ, IfSome, unwrap_or, ◌+◌, ◌<◌, ◌≤◌, ◌++◌, T, length, take, get_or};
 ghost use Rattle.sheet.specs.Depots.{depots_of};
 ghost use Rattle.sheet.specs.Fields.{rows_of, vehicles_of, vehicle_at, id_field, plan_length, most_rows};
 ghost use Rattle.sheet.specs.Fleet.{index_of};
@@ -11,59 +10,49 @@ ghost use Rattle.plan.specs.Read.{rounds_at, next_at, chain_of};
 ghost use Rattle.plan_reader.specs.Reading.{stop_count, ReaderTables, ReadAs};
 ghost use Rattle.plan_reader.specs.Chains.{FollowedAs, RoundsRead, RoundsAs, ChainsAs, SingleAs};
 
-use sheet::customer;
+use sheet::Sheet;
 
-// What reading finds: a number of rounds in the tables, or a plan that refusal 10 is told of.
-// Where a chain ends in the table of stops, or that it breaks.
-fn id_at(sheet: &[u8], index: usize) -> u32
-    requires sized { Sized sheet.now }
-    requires index_bound { index < vehicles_of sheet.now }
+// The id of a vehicle, of which nothing else is read.
+fn id_at(sheet: &Sheet, index: usize) -> u32
+    requires { index < vehicles_of sheet.now }
     ensures { result ≡ id_field sheet.now (vehicle_at sheet.now index) }
 {
     wire::u32_at(
-        sheet,
-        sheet::HEADER_SIZE + sheet::ROW_SIZE * sheet::rows(sheet) + sheet::VEHICLE_SIZE * index,
+        sheet.bytes(),
+        sheet::HEADER_SIZE + sheet::ROW_SIZE * sheet.rows() + sheet::VEHICLE_SIZE * index,
     )
 }
 
-// The vehicle with an id, or the one past the last.
-fn index_of(sheet: &[u8], id: u32) -> usize
-    requires { Sized sheet.now }
-    ensures { result ≡ index_of sheet.now id }
+// The vehicle with an id.
+fn index_of(sheet: &Sheet, id: u32) -> Option<usize>
+    ensures value { unwrap_or result (vehicles_of sheet.now) ≡ index_of sheet.now id }
+    ensures bound { IfSome result (λ v. v < vehicles_of sheet.now) }
 {
-    let vehicles = sheet::vehicles(sheet);
-    for v in 0..vehicles {
-        if id_at(sheet, v) == id {
-            return v;
-        }
-    }
-    vehicles
+    (0..sheet.vehicles()).find(|&v| id_at(sheet, v) == id)
 }
 
-fn next(sheet: &[u8], plan: &[u8], row: usize) -> usize
-    requires sized { Sized sheet.now }
-    requires row_bound { (row < rows_of sheet.now) × (length plan.now ≡ plan_length sheet.now) }
+fn next(sheet: &Sheet, plan: &[u8], row: usize) -> usize
+    requires { (row < rows_of sheet.now) × (length plan.now ≡ plan_length sheet.now) }
     ensures { result ≡ next_at plan.now (rows_of sheet.now) row }
 {
-    wire::u16_at(plan, plan::visit_place(sheet, row)) as usize
+    wire::u16_at(plan, plan::visit_place(sheet.rows(), row)) as usize
 }
 
 // A chain from its first link on, into the table from `from` on.
 fn follow(
-    sheet: &[u8],
+    sheet: &Sheet,
     plan: &[u8],
     depots: usize,
     first: usize,
     stops: &mut [u16],
     from: usize,
 ) -> Option<usize>
-    requires sized { Sized sheet.now }
     requires plan_len { (length plan.now ≡ plan_length sheet.now) × (depots ≡ depots_of sheet.now) }
     requires sheet_in_bounds { (rows_of sheet.now ≤ length stops.old) × (from ≤ stop_count sheet.now) }
     requires t { T (links_right sheet.now (take from stops.old)) }
     ensures { FollowedAs sheet.now (take from stops.old ++ chain_of sheet.now plan.now first) result stops.new }
 {
-    let rows = sheet::rows(sheet);
+    let rows = sheet.rows();
     let mut link = first;
     let mut at = from;
     while link != 0 {
@@ -85,7 +74,7 @@ fn follow(
 
 // The k-th round, its stops from `at` on.
 fn read_round(
-    sheet: &[u8],
+    sheet: &Sheet,
     plan: &[u8],
     depots: usize,
     k: usize,
@@ -100,21 +89,16 @@ fn read_round(
     requires rounds_read { RoundsRead sheet.now plan.now stops.old ends.old vehicles.old k at }
     ensures { RoundsAs sheet.now plan.now (k + 1) result stops.new ends.new vehicles.new }
 {
-    let index = index_of(sheet, wire::u32_at(plan, 16 + 56 * k));
-    if sheet::vehicles(sheet) <= index {
-        return None;
-    }
+    let index = index_of(sheet, wire::u32_at(plan, 16 + 56 * k))?;
     let first = wire::u16_at(plan, 16 + 56 * k + 8) as usize;
-    let Some(end) = follow(sheet, plan, depots, first, stops, at) else {
-        return None;
-    };
+    let end = follow(sheet, plan, depots, first, stops, at)?;
     ends[k] = end as u16;
     vehicles[k] = index as u16;
     Some(end)
 }
 
 fn read_rounds(
-    sheet: &[u8],
+    sheet: &Sheet,
     plan: &[u8],
     depots: usize,
     rounds: usize,
@@ -127,12 +111,10 @@ fn read_rounds(
     requires rounds_value { (rounds ≡ rounds_at plan.now) × (rounds_at plan.now ≤ rows_of sheet.now) }
     ensures { RoundsAs sheet.now plan.now (rounds_at plan.now) result stops.new ends.new vehicles.new }
 {
-    let mut at: usize = 0;
+    let mut at = 0;
+    // Over numbers: a round is read into three tables, at k in two of them.
     for k in 0..rounds {
-        let Some(end) = read_round(sheet, plan, depots, k, stops, ends, vehicles, at) else {
-            return None;
-        };
-        at = end;
+        at = read_round(sheet, plan, depots, k, stops, ends, vehicles, at)?;
     }
     Some(at)
 }
@@ -154,18 +136,17 @@ fn single(rows: &[u16]) -> bool
 }
 
 // Whether each stop stands exactly once.
-fn each_once(sheet: &[u8], depots: usize, rows: &[u16]) -> bool
-    requires sized { Sized sheet.now }
+fn each_once(sheet: &Sheet, depots: usize, rows: &[u16]) -> bool
     requires depots_value { (depots ≡ depots_of sheet.now) × (length rows.now ≤ stop_count sheet.now) }
     requires t { T (links_right sheet.now rows.now) }
     ensures { result ≡ each_once sheet.now rows.now }
 {
-    sheet::rows(sheet) <= rows.len() + depots && single(rows)
+    sheet.rows() <= rows.len() + depots && single(rows)
 }
 
 // The rounds, then the stops set aside.
 fn read_chains(
-    sheet: &[u8],
+    sheet: &Sheet,
     plan: &[u8],
     depots: usize,
     stops: &mut [u16],
@@ -177,19 +158,17 @@ fn read_chains(
     ensures { ChainsAs sheet.now plan.now result stops.new ends.new vehicles.new }
 {
     let rounds = wire::u16_at(plan, 0) as usize;
-    if sheet::rows(sheet) < rounds {
+    if sheet.rows() < rounds {
         return None;
     }
-    let Some(start) = read_rounds(sheet, plan, depots, rounds, stops, ends, vehicles) else {
-        return None;
-    };
+    let start = read_rounds(sheet, plan, depots, rounds, stops, ends, vehicles)?;
     let aside = wire::u16_at(plan, 2) as usize;
     follow(sheet, plan, depots, aside, stops, start)
 }
 
 // The outcome of a plan, into the tables.
 pub fn read_plan(
-    sheet: &[u8],
+    sheet: &Sheet,
     plan: &[u8],
     stops: &mut [u16],
     ends: &mut [u16],
@@ -198,10 +177,8 @@ pub fn read_plan(
     requires { ReaderTables sheet.now plan.now stops.old ends.old vehicles.old }
     ensures { ReadAs sheet.now plan.now result stops.new ends.new vehicles.new }
 {
-    let depots = customer::depots(sheet);
-    let Some(total) = read_chains(sheet, plan, depots, stops, ends, vehicles) else {
-        return None;
-    };
+    let depots = sheet.depots();
+    let total = read_chains(sheet, plan, depots, stops, ends, vehicles)?;
     if !each_once(sheet, depots, &stops[..total]) {
         return None;
     }

@@ -3,15 +3,14 @@
 
 ghost use Rattle.std.specs.Prelude.{◌≡◌, ◌^◌, ◌<◌, length, IfOk};
 ghost use Rattle.sheet.specs.Fields.{plan_length};
-ghost use Rattle.sheet.specs.Accepted.{Sized, Accepted};
 ghost use Rattle.sheet.specs.Refusal.{refusal_of};
 ghost use Rattle.sheet.specs.Told.{told};
 ghost use Rattle.solomon_import.specs.Import.{import_answer, ImportAnswered, ImportAccepted};
 ghost use Rattle.tariff_bill.specs.Bill.{BillAnswered, BillExact};
 ghost use Rattle.planner.specs.Answer.{priced, plan_for, Answered, Once, Feasibly, Lawful, Alone, Closed};
-ghost use Rattle.planner.specs.Tabled.{PlannerTables};
 ghost use Rattle.planner.specs.Limited.{LimitAnswered, LimitOnce, LimitFew, LimitStood, LimitAside};
 
+use sheet::Sheet;
 use sheet::refusal::Refusal;
 use tariff::Rates;
 
@@ -23,47 +22,15 @@ pub fn check_sheet(sheet: &[u8], plan_len: usize) -> Result<(), Refusal>
 }
 
 #[tactic(auto, unfolding(crate::specs::Answer::priced))]
-fn is_priced(sheet: &[u8]) -> bool
-    requires { Sized sheet.now }
+fn is_priced(sheet: &Sheet) -> bool
     ensures { result ≡ priced sheet.now }
 {
-    sheet::customer::depots(sheet) != 1 || 1 < sheet::rows(sheet)
-}
-
-// The plan of an accepted sheet, by way of tables that are lent.
-fn fill_by(
-    sheet: &[u8],
-    plan: &mut [u8],
-    at: &mut [u16],
-    marks: &mut [u16],
-    fleet: &mut [u16],
-    stops: &mut [u16],
-    ends: &mut [u16],
-    vehicles: &mut [u16],
-)
-    requires accepted { Accepted sheet.now }
-    requires plan_len { length plan.old ≡ plan_length sheet.now }
-    requires planner_tables { PlannerTables at.old marks.old fleet.old stops.old ends.old vehicles.old }
-    ensures { plan.new ≡ plan_for sheet.now }
-{
-    let filled = multi_depot::outcome(sheet, at, marks, fleet, stops, ends, vehicles);
-    let rounds = filled.rounds;
-    plan::write_plan(
-        plan,
-        sheet,
-        stops,
-        ends,
-        vehicles,
-        rounds,
-        planner_limiting::stops_in(sheet),
-        is_priced(sheet),
-    );
+    sheet.depots() != 1 || 1 < sheet.rows()
 }
 
 // The plan of an accepted sheet. The tables stand here, some kilobyte in all.
-fn fill(sheet: &[u8], plan: &mut [u8])
-    requires accepted { Accepted sheet.now }
-    requires plan_len { length plan.old ≡ plan_length sheet.now }
+fn fill(sheet: &Sheet, plan: &mut [u8])
+    requires { length plan.old ≡ plan_length sheet.now }
     ensures { plan.new ≡ plan_for sheet.now }
 {
     let mut at = [0u16; sheet::MOST_ROWS];
@@ -72,15 +39,25 @@ fn fill(sheet: &[u8], plan: &mut [u8])
     let mut stops = [0u16; sheet::MOST_ROWS];
     let mut ends = [0u16; sheet::MOST_ROWS];
     let mut vehicles = [0u16; sheet::MOST_ROWS];
-    fill_by(
+    let total = planner_limiting::stops_in(sheet.bytes());
+    let filled = multi_depot::outcome(
         sheet,
-        plan,
         &mut at,
         &mut marks,
         &mut fleet,
         &mut stops,
         &mut ends,
         &mut vehicles,
+    );
+    plan::write_plan(
+        plan,
+        sheet,
+        &stops,
+        &ends,
+        &vehicles,
+        filled.rounds,
+        total,
+        is_priced(sheet),
     );
 }
 
@@ -94,7 +71,7 @@ pub fn plan_rounds(sheet: &[u8], plan: &mut [u8]) -> Result<(), Refusal>
     ensures closed { Closed sheet.now (told result) plan.new }
 {
     sheet_refusal::refusal(sheet, plan.len())?;
-    fill(sheet, plan);
+    fill(&Sheet::new(sheet), plan);
     Ok(())
 }
 

@@ -1,6 +1,5 @@
--- docs/SCOPE.md#the-limiter. The limiter's refusals and its plan out; what its making asks of the tables that are lent, and what it answers.
-use Rattle.std.specs.Prelude.{◌≡◌, ℕ, ◌≤◌, true, List, length}
-use Rattle.sheet.specs.Fields.{most_rows}
+-- docs/SCOPE.md#the-limiter. The limiter's refusals and its plan out; what its making answers.
+use Rattle.std.specs.Prelude.{◌≡◌, ℕ, true, List, length}
 use Rattle.sheet.specs.Refusal.{lengths_right}
 use Rattle.plan.specs.Plan.{plan_of}
 use Rattle.plan.specs.Read.{read_plan}
@@ -14,14 +13,6 @@ limit_refusal s plan room = door_refusal s plan (lengths_right s room) true
 -- the plan out, its figures by `build_route` and its cost by `price`; always priced
 unfoldable pub limited_plan : List ℕ → List ℕ → ℕ → List ℕ
 limited_plan s plan greatest = plan_of s (limit_routes s greatest (read_plan s plan)) true
-
--- tables with room for every row
-pub record LimitTables (stops ends vehicles marks trial : List ℕ) : Type 0 where
-  pub stopped : most_rows ≤ length stops
-  pub ended : most_rows ≤ length ends
-  pub driven : most_rows ≤ length vehicles
-  pub marked : most_rows ≤ length marks
-  pub tried : most_rows ≤ length trial
 
 -- a refusal, or the plan out
 pub record LimitDone (s plan : List ℕ) (greatest : ℕ) (lent : List ℕ) (r : ℕ) (out : List ℕ) : Type 0 where

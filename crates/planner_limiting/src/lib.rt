@@ -11,8 +11,9 @@ ghost use Rattle.plan.specs.Plan.{plan_of};
 ghost use Rattle.plan_reader.specs.Reading.{stop_count};
 ghost use Rattle.fleet.specs.Limit.{limit_routes};
 ghost use Rattle.fleet_limiter.specs.Limitable.{Limitable};
-ghost use Rattle.planner_limiting.specs.Limiting.{LimitTables, LimitDone};
+ghost use Rattle.planner_limiting.specs.Limiting.{LimitDone};
 
+use sheet::Sheet;
 use sheet::refusal::Refusal;
 
 // How many rows are no depots.
@@ -20,14 +21,12 @@ pub fn stops_in(sheet: &[u8]) -> usize
     requires { Sized sheet.now }
     ensures { result ≡ rows_of sheet.now - depots_of sheet.now }
 {
-    let rows = sheet::rows(sheet);
-    let depots = sheet::customer::depots(sheet);
-    if depots < rows { rows - depots } else { 0 }
+    sheet::rows(sheet).saturating_sub(sheet::customer::depots(sheet))
 }
 
 // The plan out of the plan in the tables.
 fn limit_read(
-    sheet: &[u8],
+    sheet: &Sheet,
     greatest: u32,
     plan_out: &mut [u8],
     stops: &mut [u16],
@@ -41,37 +40,14 @@ fn limit_read(
     requires plan_out_len { length plan_out.old ≡ plan_length sheet.now }
     ensures { plan_out.new ≡ plan_of sheet.now (limit_routes sheet.now greatest (outcome_in stops.old ends.old vehicles.old rounds (stop_count sheet.now))) true }
 {
-    let total = stops_in(sheet);
+    let total = stops_in(sheet.bytes());
     let left = fleet_limiter::limit_routes(
         sheet, greatest, stops, ends, vehicles, marks, trial, rounds, total,
     );
     plan::write_plan(plan_out, sheet, stops, ends, vehicles, left, total, true);
 }
 
-// The plan out by way of tables that are lent, or a refusal and nothing written.
-fn limit_by(
-    sheet: &[u8],
-    plan_in: &[u8],
-    greatest: u32,
-    plan_out: &mut [u8],
-    stops: &mut [u16],
-    ends: &mut [u16],
-    vehicles: &mut [u16],
-    marks: &mut [u16],
-    trial: &mut [u16],
-) -> Result<(), Refusal>
-    requires { LimitTables stops.old ends.old vehicles.old marks.old trial.old }
-    ensures { LimitDone sheet.now plan_in.now greatest plan_out.old (told result) plan_out.new }
-{
-    let room = plan_out.len() == plan_in.len();
-    let rounds = plan_door::enter(sheet, plan_in, room, true, stops, ends, vehicles)?;
-    limit_read(
-        sheet, greatest, plan_out, stops, ends, vehicles, marks, trial, rounds,
-    );
-    Ok(())
-}
-
-// The same. The tables stand here, a kilobyte in all.
+// The plan out, or a refusal and nothing written. The tables stand here, a kilobyte in all.
 pub fn limit(
     sheet: &[u8],
     plan_in: &[u8],
@@ -85,9 +61,18 @@ pub fn limit(
     let mut vehicles = [0u16; sheet::MOST_ROWS];
     let mut marks = [0u16; sheet::MOST_ROWS];
     let mut trial = [0u16; sheet::MOST_ROWS];
-    limit_by(
+    let room = plan_out.len() == plan_in.len();
+    let rounds = plan_door::enter(
         sheet,
         plan_in,
+        room,
+        true,
+        &mut stops,
+        &mut ends,
+        &mut vehicles,
+    )?;
+    limit_read(
+        &Sheet::new(sheet),
         greatest,
         plan_out,
         &mut stops,
@@ -95,5 +80,7 @@ pub fn limit(
         &mut vehicles,
         &mut marks,
         &mut trial,
-    )
+        rounds,
+    );
+    Ok(())
 }

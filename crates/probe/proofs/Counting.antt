@@ -1,14 +1,19 @@
 -- Rounds counted one by one. Assumes nothing.
-use mathlib.Core.Path.{◌≡◌}
+use mathlib.Core.Path.{◌≡◌, refl}
 use Prim.Native.Nat.{ℕ, suc, ◌+◌, ◌-◌, ◌*◌, ◌/◌, ◌≤◌, ◌<◌}
 use native.Mathlib.Nat.{add-zero, zero-add, sub-zero, add_assoc, suc-mul, div-le_self, div-mul-le_self}
 use native.Mathlib.Omega.{arith}
 use mathlib.Core.Bool.{Bool, true, false}
 use mathlib.Core.List.{List}
+use Rattle.std.specs.Int.{from_bool}
 use lib.ListN.{length, take, drop}
 use Rattle.evaluation.specs.declared.limits.RouteLimits.{RouteLimits}
 use Rattle.evaluation.specs.Feasible.{route_feasible}
 use Rattle.probe.specs.Rounds.{one_of, passed_from}
+
+pub from_one : (b : Bool) → from_bool b ≡ one_of b
+from_one true = refl
+from_one false = refl
 
 pub at_most_one : (b : Bool) → one_of b ≤ 1
 at_most_one true = omega arith

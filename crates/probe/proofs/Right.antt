@@ -17,6 +17,7 @@ use Rattle.sheet.specs.Laws.Accepted.{accepted}
 use Rattle.sheet.specs.Values.{vehicle_of}
 use Rattle.numbers.specs.Laws.All.{all_at}
 use Rattle.evaluation.specs.Routed.{Routed}
+use Rattle.probe.specs.Drivers.{Vehicled}
 use Rattle.probe.specs.Promises.{RowsAsked, accepted_of, askable, rows_right, round_right, rounds_right}
 
 -- a test that passed
@@ -41,11 +42,6 @@ unfolding rows_of
 rows_fit s h = omega (arith, le_lt 2 s 0 h)
 
 -- ---- the vehicle
-pub record Vehicled (s : List ℕ) (v : ℕ) : Type 0 where
-  pub sheet : Accepted s
-  pub vehicle : v < vehicles_of s
-  pub home : (vehicle_of s v).depot < rows_of s
-
 pub vehicled : (s : List ℕ) (v : ℕ) → T (askable s v) → Vehicled s v
 unfolding askable
 vehicled s v t =

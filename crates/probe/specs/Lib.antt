@@ -1,3 +1,4 @@
 pub mod Promises
 pub mod Rounds
 pub mod Figures
+pub mod Drivers

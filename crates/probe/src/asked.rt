@@ -1,8 +1,11 @@
 // Whether a question is right.
 ghost use Rattle.std.specs.Prelude.{◌≡◌};
 ghost use Rattle.probe.specs.Promises.{accepted_of, rows_right, round_right, rounds_right};
+ghost use Rattle.probe.specs.Drivers.{DriverAsked};
 
-use sheet::vehicle;
+use evaluation::limits;
+use evaluation::limits::RouteLimits;
+use sheet::Sheet;
 
 // Whether a sheet is accepted, with a plan buffer of its own length.
 fn accepted(sheet: &[u8]) -> bool
@@ -15,16 +18,40 @@ fn accepted(sheet: &[u8]) -> bool
 }
 
 // Whether rounds of a vehicle can be asked about.
-pub fn askable(sheet: &[u8], vehicle: usize) -> bool
+fn askable(sheet: &[u8], vehicle: usize) -> bool
     ensures { result ≡ Rattle.probe.specs.Promises.askable sheet.now vehicle }
 {
     if !accepted(sheet) {
         return false;
     }
-    if sheet::vehicles(sheet) <= vehicle {
+    let sheet = Sheet::new(sheet);
+    if sheet.vehicles() <= vehicle {
         return false;
     }
-    (vehicle::vehicle_at(sheet, vehicle).depot as usize) < sheet::rows(sheet)
+    (sheet.vehicle_at(vehicle).depot as usize) < sheet.rows()
+}
+
+// A vehicle that rounds are asked about: its depot, its limits, and how many rows its sheet has.
+#[derive(Clone, Copy)]
+pub struct Driver {
+    pub depot: usize,
+    pub limits: RouteLimits,
+    pub rows: u16,
+}
+
+// The vehicle, where its rounds can be asked about.
+pub fn driver_of(sheet: &[u8], index: usize) -> Option<Driver>
+    ensures { DriverAsked sheet.now index result }
+{
+    if !askable(sheet, index) {
+        return None;
+    }
+    let sheet = Sheet::new(sheet);
+    Some(Driver {
+        depot: sheet.vehicle_at(index).depot as usize,
+        limits: limits::limits_at(&sheet, index),
+        rows: sheet.rows() as u16,
+    })
 }
 
 // Whether all stops are rows. Without a way out of the loop it is a few instructions for every eight of them.
@@ -32,8 +59,8 @@ pub fn rows_right(stops: &[u16], rows: u16) -> bool
     ensures { result ≡ rows_right stops.now rows }
 {
     let mut right = true;
-    for k in 0..stops.len() {
-        right = right & (stops[k] < rows);
+    for &stop in stops {
+        right &= stop < rows;
     }
     right
 }

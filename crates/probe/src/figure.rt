@@ -9,6 +9,7 @@ use evaluation::limits::RouteLimits;
 use evaluation_clock::clock::Schedule;
 use evaluation_clock::label::{RestAnswer, rest_place, rest_start};
 use evaluator::{Progress, Record};
+use sheet::Sheet;
 
 fn six(
     distance: f64,
@@ -76,7 +77,7 @@ fn visit_figure(progress: Progress, which: usize) -> f64
 
 // Three figures a stop; -2.0 past the last.
 fn visit_figures(
-    sheet: &[u8],
+    sheet: &Sheet,
     route: &[u16],
     depot: usize,
     limits: RouteLimits,
@@ -97,7 +98,7 @@ fn visit_figures(
     )
 }
 
-pub fn figure(sheet: &[u8], route: &[u16], depot: usize, limits: RouteLimits, which: usize) -> f64
+pub fn figure(sheet: &Sheet, route: &[u16], depot: usize, limits: RouteLimits, which: usize) -> f64
     requires { Routed sheet.now depot route.now }
     ensures { result ≡ figure_of sheet.now depot limits route.now which }
 {

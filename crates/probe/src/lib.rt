@@ -10,30 +10,21 @@ ghost use Rattle.square_root.specs.ClosestRoot.{ClosestRoot};
 ghost use Rattle.probe.specs.Figures.{probe_figure};
 ghost use Rattle.probe.specs.Rounds.{probe_rounds};
 
-use evaluation::limits;
-use sheet::vehicle;
+use sheet::Sheet;
 
 // How many of the rounds of `len` rows in `stops` the vehicle may drive; 0xffff_ffff where the question is not right.
 #[unsafe(no_mangle)]
 pub extern "C" fn probe_rounds(sheet: &[u8], stops: &[u16], len: u32, vehicle: u32) -> u32
     ensures { result ≡ probe_rounds sheet.now stops.now len vehicle }
 {
-    let index = vehicle as usize;
     let rows = len as usize;
-    if !asked::askable(sheet, index) {
+    let Some(driver) = asked::driver_of(sheet, vehicle as usize) else {
+        return 0xffff_ffff;
+    };
+    if !asked::rounds_right(stops, rows, driver.rows) {
         return 0xffff_ffff;
     }
-    if !asked::rounds_right(stops, rows, sheet::rows(sheet) as u16) {
-        return 0xffff_ffff;
-    }
-    let driver = vehicle::vehicle_at(sheet, index);
-    rounds::passed(
-        sheet,
-        stops,
-        rows,
-        driver.depot as usize,
-        limits::limits_at(sheet, index),
-    )
+    rounds::passed(&Sheet::new(sheet), stops, rows, driver.depot, driver.limits)
 }
 
 // One figure of a round of at most 101 rows, by its number (specs/Figures.antt): 0 to 5 are `route_eval`'s, -1.0 where the round is
@@ -42,19 +33,17 @@ pub extern "C" fn probe_rounds(sheet: &[u8], stops: &[u16], len: u32, vehicle: u
 pub extern "C" fn probe_figure(sheet: &[u8], route: &[u16], vehicle: u32, which: u32) -> f64
     ensures { result ≡ probe_figure sheet.now route.now vehicle which }
 {
-    let index = vehicle as usize;
-    if !asked::askable(sheet, index) {
+    let Some(driver) = asked::driver_of(sheet, vehicle as usize) else {
+        return -2.0;
+    };
+    if !asked::round_right(route, driver.rows) {
         return -2.0;
     }
-    if !asked::round_right(route, sheet::rows(sheet) as u16) {
-        return -2.0;
-    }
-    let driver = vehicle::vehicle_at(sheet, index);
     figure::figure(
-        sheet,
+        &Sheet::new(sheet),
         route,
-        driver.depot as usize,
-        limits::limits_at(sheet, index),
+        driver.depot,
+        driver.limits,
         which as usize,
     )
 }

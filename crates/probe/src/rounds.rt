@@ -3,13 +3,14 @@ ghost use Rattle.std.specs.Prelude.{◌≡◌, ◌+◌, ◌≤◌, ◌<◌, leng
 ghost use Rattle.sheet.specs.Fields.{most_rows};
 ghost use Rattle.evaluation.specs.Feasible.{route_feasible};
 ghost use Rattle.probe.specs.Promises.{RowsAsked};
-ghost use Rattle.probe.specs.Rounds.{one_of, passed_of};
+ghost use Rattle.probe.specs.Rounds.{passed_of};
 
 use evaluation::limits::RouteLimits;
+use sheet::Sheet;
 
 // Whether the round of `len` rows from `first` on is feasible.
 fn passes(
-    sheet: &[u8],
+    sheet: &Sheet,
     stops: &[u16],
     first: usize,
     len: usize,
@@ -24,14 +25,8 @@ fn passes(
     evaluation::route_feasible(sheet, &stops[first..end], depot, limits)
 }
 
-fn one(passes: bool) -> u32
-    ensures { result ≡ one_of passes }
-{
-    if passes { 1 } else { 0 }
-}
-
 // How many of the rounds of `len` rows are feasible.
-pub fn passed(sheet: &[u8], stops: &[u16], len: usize, depot: usize, limits: RouteLimits) -> u32
+pub fn passed(sheet: &Sheet, stops: &[u16], len: usize, depot: usize, limits: RouteLimits) -> u32
     requires rows_asked { RowsAsked sheet.now depot stops.now }
     requires len_nonzero { (0 < len) × ((len ≤ most_rows) × (length stops.now < 0xffff_ffff)) }
     ensures { result ≡ passed_of sheet.now depot limits stops.now len }
@@ -39,8 +34,8 @@ pub fn passed(sheet: &[u8], stops: &[u16], len: usize, depot: usize, limits: Rou
     let mut count = 0;
     let mut first = 0;
     for _ in 0..stops.len() / len {
-        count = count + one(passes(sheet, stops, first, len, depot, limits));
-        first = first + len;
+        count += u32::from(passes(sheet, stops, first, len, depot, limits));
+        first += len;
     }
     count
 }

@@ -3,6 +3,7 @@ pub mod Depots
 pub mod Ranges
 pub mod Refusal
 pub mod Told
+pub mod Located
 pub mod Method
 pub mod Accepted
 pub mod Values

@@ -1,10 +1,19 @@
 // Rows of the sheet: stops and depots.
 ghost use Rattle.std.specs.Prelude.{◌≡◌, ◌+◌, ◌*◌, ◌<◌, ◌≤◌, length};
-ghost use Rattle.sheet.specs.Accepted.{Sized, Accepted};
+ghost use Rattle.sheet.specs.Accepted.{Sized};
 ghost use Rattle.sheet.specs.Depots.{depots_of, leading, is_depot};
 ghost use Rattle.sheet.specs.Fields.{rows_of, row_at, x_field, y_field, row_marks, row_size, most_rows};
 ghost use Rattle.sheet.specs.Finite.{RowNumbers};
 ghost use Rattle.sheet.specs.Values.{gate_at, demand_of, stop_of};
+
+use crate::Sheet;
+
+// The marks of a row: a depot; a window; a window whose `due` may be missed for a penalty.
+pub const DEPOT: u32 = 1;
+
+pub const WINDOW: u32 = 2;
+
+pub const PENALTY: u32 = 4;
 
 // When service may begin: an early vehicle waits for `ready`.
 #[derive(Clone, Copy)]
@@ -35,7 +44,7 @@ fn is_depot(sheet: &[u8], row: usize) -> bool
     ensures { result ≡ is_depot sheet.now row }
 {
     crate::has_mark(
-        1,
+        DEPOT,
         wire::u32_at(sheet, crate::HEADER_SIZE + crate::ROW_SIZE * row + 12),
     )
 }
@@ -45,12 +54,7 @@ fn marked_depots(sheet: &[u8], rows: usize) -> usize
     requires { (rows ≤ most_rows) × (row_at rows ≤ length sheet.now) }
     ensures { result ≡ leading sheet.now rows 0 }
 {
-    for i in 0..rows {
-        if !is_depot(sheet, i) {
-            return i;
-        }
-    }
-    rows
+    (0..rows).find(|&row| !is_depot(sheet, row)).unwrap_or(rows)
 }
 
 // The number of depots, at least one.
@@ -58,8 +62,7 @@ pub fn depots(sheet: &[u8]) -> usize
     requires { Sized sheet.now }
     ensures { result ≡ depots_of sheet.now }
 {
-    let n = marked_depots(sheet, crate::rows(sheet));
-    if n == 0 { 1 } else { n }
+    marked_depots(sheet, crate::rows(sheet)).max(1)
 }
 
 fn gate_at(sheet: &[u8], at: usize) -> Gate
@@ -68,56 +71,55 @@ fn gate_at(sheet: &[u8], at: usize) -> Gate
     ensures { result ≡ gate_at sheet.now at }
 {
     let marks = wire::u32_at(sheet, at + 12);
-    if !crate::has_mark(2, marks) {
+    if !crate::has_mark(WINDOW, marks) {
         return Gate::Open;
     }
     let ready = wire::f64_at(sheet, at + 24);
     let due = wire::f64_at(sheet, at + 32);
-    if !crate::has_mark(4, marks) {
+    if !crate::has_mark(PENALTY, marks) {
         return Gate::Hard(Window { ready, due });
     }
     Gate::Soft(Window { ready, due }, wire::f64_at(sheet, at + 40))
 }
 
-// The horizontal coordinate of a row.
-pub fn x(sheet: &[u8], row: usize) -> i32
-    requires accepted { Accepted sheet.now }
-    requires row_bound { row < rows_of sheet.now }
-    ensures { result ≡ x_field sheet.now (row_at row) }
-{
-    wire::i32_at(sheet, crate::HEADER_SIZE + crate::ROW_SIZE * row)
-}
+impl<'a> Sheet<'a> {
+    // The horizontal coordinate of a row.
+    pub fn x(&self, row: usize) -> i32
+        requires { row < rows_of self.now }
+        ensures { result ≡ x_field self.now (row_at row) }
+    {
+        wire::i32_at(self.bytes, crate::HEADER_SIZE + crate::ROW_SIZE * row)
+    }
 
-// The vertical coordinate of a row.
-pub fn y(sheet: &[u8], row: usize) -> i32
-    requires accepted { Accepted sheet.now }
-    requires row_bound { row < rows_of sheet.now }
-    ensures { result ≡ y_field sheet.now (row_at row) }
-{
-    wire::i32_at(sheet, crate::HEADER_SIZE + crate::ROW_SIZE * row + 4)
-}
+    // The vertical coordinate of a row.
+    pub fn y(&self, row: usize) -> i32
+        requires { row < rows_of self.now }
+        ensures { result ≡ y_field self.now (row_at row) }
+    {
+        wire::i32_at(self.bytes, crate::HEADER_SIZE + crate::ROW_SIZE * row + 4)
+    }
 
-// What a row loads.
-pub fn demand(sheet: &[u8], row: usize) -> u32
-    requires accepted { Accepted sheet.now }
-    requires row_bound { row < rows_of sheet.now }
-    ensures { result ≡ demand_of sheet.now row }
-{
-    wire::u32_at(sheet, crate::HEADER_SIZE + crate::ROW_SIZE * row + 8)
-}
+    // What a row loads.
+    pub fn demand(&self, row: usize) -> u32
+        requires { row < rows_of self.now }
+        ensures { result ≡ demand_of self.now row }
+    {
+        wire::u32_at(self.bytes, crate::HEADER_SIZE + crate::ROW_SIZE * row + 8)
+    }
 
-pub fn stop_at(sheet: &[u8], row: usize) -> Stop
-    requires accepted { Accepted sheet.now }
-    requires row_bound { row < rows_of sheet.now }
-    ensures { result ≡ stop_of sheet.now row }
-{
-    let at = crate::HEADER_SIZE + crate::ROW_SIZE * row;
-    let gate = gate_at(sheet, at);
-    Stop {
-        x: x(sheet, row),
-        y: y(sheet, row),
-        demand: demand(sheet, row),
-        service: wire::f64_at(sheet, at + 16),
-        gate,
+    pub fn stop_at(&self, row: usize) -> Stop
+        requires { row < rows_of self.now }
+        ensures { result ≡ stop_of self.now row }
+    {
+        let bytes = self.bytes;
+        let at = crate::HEADER_SIZE + crate::ROW_SIZE * row;
+        let gate = gate_at(bytes, at);
+        Stop {
+            x: self.x(row),
+            y: self.y(row),
+            demand: self.demand(row),
+            service: wire::f64_at(bytes, at + 16),
+            gate,
+        }
     }
 }

@@ -1,8 +1,15 @@
-// The sheet: what its bytes hold. A field is read from the lent bytes when it is needed; nothing is decoded ahead.
+// The sheet: what its bytes hold. A field is read from the lent bytes when it is needed; only where its tables start is kept.
 #![tactic(auto)]
 
-ghost use Rattle.std.specs.Prelude.{◌≡◌, ◌<◌, ◌≤◌, length};
-ghost use Rattle.sheet.specs.Fields.{rows_of, vehicles_of, times_of, marked, header_size};
+ghost use Rattle.std.specs.Prelude.{◌≡◌, ℕ, ◌<◌, ◌≤◌, List, length};
+ghost use Rattle.sheet.specs.Accepted.{Accepted};
+ghost use Rattle.sheet.specs.Depots.{depots_of};
+ghost use Rattle.sheet.specs.Fields.{rows_of, vehicles_of, method_of, times_of, marked, header_size, most_rows};
+ghost use Rattle.sheet.specs.Located.{Located};
+ghost use Rattle.sheet.specs.Method.{code_of};
+
+use method::Method;
+use std::marker::Model;
 
 pub mod customer;
 pub mod matrix;
@@ -50,4 +57,82 @@ pub fn has_mark(mark: u32, marks: u32) -> bool
     ensures { result ≡ marked mark marks }
 {
     marks / mark % 2 == 1
+}
+
+// A sheet that passed its check: no contract has to ask for that. A clause sees its bytes. Beside them it holds how many rows it
+// has and where its distances and its times start, which is one place where it has no times.
+#[derive(Drop)]
+pub struct Sheet<'a> {
+    bytes: &'a [u8],
+    rows: usize,
+    distances: usize,
+    times: usize,
+}
+
+impl<'a> Model for Sheet<'a> {
+    ghost Value = { List ℕ };
+
+    ghost view = { λ a. a.bytes.now };
+
+    ghost invariant = { λ a. Located a.bytes.now a.rows a.distances a.times };
+}
+
+impl<'a> Sheet<'a> {
+    pub fn new(bytes: &'a [u8]) -> Self
+        requires { Accepted bytes.now }
+        ensures { result ≡ bytes.now }
+    {
+        let rows = rows(bytes);
+        let distances = matrix::tables(bytes);
+        let times = distances + 8 * (times(bytes) as usize * (rows * rows));
+        Sheet {
+            bytes,
+            rows,
+            distances,
+            times,
+        }
+    }
+
+    // What the type says, for a function that reads nothing of the sheet and has to hand it on. It does nothing.
+    #[inline(always)]
+    pub fn accepted(&self)
+        ensures { Accepted self.now }
+    {
+        let _ = &self.bytes;
+    }
+
+    // For what asks less of a sheet than that it is accepted.
+    pub fn bytes(&self) -> &'a [u8]
+        ensures value { result.now ≡ self.now }
+        ensures accepted { Accepted self.now }
+    {
+        self.bytes
+    }
+
+    pub fn rows(&self) -> usize
+        ensures value { result ≡ rows_of self.now }
+        ensures few { result ≤ most_rows }
+    {
+        self.rows
+    }
+
+    pub fn vehicles(&self) -> usize
+        ensures value { result ≡ vehicles_of self.now }
+        ensures accepted { Accepted self.now }
+    {
+        vehicles(self.bytes)
+    }
+
+    pub fn depots(&self) -> usize
+        ensures value { result ≡ depots_of self.now }
+        ensures accepted { Accepted self.now }
+    {
+        customer::depots(self.bytes)
+    }
+
+    pub fn method(&self) -> Method
+        ensures { code_of result ≡ method_of self.now }
+    {
+        method::accepted_method(self.bytes)
+    }
 }

@@ -1,8 +1,10 @@
 // The tables of distances and times.
 ghost use Rattle.std.specs.Prelude.{◌≡◌, ◌+◌, ◌*◌, ◌<◌, ◌≤◌};
-ghost use Rattle.sheet.specs.Accepted.{Sized, Accepted};
+ghost use Rattle.sheet.specs.Accepted.{Sized};
 ghost use Rattle.sheet.specs.Fields.{rows_of, tables_at, most_rows};
 ghost use Rattle.sheet.specs.Values.{distance_of, time_of};
+
+use crate::Sheet;
 
 // Where the distances start.
 pub fn tables(sheet: &[u8]) -> usize
@@ -22,26 +24,19 @@ fn cell(n: usize, i: usize, j: usize) -> usize
     i * n + j
 }
 
-pub fn distance(sheet: &[u8], from: usize, to: usize) -> f64
-    requires accepted { Accepted sheet.now }
-    requires from_bound { (from < rows_of sheet.now) × (to < rows_of sheet.now) }
-    ensures { result ≡ distance_of sheet.now from to }
-{
-    wire::f64_at(
-        sheet,
-        tables(sheet) + 8 * cell(crate::rows(sheet), from, to),
-    )
-}
-
-// The time of a leg: its own where there is a table of times, else its distance.
-pub fn travel_time(sheet: &[u8], from: usize, to: usize) -> f64
-    requires accepted { Accepted sheet.now }
-    requires from_bound { (from < rows_of sheet.now) × (to < rows_of sheet.now) }
-    ensures { result ≡ time_of sheet.now from to }
-{
-    if crate::times(sheet) == 0 {
-        return distance(sheet, from, to);
+impl<'a> Sheet<'a> {
+    pub fn distance(&self, from: usize, to: usize) -> f64
+        requires { (from < rows_of self.now) × (to < rows_of self.now) }
+        ensures { result ≡ distance_of self.now from to }
+    {
+        wire::f64_at(self.bytes, self.distances + 8 * cell(self.rows, from, to))
     }
-    let n = crate::rows(sheet);
-    wire::f64_at(sheet, tables(sheet) + 8 * (n * n + cell(n, from, to)))
+
+    // The time of a leg: its own where there is a table of times, else its distance.
+    pub fn travel_time(&self, from: usize, to: usize) -> f64
+        requires { (from < rows_of self.now) × (to < rows_of self.now) }
+        ensures { result ≡ time_of self.now from to }
+    {
+        wire::f64_at(self.bytes, self.times + 8 * cell(self.rows, from, to))
+    }
 }

@@ -6,6 +6,17 @@ ghost use Rattle.sheet.specs.Fields.{vehicles_of, vehicle_at, vehicle_marks, veh
 ghost use Rattle.sheet.specs.Finite.{VehicleNumbers};
 ghost use Rattle.sheet.specs.Values.{limit_at, rest_after, vehicle_of, rests_home_at, fixed_in_distance};
 
+use crate::Sheet;
+
+// The marks of a vehicle: a maximum of distance; one of duration; a rest; a rest that may be taken at home.
+pub const MAX_DISTANCE: u32 = 1;
+
+pub const MAX_DURATION: u32 = 2;
+
+pub const REST: u32 = 4;
+
+pub const HOME_REST: u32 = 8;
+
 // A rest of `duration` that starts from `earliest` to `latest`.
 #[derive(Clone, Copy)]
 pub struct VehicleBreak {
@@ -42,7 +53,7 @@ fn rest_at(sheet: &[u8], at: usize) -> Option<VehicleBreak>
     requires vehicle_numbers { VehicleNumbers sheet.now at }
     ensures { result ≡ rest_after sheet.now at }
 {
-    if !crate::has_mark(4, wire::u32_at(sheet, at + 12)) {
+    if !crate::has_mark(REST, wire::u32_at(sheet, at + 12)) {
         return None;
     }
     Some(VehicleBreak {
@@ -52,44 +63,44 @@ fn rest_at(sheet: &[u8], at: usize) -> Option<VehicleBreak>
     })
 }
 
-// Where the record of a vehicle starts.
-fn start(sheet: &[u8], index: usize) -> usize
-    requires accepted { Accepted sheet.now }
-    requires index_bound { index < vehicles_of sheet.now }
-    ensures { (result ≡ vehicle_at sheet.now index) × (result + vehicle_size ≤ length sheet.now) }
-{
-    crate::HEADER_SIZE + crate::ROW_SIZE * crate::rows(sheet) + crate::VEHICLE_SIZE * index
-}
-
-pub fn vehicle_at(sheet: &[u8], index: usize) -> Vehicle
-    requires accepted { Accepted sheet.now }
-    requires index_bound { index < vehicles_of sheet.now }
-    ensures { result ≡ vehicle_of sheet.now index }
-{
-    let at = start(sheet, index);
-    let max_distance = limit_at(sheet, at, 1, at + 32);
-    let max_duration = limit_at(sheet, at, 2, at + 40);
-    let rest = rest_at(sheet, at);
-    Vehicle {
-        id: wire::u32_at(sheet, at),
-        depot: wire::u32_at(sheet, at + 4),
-        capacity: wire::u32_at(sheet, at + 8),
-        cost_per_distance: wire::f64_at(sheet, at + 16),
-        fixed_cost: wire::f64_at(sheet, at + 24),
-        max_distance,
-        max_duration,
-        rest,
+impl<'a> Sheet<'a> {
+    // Where the record of a vehicle starts.
+    fn start(&self, index: usize) -> usize
+        requires { index < vehicles_of self.now }
+        ensures { (result ≡ vehicle_at self.now index) × (result + vehicle_size ≤ length self.now) }
+    {
+        crate::HEADER_SIZE + crate::ROW_SIZE * self.rows + crate::VEHICLE_SIZE * index
     }
-}
 
-// Whether its rest may be taken at the depot on return.
-pub fn rests_home(sheet: &[u8], index: usize) -> bool
-    requires accepted { Accepted sheet.now }
-    requires index_bound { index < vehicles_of sheet.now }
-    ensures { result ≡ rests_home_at sheet.now index }
-{
-    let at = start(sheet, index);
-    crate::has_mark(8, wire::u32_at(sheet, at + 12))
+    pub fn vehicle_at(&self, index: usize) -> Vehicle
+        requires { index < vehicles_of self.now }
+        ensures value { result ≡ vehicle_of self.now index }
+        ensures accepted { Accepted self.now }
+    {
+        let at = self.start(index);
+        let max_distance = limit_at(self.bytes, at, MAX_DISTANCE, at + 32);
+        let max_duration = limit_at(self.bytes, at, MAX_DURATION, at + 40);
+        let rest = rest_at(self.bytes, at);
+        Vehicle {
+            id: wire::u32_at(self.bytes, at),
+            depot: wire::u32_at(self.bytes, at + 4),
+            capacity: wire::u32_at(self.bytes, at + 8),
+            cost_per_distance: wire::f64_at(self.bytes, at + 16),
+            fixed_cost: wire::f64_at(self.bytes, at + 24),
+            max_distance,
+            max_duration,
+            rest,
+        }
+    }
+
+    // Whether its rest may be taken at the depot on return.
+    pub fn rests_home(&self, index: usize) -> bool
+        requires { index < vehicles_of self.now }
+        ensures { result ≡ rests_home_at self.now index }
+    {
+        let at = self.start(index);
+        crate::has_mark(HOME_REST, wire::u32_at(self.bytes, at + 12))
+    }
 }
 
 // What the fixed cost of a round is worth in distance.

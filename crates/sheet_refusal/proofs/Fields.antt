@@ -1,12 +1,12 @@
 -- Tests of a signed field as its pattern, and of the header's spare bytes. Assumes nothing.
 use mathlib.Core.Path.{◌≡◌, refl, sym, ◌∙◌, subst}
-use Prim.Native.Nat.{ℕ, zero, suc, ◌+◌, ◌-◌, ◌*◌, ◌^◌, ◌≤◌, ◌<◌}
+use Prim.Native.Nat.{ℕ, zero, suc, ◌+◌, ◌*◌, ◌^◌, ◌≤◌}
 use native.Mathlib.Nat.{mul-le-mul}
 use native.Mathlib.Omega.{arith}
 use mathlib.Core.Bool.{Bool, true, false, not}
 use mathlib.Core.List.{List}
 use lib.Dec.{T, leb, ltb, eqb}
-use borrow.Author.Tests.{lt-ltb, le-leb, lt-leb, ne_eqb, ltb-true, ltb-false, leb-true, leb-false}
+use borrow.Author.Tests.{lt-leb, ne_eqb, ltb-false}
 use lib.Ieee.{binary64, nan_bits}
 use Rattle.wire.specs.Bytes.{le, u64_at, signed}
 use Rattle.wire.specs.Laws.Bytes.{le_split}
@@ -16,7 +16,7 @@ use Rattle.numbers.specs.Laws.Range.{in_range_number}
 use Rattle.sheet.specs.declared.method.Method.{Method}
 use Rattle.sheet.specs.declared.method.Method.TheVariants.{Savings, Insertion, NearestNeighbor, NearestNeighborTw, Sweep}
 use Rattle.sheet.specs.Method.{code_of}
-use Rattle.sheet.specs.Ranges.{coordinate, demand, capacity, amount}
+use Rattle.sheet.specs.Ranges.{demand, capacity, amount}
 
 pub capacity_test : (n : ℕ) → ltb n 0x8000_0000 ≡ capacity (signed n)
 unfolding capacity signed
@@ -33,21 +33,6 @@ demand_test n = go (ltb n 0x8000_0000) refl
     go : (b : Bool) → ltb n 0x8000_0000 ≡ b → leb n 1000000 ≡ demand (signed n)
     go true e = rw e
     go false e = rw (e, lt-leb n 1000000 (omega (arith, ltb-false n 0x8000_0000 e)))
-
--- up to a million
-pub coordinate_low : (n : ℕ) → n ≤ 1000000 → true ≡ coordinate (signed n)
-unfolding coordinate signed
-coordinate_low n h = rw (lt-ltb n 0x8000_0000 (omega arith), le-leb n 1000000 h)
-
--- above: from the pattern of minus a million on
-pub coordinate_high : (n : ℕ) → 1000000 < n → n < 2 ^ 32 → leb 4293967296 n ≡ coordinate (signed n)
-unfolding coordinate signed
-coordinate_high n h k = go (leb 4293967296 n) refl (ltb n 0x8000_0000) refl
-  where
-    go : (b : Bool) → leb 4293967296 n ≡ b → (c : Bool) → ltb n 0x8000_0000 ≡ c → leb 4293967296 n ≡ coordinate (signed n)
-    go b e true f = rw (f, lt-leb n 1000000 h, lt-leb 4293967296 n (omega (arith, ltb-true n 0x8000_0000 f)))
-    go true e false f = rw (e, f, le-leb (suc (0xffff_ffff - n)) 1000000 (omega (arith, leb-true 4293967296 n e)))
-    go false e false f = rw (e, f, lt-leb (suc (0xffff_ffff - n)) 1000000 (omega (arith, leb-false 4293967296 n e)))
 
 -- the ten spare bytes as two and eight
 module _ (s : List ℕ) where

@@ -3,14 +3,13 @@ ghost use Rattle.std.specs.Prelude.{◌≡◌, ◌+◌, ◌≤◌, true, length}
 ghost use Rattle.wire.specs.Bytes.{signed};
 ghost use Rattle.sheet.specs.Ranges.{vehicle_marking, cost_per_distance};
 
-// -1,000,000 has the pattern 4,293,967,296.
+use sheet::vehicle;
+
+#[tactic(auto, unfolding(sheet::specs::Ranges::coordinate, wire::specs::Bytes::signed))]
 pub fn coordinate(pattern: u32) -> bool
     ensures { result ≡ Rattle.sheet.specs.Ranges.coordinate (signed pattern) }
 {
-    if pattern <= 1_000_000 {
-        return true;
-    }
-    4_293_967_296 <= pattern
+    pattern.cast_signed().unsigned_abs() <= 1_000_000
 }
 
 pub fn demand(pattern: u32) -> bool
@@ -36,7 +35,8 @@ pub fn marks(marks: u32) -> bool
 pub fn vehicle_marks(marks: u32) -> bool
     ensures { result ≡ vehicle_marking marks }
 {
-    marks <= 15 && (!sheet::has_mark(8, marks) || sheet::has_mark(4, marks))
+    marks <= 15
+        && (!sheet::has_mark(vehicle::HOME_REST, marks) || sheet::has_mark(vehicle::REST, marks))
 }
 
 // From 0 to 10^9.

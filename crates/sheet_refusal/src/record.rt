@@ -5,6 +5,7 @@ ghost use Rattle.sheet.specs.Depots.{depots_of};
 ghost use Rattle.sheet.specs.Ranges.{serving_in_range, row_in_range, maxima_in_range, rest_in_range, vehicle_in_range};
 
 use crate::field;
+use sheet::{customer, vehicle};
 
 #[tactic(auto, unfolding(sheet::specs::Ranges::serving_in_range, sheet::specs::Fields::row_marks))]
 fn serving_in_range(sheet: &[u8], at: usize) -> bool
@@ -13,8 +14,13 @@ fn serving_in_range(sheet: &[u8], at: usize) -> bool
 {
     let marks = wire::u32_at(sheet, at + 12);
     field::amount(sheet, at + 16)
-        && field::interval(sheet, at + 24, sheet::has_mark(2, marks))
-        && field::optional(sheet, at + 40, sheet::has_mark(4, marks), 1_000_000.0)
+        && field::interval(sheet, at + 24, sheet::has_mark(customer::WINDOW, marks))
+        && field::optional(
+            sheet,
+            at + 40,
+            sheet::has_mark(customer::PENALTY, marks),
+            1_000_000.0,
+        )
 }
 
 #[tactic(auto, unfolding(sheet::specs::Ranges::row_in_range, sheet::specs::Fields::row_marks))]
@@ -38,12 +44,12 @@ fn maxima_in_range(sheet: &[u8], at: usize) -> bool
     field::optional(
         sheet,
         at + 32,
-        sheet::has_mark(1, marks),
+        sheet::has_mark(vehicle::MAX_DISTANCE, marks),
         1_000_000_000_000.0,
     ) && field::optional(
         sheet,
         at + 40,
-        sheet::has_mark(2, marks),
+        sheet::has_mark(vehicle::MAX_DURATION, marks),
         1_000_000_000_000.0,
     )
 }
@@ -53,7 +59,7 @@ fn rest_in_range(sheet: &[u8], at: usize) -> bool
     requires { at + vehicle_size ≤ length sheet.now }
     ensures { result ≡ rest_in_range sheet.now at }
 {
-    let rests = sheet::has_mark(4, wire::u32_at(sheet, at + 12));
+    let rests = sheet::has_mark(vehicle::REST, wire::u32_at(sheet, at + 12));
     field::interval(sheet, at + 48, rests)
         && field::optional(sheet, at + 64, rests, 1_000_000_000.0)
 }

@@ -11,13 +11,10 @@ pub fn rows_in_range(sheet: &[u8]) -> bool
     requires { Sized sheet.now }
     ensures { result ≡ rows_in_range sheet.now }
 {
-    let rows = sheet::rows(sheet);
-    for i in 0..rows {
-        if !record::row_in_range(sheet, sheet::HEADER_SIZE + sheet::ROW_SIZE * i) {
-            return false;
-        }
-    }
-    true
+    (0..sheet::rows(sheet)).all(|i| record::row_in_range(
+        sheet,
+        sheet::HEADER_SIZE + sheet::ROW_SIZE * i,
+    ))
 }
 
 pub fn entries_in_range(sheet: &[u8]) -> bool
@@ -26,12 +23,7 @@ pub fn entries_in_range(sheet: &[u8]) -> bool
 {
     let base = sheet::matrix::tables(sheet);
     let entries = crate::entries(sheet::rows(sheet), sheet::times(sheet) as usize);
-    for k in 0..entries {
-        if !field::amount(sheet, base + 8 * k) {
-            return false;
-        }
-    }
-    true
+    (0..entries).all(|k| field::amount(sheet, base + 8 * k))
 }
 
 fn same_id(sheet: &[u8], v: usize, w: usize) -> bool
@@ -50,12 +42,7 @@ fn new_id(sheet: &[u8], v: usize) -> bool
     requires v_bound { v < vehicles_of sheet.now }
     ensures { result ≡ new_id sheet.now v }
 {
-    for w in 0..v {
-        if same_id(sheet, v, w) {
-            return false;
-        }
-    }
-    true
+    (0..v).all(|w| !same_id(sheet, v, w))
 }
 
 fn vehicle_right(sheet: &[u8], v: usize, depots: usize) -> bool
@@ -74,12 +61,6 @@ pub fn vehicles_in_range(sheet: &[u8]) -> bool
     requires { Sized sheet.now }
     ensures { result ≡ vehicles_in_range sheet.now }
 {
-    let vehicles = sheet::vehicles(sheet);
     let depots = sheet::customer::depots(sheet);
-    for v in 0..vehicles {
-        if !vehicle_right(sheet, v, depots) {
-            return false;
-        }
-    }
-    true
+    (0..sheet::vehicles(sheet)).all(|v| vehicle_right(sheet, v, depots))
 }

@@ -15,9 +15,10 @@ use constructive::tables;
 use constructive::tables::Filled;
 use constructive::terms::Terms;
 use insertion::choice::Choice;
+use sheet::Sheet;
 
 // The best insertion of a stop from `end` on into the round of those before it.
-fn best_joining(sheet: &[u8], terms: Terms, stops: &[u16], end: usize, trial: &mut [u16]) -> Choice
+fn best_joining(sheet: &Sheet, terms: Terms, stops: &[u16], end: usize, trial: &mut [u16]) -> Choice
     requires joinable { Joinable sheet.now terms (take end stops.now) (drop end stops.now) }
     requires end_in_bounds { (end < length stops.now) × (length stops.now ≤ length trial.old) }
     ensures { result ≡ best_of sheet.now terms (take end stops.now) (drop end stops.now) }
@@ -33,7 +34,7 @@ fn best_joining(sheet: &[u8], terms: Terms, stops: &[u16], end: usize, trial: &m
 
 // Grows the round whose seed is the first of the stops left: its stops then stand first, in order, and those still left after
 // them. Answers how many stops it has.
-fn grow_round(sheet: &[u8], terms: Terms, left: &mut [u16], trial: &mut [u16]) -> usize
+fn grow_round(sheet: &Sheet, terms: Terms, left: &mut [u16], trial: &mut [u16]) -> usize
     requires joinable { Joinable sheet.now terms [] left.old }
     requires left_nonzero { (0 < length left.old) × (length left.old ≤ length trial.old) }
     ensures value { result ≡ length (route_in (round_from sheet.now terms (get_or left.old 0 0) (drop 1 left.old))) }
@@ -51,7 +52,13 @@ fn grow_round(sheet: &[u8], terms: Terms, left: &mut [u16], trial: &mut [u16]) -
 }
 
 // The same for the seed at a place among the stops left.
-fn open_round(sheet: &[u8], terms: Terms, left: &mut [u16], seed: usize, trial: &mut [u16]) -> usize
+fn open_round(
+    sheet: &Sheet,
+    terms: Terms,
+    left: &mut [u16],
+    seed: usize,
+    trial: &mut [u16],
+) -> usize
     requires joinable { Joinable sheet.now terms [] left.old }
     requires seed_in_bounds { (seed < length left.old) × (length left.old ≤ length trial.old) }
     ensures value { result ≡ length (route_in (round_from sheet.now terms (get_or left.old seed 0) (without seed left.old))) }
@@ -64,7 +71,7 @@ fn open_round(sheet: &[u8], terms: Terms, left: &mut [u16], seed: usize, trial: 
 // Lays down the rounds of the members, which are all of `stops`: the rounds then stand first, and the stops set aside after
 // them, in the order met.
 pub fn lay_rounds(
-    sheet: &[u8],
+    sheet: &Sheet,
     terms: Terms,
     stops: &mut [u16],
     ends: &mut [u16],

@@ -13,11 +13,12 @@ ghost use Rattle.solomon_i1.specs.Insertion.{solomon_i1};
 
 use constructive::tables::Filled;
 use constructive::terms;
+use sheet::Sheet;
 
 // The members stand in `stops` from where the tables are filled up to `total`, ascending; the vehicle, by its index, makes
 // all rounds. Answers how far the tables are filled with the rounds; the stops set aside stand after them, up to `total`.
 pub fn solomon_i1(
-    sheet: &[u8],
+    sheet: &Sheet,
     depot: usize,
     vehicle: u16,
     stops: &mut [u16],

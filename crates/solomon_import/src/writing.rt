@@ -11,6 +11,7 @@ ghost use Rattle.solomon_import.specs.Reading.{lines_from, text_refusal};
 ghost use Rattle.solomon_import.specs.Writing.{records_of};
 
 use crate::reading;
+use sheet::customer;
 use sheet_writer::{RowFields, VehicleFields};
 use solomon_text::{lines, words};
 
@@ -57,12 +58,12 @@ fn write_rows(text: &[u8], from: usize, sheet: &mut [u8])
 {
     let mut at = from;
     let mut place = sheet::HEADER_SIZE;
-    let mut marks: u32 = 3;
+    let mut marks = customer::DEPOT | customer::WINDOW;
     while at < text.len() {
         let line = &text[at..lines::line_end(text, at)];
         sheet_writer::put_row(sheet, place, row_fields(line, marks));
         place += sheet::ROW_SIZE;
-        marks = 2;
+        marks = customer::WINDOW;
         at = lines::next_digit_line(text, lines::next_line(text, at));
     }
 }

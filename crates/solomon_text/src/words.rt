@@ -58,7 +58,7 @@ fn word_at(line: &[u8], n: usize) -> usize
     ensures { AtWord line.now result × (word_at line.now n ≡ get_or (words_of (drop result line.now)) 0 []) }
 {
     let mut at = word_start(line, 0);
-    for i in 0..n {
+    for _ in 0..n {
         if at == line.len() {
             return at;
         }

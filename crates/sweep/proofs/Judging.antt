@@ -7,22 +7,12 @@ use mathlib.Core.List.{List, [], ◌∷◌, ◌++◌}
 use lib.ListN.{length, get_or}
 use borrow.Author.Tests.{lt-ltb, le-ltb}
 use Rattle.sheet.specs.Values.{demand_of}
-use Rattle.evaluation.specs.Feasible.{route_feasible}
 use Rattle.constructive.specs.declared.terms.Terms.{Terms}
 use Rattle.constructive.specs.Load.{load_of}
 use Rattle.constructive.specs.Members.{part}
-use Rattle.sweep.specs.Sweep.{route_fits, unservable, closes}
+use Rattle.constructive.specs.Terms.{route_fits}
+use Rattle.sweep.specs.Sweep.{unservable, closes}
 use Rattle.sweep.proofs.Parts.{part_none, part_one, part_more, part_some}
-
--- ---- a round that may stand
-module _ (s : List ℕ) (t : Terms) (route : List ℕ) where
-  pub unchecked : not t.constrained ≡ true → true ≡ route_fits s t route
-  unfolding route_fits
-  unchecked e = rw e
-
-  pub checked : (b : Bool) → not t.constrained ≡ false → b ≡ route_feasible s t.depot t.limits route → b ≡ route_fits s t route
-  unfolding route_fits
-  checked b e f = rw e f
 
 -- ---- a stop alone
 module _ (s : List ℕ) (t : Terms) (stops : List ℕ) (at : ℕ) (inside : at < length stops) (d : ℕ) (u : d ≡ demand_of s (get_or stops at 0)) where

@@ -2,18 +2,13 @@
 use Rattle.std.specs.Prelude.{ℕ, ◌+◌, Bool, true, false, not, ◌||◌, List, [], ◌∷◌, ◌++◌, ltb}
 use Rattle.sorting.specs.Stable.{sorted}
 use Rattle.sheet.specs.Values.{demand_of}
-use Rattle.evaluation.specs.Feasible.{route_feasible}
 use Rattle.constructive.specs.Outcome.{Round, Outcome}
 use Rattle.constructive.specs.Load.{load_of}
 use Rattle.constructive.specs.declared.terms.Terms.{Terms}
-use Rattle.constructive.specs.Terms.{terms_of}
+use Rattle.constructive.specs.Terms.{terms_of, route_fits}
 use Rattle.sweep.specs.Angle.{sweeps_before}
 
 -- ---- the tests
--- a round that may stand, but for its load
-unfoldable pub route_fits : List ℕ → Terms → List ℕ → Bool
-route_fits s t route = not t.constrained || route_feasible s t.depot t.limits route
-
 -- a stop that no round can take, even alone
 unfoldable pub unservable : List ℕ → Terms → ℕ → Bool
 unservable s t row = ltb t.capacity (demand_of s row) || not (route_fits s t (row ∷ []))

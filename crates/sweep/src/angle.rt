@@ -1,8 +1,9 @@
 // The angle of a stop from its depot, by exact signs and products.
 ghost use Rattle.std.specs.Prelude.{◌≡◌, ◌<◌, ◌-ℤ◌};
 ghost use Rattle.sheet.specs.Fields.{rows_of};
-ghost use Rattle.sheet.specs.Accepted.{Accepted};
 ghost use Rattle.sweep.specs.Angle.{direction_of, Short, part_of, turns_left, below};
+
+use sheet::Sheet;
 
 // From the depot to a stop.
 #[derive(Clone, Copy)]
@@ -17,20 +18,13 @@ fn offset(from: i32, to: i32) -> i64
     to as i64 - from as i64
 }
 
-pub fn direction_to(sheet: &[u8], depot: usize, row: usize) -> Direction
-    requires accepted { Accepted sheet.now }
-    requires depot_bound { (depot < rows_of sheet.now) × (row < rows_of sheet.now) }
+pub fn direction_to(sheet: &Sheet, depot: usize, row: usize) -> Direction
+    requires { (depot < rows_of sheet.now) × (row < rows_of sheet.now) }
     ensures { result ≡ direction_of sheet.now depot row }
 {
     Direction {
-        dx: offset(
-            sheet::customer::x(sheet, depot),
-            sheet::customer::x(sheet, row),
-        ),
-        dy: offset(
-            sheet::customer::y(sheet, depot),
-            sheet::customer::y(sheet, row),
-        ),
+        dx: offset(sheet.x(depot), sheet.x(row)),
+        dy: offset(sheet.y(depot), sheet.y(row)),
     }
 }
 

@@ -15,11 +15,12 @@ ghost use Rattle.sweep.specs.Sweep.{sweep};
 use constructive::tables::Filled;
 use constructive::terms;
 use evaluation::limits;
+use sheet::Sheet;
 
 // The members stand in `stops` from where the tables are filled up to `total`, ascending; the vehicle is the depot's first, by
 // its index. Answers how far the tables are filled with the rounds; the stops set aside stand after them, up to `total`.
 pub fn sweep(
-    sheet: &[u8],
+    sheet: &Sheet,
     depot: usize,
     vehicle: u16,
     stops: &mut [u16],

@@ -7,13 +7,13 @@ ghost use Rattle.evaluation.specs.Routed.{Routed};
 ghost use Rattle.constructive.specs.Load.{load_of};
 ghost use Rattle.constructive.specs.Stored.{Stored, Room, filled_by};
 ghost use Rattle.constructive.specs.Members.{part, Members};
-ghost use Rattle.sweep.specs.Sweep.{route_fits, unservable, closes, swept_by};
+ghost use Rattle.sweep.specs.Sweep.{unservable, closes, swept_by};
 ghost use Rattle.sweep.specs.Met.{Midway, Met};
 
 use constructive::tables;
 use constructive::tables::Filled;
 use constructive::terms::Terms;
-use sheet::customer;
+use sheet::Sheet;
 
 // How far the tables are filled with the rounds closed; where the round that is being filled ends, and its load; where the
 // stops not met yet end.
@@ -25,19 +25,8 @@ pub struct Packing {
     pub mid: usize,
 }
 
-// Whether a round may stand, but for its load. It is walked only where rounds are checked.
-fn fits(sheet: &[u8], terms: Terms, route: &[u16]) -> bool
-    requires { Routed sheet.now terms.depot route.now }
-    ensures { result ≡ route_fits sheet.now terms route.now }
-{
-    if !terms.constrained {
-        return true;
-    }
-    evaluation::route_feasible(sheet, route, terms.depot, terms.limits)
-}
-
 // Whether no round can take the stop at `at`, even alone.
-fn is_unservable(sheet: &[u8], terms: Terms, stops: &[u16], at: usize, demand: u32) -> bool
+fn is_unservable(sheet: &Sheet, terms: Terms, stops: &[u16], at: usize, demand: u32) -> bool
     requires routed { Routed sheet.now terms.depot (part stops.now at (at + 1)) }
     requires at_in_bounds { at < length stops.now }
     requires demand_value { demand ≡ demand_of sheet.now (get_or stops.now at 0) }
@@ -47,13 +36,13 @@ fn is_unservable(sheet: &[u8], terms: Terms, stops: &[u16], at: usize, demand: u
         return true;
     }
     let next = at + 1;
-    !fits(sheet, terms, &stops[at..next])
+    !terms.fits(sheet, &stops[at..next])
 }
 
 // Whether the round from `start` to `end` closes before the stop at `end`, with which it has this load. It is not walked with
 // the stop where the load closes it already.
 fn is_closing(
-    sheet: &[u8],
+    sheet: &Sheet,
     terms: Terms,
     stops: &[u16],
     start: usize,
@@ -72,7 +61,7 @@ fn is_closing(
         return true;
     }
     let next = end + 1;
-    !fits(sheet, terms, &stops[start..next])
+    !terms.fits(sheet, &stops[start..next])
 }
 
 // The stop at `at` goes behind those up to `total`.
@@ -85,7 +74,7 @@ fn set_aside(stops: &mut [u16], at: usize, total: usize)
 
 // The next stop is set aside, begins a round, or joins the one that is being filled.
 fn meet(
-    sheet: &[u8],
+    sheet: &Sheet,
     terms: Terms,
     stops: &mut [u16],
     ends: &mut [u16],
@@ -100,7 +89,7 @@ fn meet(
 {
     let filled = packing.filled;
     let end = packing.end;
-    let demand = customer::demand(sheet, stops[end] as usize);
+    let demand = sheet.demand(stops[end] as usize);
     if is_unservable(sheet, terms, stops, end, demand) {
         set_aside(stops, end, total);
         return Packing {
@@ -130,7 +119,7 @@ fn meet(
 
 // Packs the stops from where the tables are filled up to `total`.
 pub fn pack(
-    sheet: &[u8],
+    sheet: &Sheet,
     terms: Terms,
     stops: &mut [u16],
     ends: &mut [u16],

@@ -3,7 +3,7 @@ use Rattle.evaluator.specs.Record.{build_route}
 use Rattle.evaluator.proofs.build_route.Goals as goal
 
 pub record-requires : goal.record-requires
-record-requires c = record { accepted = c.requires.sheet; prev_bound = (c.progress_after.ensures.prev_bound, c.requires.home) }
+record-requires c = (c.progress_after.ensures.prev_bound, c.requires.home)
 
 pub returns : goal.returns
 unfolding build_route

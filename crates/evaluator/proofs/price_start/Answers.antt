@@ -1,7 +1,8 @@
 -- `evaluator::price_start` meets its contract. Assumes nothing.
-use lib.Ieee.{nan_bits}
+use Rattle.std.proofs.Common.{refl}
+use Rattle.std.specs.Float.Ieee.{neg, of_bits, of_fields}
 use Rattle.evaluator.proofs.price_start.Goals as goal
 
-pub float_from_bits-result : goal.float_from_bits-result
-unfolding nan_bits
-float_from_bits-result c = tt
+pub returns : goal.returns
+unfolding neg of_bits of_fields
+returns c = refl

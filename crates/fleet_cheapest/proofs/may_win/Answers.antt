@@ -1,5 +1,4 @@
 -- `fleet_cheapest::may_win` meets its contract. Assumes nothing.
-use Prim.Native.Nat.{◌-◌}
 use mathlib.Core.Bool.{true≢false}
 use native.Mathlib.Omega.{arith}
 use Rattle.fleet_cheapest.proofs.Unwon.{losing, loses_on, all_lost}

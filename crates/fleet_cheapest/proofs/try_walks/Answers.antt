@@ -1,6 +1,6 @@
 -- `fleet_cheapest::try_walks` meets its contract. Assumes nothing.
 use native.Mathlib.Omega.{arith}
-use lib.Ieee.{nan_bits, of_bits}
+use lib.Ieee.{of_bits}
 use borrow.Author.Tests.{not-true}
 use Rattle.insertion.proofs.Trying.{trial_long, written}
 use Rattle.fleet_cheapest.specs.Promises.{terms_at}
@@ -26,17 +26,13 @@ try_free-requires-clause-constrained_value c = not-true _ c.if-not-terms.true
 pub returns-then-not-terms : goal.returns-then-not-terms
 returns-then-not-terms c = free c.args.sheet.now c.args.windows c.args.index c.args.route.now c.args.row c.requires.windows_of c.requires.row_bound.1 c.requires.routed c.requires.row_bound.0 _ c.terms_at-terms.ensures _ _ c.load_of.ensures c.demand.ensures _ _ c.if-terms-load_of.false c.requires.route_len_bound.0 ((handed c.args.sheet.now c.args.windows c.args.index c.args.route.now c.args.row c.requires.windows_of c.requires.row_bound.1 c.requires.routed c.requires.row_bound.0 _ c.terms_at-terms.ensures c.requires.route_len_bound.0).unwalked.hard (not-true _ c.if-not-terms.true)) _ c.try_free.ensures
 
-pub float_from_bits-endless : goal.float_from_bits-endless
-unfolding nan_bits
-float_from_bits-endless c = tt
-
 pub soft_cost-round-requires : goal.soft_cost-round-requires
 unfolding terms_at
 soft_cost-round-requires c = rw c.terms_at-terms.ensures c.requires.routed
 
-pub returns-then-endless-round : goal.returns-then-endless-round
+pub returns-then-round : goal.returns-then-round
 unfolding of_bits
-returns-then-endless-round c = barred c.args.sheet.now c.args.windows c.args.index c.args.route.now c.args.row c.requires.windows_of c.requires.row_bound.1 c.requires.routed c.requires.row_bound.0 _ c.terms_at-terms.ensures _ _ c.load_of.ensures c.demand.ensures _ _ c.if-terms-load_of.false _ c.soft_cost-round.ensures c.if-endless-round.true
+returns-then-round c = barred c.args.sheet.now c.args.windows c.args.index c.args.route.now c.args.row c.requires.windows_of c.requires.row_bound.1 c.requires.routed c.requires.row_bound.0 _ c.terms_at-terms.ensures _ _ c.load_of.ensures c.demand.ensures _ _ c.if-terms-load_of.false _ c.soft_cost-round.ensures c.if-round.true
 
 pub lay_out-requires : goal.lay_out-requires
 lay_out-requires c = c.requires.route_len_bound.1
@@ -64,4 +60,4 @@ shape_of-trial c = let e = trial_long _ _ _ _ c.try_places-done.ensures.trial_2 
 
 pub returns : goal.returns
 unfolding of_bits
-returns c = taken c.args.sheet.now c.args.windows c.args.index c.args.route.now c.args.row c.requires.windows_of c.requires.row_bound.1 c.requires.routed c.requires.row_bound.0 _ c.terms_at-terms.ensures _ _ c.load_of.ensures c.demand.ensures _ _ c.if-terms-load_of.false _ c.soft_cost-round.ensures c.requires.route_len_bound.0 c.if-endless-round.false _ c.try_places-done.ensures.choice_value
+returns c = taken c.args.sheet.now c.args.windows c.args.index c.args.route.now c.args.row c.requires.windows_of c.requires.row_bound.1 c.requires.routed c.requires.row_bound.0 _ c.terms_at-terms.ensures _ _ c.load_of.ensures c.demand.ensures _ _ c.if-terms-load_of.false _ c.soft_cost-round.ensures c.requires.route_len_bound.0 c.if-round.false _ c.try_places-done.ensures.choice_value

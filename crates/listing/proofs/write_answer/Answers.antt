@@ -1,18 +1,13 @@
 use Rattle.std.proofs.Common.{◌≡◌, ℕ, ◌+◌, ◌*◌, ◌≤◌, List, length, sym, ap, ◌∙◌, length-take-le, arith}
 use Rattle.sheet.specs.Fields.{rows_of, plan_length}
 use Rattle.sheet.specs.Refusal.{refusal_of}
-use Rattle.sheet.specs.declared.refusal.Refusal.{Refusal}
-use Rattle.sheet.specs.Told.{number_of}
-use Rattle.sheet.specs.Laws.Told.{number_positive}
+use Rattle.sheet.specs.Laws.Told.{told_some}
 use Rattle.planner.specs.Answer.{plan_for}
 use Rattle.listing_text.specs.Listing.{listing_refusal}
 use Rattle.listing_text.specs.Laws.Listing.{not_early, early_stands, told_stands}
 use Rattle.listing.specs.Laws.Answer.{answer_refused}
 use Rattle.listing.specs.Answer.{listed_text}
 use Rattle.listing.proofs.write_answer.Goals as goal
-
-told_some : (refusal : Refusal) → number_of refusal ≡ 0 → ⊥
-told_some refusal e = omega (arith, number_positive refusal, e)
 
 pub returns-in-Err : goal.returns-in-Err
 unfolding listed_text

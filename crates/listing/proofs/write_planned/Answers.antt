@@ -1,14 +1,9 @@
-use Rattle.std.proofs.Common.{◌≡◌, sym, ◌∙◌, refl, arith}
-use Rattle.sheet.specs.declared.refusal.Refusal.{Refusal}
-use Rattle.sheet.specs.Told.{number_of}
-use Rattle.sheet.specs.Laws.Told.{number_positive}
+use Rattle.std.proofs.Common.{sym, ◌∙◌, refl}
+use Rattle.sheet.specs.Laws.Told.{told_some}
 use Rattle.sheet.specs.Laws.Accepted.{accepted}
 use Rattle.planner.specs.Laws.Promised.{number_is, bytes_are}
 use Rattle.listing.specs.Laws.Answer.{answer_listed, answer_refused}
 use Rattle.listing.proofs.write_planned.Goals as goal
-
-told_some : (refusal : Refusal) → number_of refusal ≡ 0 → ⊥
-told_some refusal e = omega (arith, number_positive refusal, e)
 
 pub returns-in-Err : goal.returns-in-Err
 returns-in-Err c =

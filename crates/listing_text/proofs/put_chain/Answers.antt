@@ -34,21 +34,18 @@ overflow_sub-links c = omega arith
 pub overflow_cast-row : goal.overflow_cast-row
 overflow_cast-row c = omega (arith, row_in c.loop-row.invariant c.loop-row-test.true, c.requires.listable.rows)
 
-pub visit_place-requires-clause-sized : goal.visit_place-requires-clause-sized
-visit_place-requires-clause-sized c = c.requires.listable.sized
-
-pub visit_place-requires-clause-row_bound : goal.visit_place-requires-clause-row_bound
-visit_place-requires-clause-row_bound c = row_in c.loop-row.invariant c.loop-row-test.true
+pub visit_place-requires : goal.visit_place-requires
+visit_place-requires c = rw c.rows.ensures (c.requires.listable.sized.rows, row_in c.loop-row.invariant c.loop-row-test.true)
 
 pub u16_at-row-requires : goal.u16_at-row-requires
-u16_at-row-requires c = omega (arith, c.requires.listable.long, c.visit_place.ensures.1)
+u16_at-row-requires c = omega (arith, c.requires.listable.long, c.visit_place.ensures.1, c.rows.ensures)
 
 pub loop-row-smaller : goal.loop-row-smaller
 loop-row-smaller c = omega arith
 
 pub loop-row-preserved : goal.loop-row-preserved
 unfolding next_at
-loop-row-preserved c = rw (c.u16_at-row.ensures, c.visit_place.ensures.0) (goes_on c.loop-row.invariant c.loop-row-test.true c.put_stop_line-end.ensures c.if-links-eq0.false)
+loop-row-preserved c = rw (c.u16_at-row.ensures, c.visit_place.ensures.0, c.rows.ensures) (goes_on c.loop-row.invariant c.loop-row-test.true c.put_stop_line-end.ensures c.if-links-eq0.false)
 
 pub shape_of-out : goal.shape_of-out
 shape_of-out c = c.loop-row.invariant.left.kept

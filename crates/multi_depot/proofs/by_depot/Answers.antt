@@ -15,7 +15,7 @@ pub plan_depots-filled-requires : goal.plan_depots-filled-requires
 plan_depots-filled-requires c = let p = c.requires in
     record {
       planning_tables = record { sheet = p.planning_tables.sheet; rows = c.first_at.auto.at ∙ p.planning_tables.rows; fleet_long = p.planning_tables.fleet_long; stopped = p.planning_tables.stopped; ended = p.planning_tables.ended; driven = p.planning_tables.driven };
-      depots_value = (c.depots-depots.ensures, p.sheet_in_bounds);
+      depots_value = (c.depots-depots.ensures.value, p.sheet_in_bounds);
     }
 
 pub slice_bounds-settle-count : goal.slice_bounds-settle-count
@@ -23,7 +23,7 @@ slice_bounds-settle-count c = omega arith
 
 pub settle-requires : goal.settle-requires
 settle-requires c = let p = c.requires.planning_tables in
-    let w = c.plan_depots-filled in record { planning_tables = lent_still {marks₀ = []} {marks = []} p (record { marked = refl; fleet_long = w.auto.fleet; stopped = w.auto.stops; ended = w.auto.ends; driven = w.auto.vehicles }) (c.first_at.auto.at ∙ p.rows); depots_value = (c.depots-depots.ensures, length-take-le (length c.args.at.now - 0) (replicate 101 0) (omega (arith, p.rows, p.sheet.sized.rows)) ∙ omega (arith, p.rows)); at_value = (c.first_at.ensures, w.ensures.turned) }
+    let w = c.plan_depots-filled in record { planning_tables = lent_still {marks₀ = []} {marks = []} p (record { marked = refl; fleet_long = w.auto.fleet; stopped = w.auto.stops; ended = w.auto.ends; driven = w.auto.vehicles }) (c.first_at.auto.at ∙ p.rows); depots_value = (c.depots-depots.ensures.value, length-take-le (length c.args.at.now - 0) (replicate 101 0) (omega (arith, p.rows, p.sheet.sized.rows)) ∙ omega (arith, p.rows)); at_value = (c.first_at.ensures, w.ensures.turned) }
 
 -- without a stop that has moved the tables hold what was planned at first
 pub lay_aside-requires : goal.lay_aside-requires
@@ -69,7 +69,7 @@ plan_depots-last-requires c =
       ended = c.settle.auto.ends ∙ c.plan_depots-filled.auto.ends;
       driven = c.settle.auto.vehicles ∙ c.plan_depots-filled.auto.vehicles;
     }) (c.settle.auto.at ∙ c.first_at.auto.at ∙ c.requires.planning_tables.rows) in
-    record { planning_tables = lent; depots_value = (c.depots-depots.ensures, omega (arith, c.requires.sheet_in_bounds, c.settle.auto.marks, c.plan_depots-filled.auto.marks)) }
+    record { planning_tables = lent; depots_value = (c.depots-depots.ensures.value, omega (arith, c.requires.sheet_in_bounds, c.settle.auto.marks, c.plan_depots-filled.auto.marks)) }
 
 pub lay_aside-requires-2 : goal.lay_aside-requires-2
 lay_aside-requires-2 c =

@@ -8,7 +8,7 @@ pub slice_bounds-one_depot-count : goal.slice_bounds-one_depot-count
 slice_bounds-one_depot-count c = omega arith
 
 pub one_depot-requires : goal.one_depot-requires
-one_depot-requires c = desk_lent c.rows-rows.result c.requires c.rows-rows.ensures
+one_depot-requires c = desk_lent c.rows-rows.result c.requires c.rows-rows.ensures.value
 
 pub shape_of-fleet-then-depots-eq1 : goal.shape_of-fleet-then-depots-eq1
 shape_of-fleet-then-depots-eq1 c = c.one_depot.auto.fleet
@@ -23,13 +23,13 @@ pub shape_of-vehicles-then-depots-eq1 : goal.shape_of-vehicles-then-depots-eq1
 shape_of-vehicles-then-depots-eq1 c = c.one_depot.auto.vehicles
 
 pub returns-then-depots-eq1 : goal.returns-then-depots-eq1
-returns-then-depots-eq1 c = told _ _ _ _ _ _ c.requires.sheet (outcome_one _ (sym c.depots.ensures ∙ c.if-depots-eq1.true)) c.one_depot.ensures
+returns-then-depots-eq1 c = told _ _ _ _ _ _ c.requires.sheet (outcome_one _ (sym c.depots.ensures.value ∙ c.if-depots-eq1.true)) c.one_depot.ensures
 
 pub slice_bounds-by_depot-count : goal.slice_bounds-by_depot-count
 slice_bounds-by_depot-count c = omega arith
 
 pub by_depot-requires-clause-planning_tables : goal.by_depot-requires-clause-planning_tables
-by_depot-requires-clause-planning_tables c = desk_lent c.rows-rows.result c.requires c.rows-rows.ensures
+by_depot-requires-clause-planning_tables c = desk_lent c.rows-rows.result c.requires c.rows-rows.ensures.value
 
 pub by_depot-requires-clause-sheet_in_bounds : goal.by_depot-requires-clause-sheet_in_bounds
 by_depot-requires-clause-sheet_in_bounds c = c.requires.marked
@@ -50,4 +50,4 @@ pub shape_of-vehicles : goal.shape_of-vehicles
 shape_of-vehicles c = c.by_depot.auto.vehicles
 
 pub returns : goal.returns
-returns c = told _ _ _ _ _ _ c.requires.sheet (outcome_several _ (λ q. c.if-depots-eq1.false (c.depots.ensures ∙ q))) c.by_depot.ensures
+returns c = told _ _ _ _ _ _ c.requires.sheet (outcome_several _ (λ q. c.if-depots-eq1.false (c.depots.ensures.value ∙ q))) c.by_depot.ensures

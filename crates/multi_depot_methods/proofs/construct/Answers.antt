@@ -21,7 +21,7 @@ nearest_neighbor-requires c = let p = c.requires in
 pub returns-in-NearestNeighbor : goal.returns-in-NearestNeighbor
 returns-in-NearestNeighbor c = let p = c.requires in
     let g = c.fleet_of-n.ensures in
-    let m = rw c.in-NearestNeighbor.is at c.accepted_method-method.ensures in
+    let m = rw c.in-NearestNeighbor.is at c.method-method.ensures in
     rw (nearest_so p.ready g.value g.fleet_after m refl) record { value = c.nearest_neighbor.ensures.value; stored = c.nearest_neighbor.ensures.stored }
 
 pub slice_bounds-nearest_neighbor_tw-end : goal.slice_bounds-nearest_neighbor_tw-end
@@ -41,13 +41,13 @@ nearest_neighbor_tw-requires c = let p = c.requires in
 pub returns-in-NearestNeighborTw : goal.returns-in-NearestNeighborTw
 returns-in-NearestNeighborTw c = let p = c.requires in
     let g = c.fleet_of-n.ensures in
-    let m = rw c.in-NearestNeighborTw.is at c.accepted_method-method.ensures in
+    let m = rw c.in-NearestNeighborTw.is at c.method-method.ensures in
     rw (window_so p.ready g.value g.fleet_after m refl) record { value = c.nearest_neighbor_tw.ensures.value; stored = c.nearest_neighbor_tw.ensures.stored }
 
 pub returns-in_default : goal.returns-in_default
 returns-in_default c = let p = c.requires in
     let g = c.fleet_of-n.ensures in
-    let m = c.accepted_method-method.ensures in
+    let m = c.method-method.ensures in
     let both = none_so p.ready g.value g.fleet_after m (another _ NearestNeighbor refl c.in_default.not-NearestNeighbor) (another _ NearestNeighborTw refl c.in_default.not-NearestNeighborTw) c.if-n-eq0.true in record { value = both.0; stored = both.1 }
 
 pub with_vehicle-requires : goal.with_vehicle-requires
@@ -64,5 +64,5 @@ with_vehicle-requires c = let p = c.requires in
 pub returns-in_default-2 : goal.returns-in_default-2
 returns-in_default-2 c = let p = c.requires in
     let g = c.fleet_of-n.ensures in
-    let m = c.accepted_method-method.ensures in
+    let m = c.method-method.ensures in
     rw (with_some p.ready g.value g.fleet_after m (another _ NearestNeighbor refl c.in_default.not-NearestNeighbor) (another _ NearestNeighborTw refl c.in_default.not-NearestNeighborTw) c.if-n-eq0.false) record { value = c.with_vehicle.ensures.value; stored = c.with_vehicle.ensures.stored }

@@ -19,7 +19,7 @@ use Rattle.sheet.specs.declared.vehicle.Vehicle.{Vehicle}
 use Rattle.evaluation_clock.specs.declared.label.Label.{Label}
 use Rattle.evaluation_clock.specs.Sums.{◌⊕◌, ◌⊗◌}
 use Rattle.evaluation.specs.Routed.{Routed}
-use Rattle.evaluation_clock.specs.Window.{violated_of, lateness_of}
+use Rattle.evaluation_clock.specs.Window.{violated_of, lateness_of, service_start}
 use Rattle.evaluation_clock.specs.Serve.{at_depot, leaving_at, late_by, departure_of, pass, serve_of}
 use Rattle.evaluation_clock.specs.Clock.{step_of}
 use Rattle.evaluation.specs.Limits.{limits_at, allow_of}
@@ -36,7 +36,7 @@ use Rattle.constructive.specs.Laws.Load.{load_append}
 use Rattle.constructive.specs.Rounds.{passes, Carried, Feasible}
 use Rattle.constructive.specs.Laws.Rounds.{OfFleet}
 use Rattle.nearest_neighbor_choice.specs.Choice.{Trip, empty_trip}
-use Rattle.nearest_neighbor_choice.specs.Offers.{trip_carries, allows, offer_if, there_and_home, nearest_offer, arrival_at, late_at, service_start, penalty_of, missed, stop_too_dear, window_offer}
+use Rattle.nearest_neighbor_choice.specs.Offers.{trip_carries, allows, offer_if, there_and_home, nearest_offer, arrival_at, late_at, penalty_of, missed, stop_too_dear, window_offer}
 use Rattle.nearest_neighbor.specs.Nearest.{nearest_onward, nearest_limits, nearest_rule, nearest_neighbor, window_onward, window_rule, nearest_neighbor_tw}
 use Rattle.nearest_neighbor.specs.Laws.Chosen.{Taken, Growing, greedy_every, greedy_fleet}
 use Rattle.sheet.specs.declared.vehicle.VehicleBreak.{VehicleBreak}

@@ -17,10 +17,7 @@ write_link-requires c = let a = c.args in
     let pre = c.requires in
     let l = c.loop-i in
     let h : l.i < length a.aside.now = omega (arith, l.invariant.0) in
-    record {
-      sized = pre.chained.sheet;
-      row_bound = (pre.chained.row l.i h, l.invariant.1.long ∙ pre.plan_len);
-    }
+    (pre.chained.row l.i h, l.invariant.1.long ∙ pre.plan_len)
 
 pub loop-i-preserved : goal.loop-i-preserved
 loop-i-preserved c = let a = c.args in

@@ -4,4 +4,4 @@ use Rattle.plan.proofs.write_link.Goals as goal
 
 pub returns : goal.returns
 unfolding aside_bytes
-returns c = rw (← c.visit_place.ensures.0) c.put_u16.ensures
+returns c = rw (← c.rows.ensures.value, ← c.visit_place.ensures.0) c.put_u16.ensures

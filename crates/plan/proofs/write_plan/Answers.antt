@@ -31,4 +31,4 @@ pub returns : goal.returns
 returns c = let a = c.args in
     let w = c.write_rounds-price in
     let x = c.write_aside-aside in
-    planned a.sheet.now a.stops.now a.ends.now a.vehicles.now a.rounds a.total c.requires.tables c.end_of-start.result c.end_of-start.ensures a.priced a.plan.now c.fill.new.self w.new.plan x.new.plan c.put_header.new.plan x.result c.rows.result w.result c.cost_of.result c.requires.plan_len (c.fill.ensures.after (λ y e. e)) w.ensures.value w.ensures.plan_after x.ensures.value x.ensures.plan_after c.rows.ensures c.cost_of.ensures c.put_header.ensures
+    planned a.sheet.now a.stops.now a.ends.now a.vehicles.now a.rounds a.total c.requires.tables c.end_of-start.result c.end_of-start.ensures a.priced a.plan.now c.fill.new.self w.new.plan x.new.plan c.put_header.new.plan x.result c.rows.result w.result c.cost_of.result c.requires.plan_len (c.fill.ensures.after (λ y e. e)) w.ensures.value w.ensures.plan_after x.ensures.value x.ensures.plan_after c.rows.ensures.value c.cost_of.ensures c.put_header.ensures

@@ -15,10 +15,7 @@ write_visits-progress-requires-clause-visits_writable c = rw c.place_rest-placed
 pub record-figures-requires : goal.record-figures-requires
 record-figures-requires c = let a = c.args in
     let ok = c.requires.routed in
-    record {
-      accepted = ok.sheet;
-      prev_bound = (from a.sheet.now a.vehicle a.limits a.route.now c.place_rest-placed.result c.write_visits-progress.result c.place_rest-placed.ensures c.write_visits-progress.ensures.value ok, ok.home);
-    }
+    (from a.sheet.now a.vehicle a.limits a.route.now c.place_rest-placed.result c.write_visits-progress.result c.place_rest-placed.ensures c.write_visits-progress.ensures.value ok, ok.home)
 
 pub overflow_mul-k : goal.overflow_mul-k
 overflow_mul-k c = omega (arith, c.requires.k_bound, c.requires.routed.sheet.sized.rows)

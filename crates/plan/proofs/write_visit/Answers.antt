@@ -12,4 +12,4 @@ pub returns-clause-value : goal.returns-clause-value
 returns-clause-value c = c.visited-visit.ensures
 
 pub returns-clause-plan_after : goal.returns-clause-plan_after
-returns-clause-plan_after c = rw (← c.visit_place.ensures.0) c.put_visit.ensures
+returns-clause-plan_after c = rw (← c.rows.ensures.value, ← c.visit_place.ensures.0) c.put_visit.ensures

@@ -8,7 +8,7 @@ use Rattle.plan_reader.specs.Laws.Tally.{too_few, as_many}
 use Rattle.plan_reader.proofs.each_once.Goals as goal
 
 pub single-requires : goal.single-requires
-single-requires c = λ i h. omega (arith, (links_at c.args.sheet.now c.args.rows.now i h c.requires.t).1, c.requires.sized.rows)
+single-requires c = λ i h. omega (arith, (links_at c.args.sheet.now c.args.rows.now i h c.requires.t).1, c.rows.ensures)
 
 pub returns-then-rows-depots : goal.returns-then-rows-depots
 returns-then-rows-depots c = as_many c.args.sheet.now c.args.rows.now c.requires.t (omega arith) c.single.result c.single.ensures

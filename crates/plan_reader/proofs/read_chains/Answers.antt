@@ -21,18 +21,17 @@ read_rounds-requires c = let p = c.requires in
       rounds_value = (c.u16_at-rounds.ensures, omega (arith, c.u16_at-rounds.ensures));
     }
 
-pub returns-in_default : goal.returns-in_default
-returns-in_default c = let a = c.args in
+pub returns-in_err-start : goal.returns-in_err-start
+returns-in_err-start c = let a = c.args in
     let w = c.read_rounds in
-    rounds_told a.sheet.now a.plan.now w.new.stops w.new.ends w.new.vehicles (rounds_at a.plan.now) c.in_default.is w.ensures
+    rw c.from_residual.ensures (rounds_told a.sheet.now a.plan.now w.new.stops w.new.ends w.new.vehicles (rounds_at a.plan.now) c.in_err-start.was w.ensures)
 
 pub follow-requires : goal.follow-requires
 follow-requires c = let a = c.args in
     let p = c.requires in
     let w = c.read_rounds in
-    let g = rounds_told a.sheet.now a.plan.now w.new.stops w.new.ends w.new.vehicles (rounds_at a.plan.now) c.in-Some.is w.ensures in
+    let g = rounds_told a.sheet.now a.plan.now w.new.stops w.new.ends w.new.vehicles (rounds_at a.plan.now) c.in_ok-start.was w.ensures in
     record {
-      sized = p.reader_tables.sheet.sized;
       plan_len = (p.reader_tables.planned, p.depots_value);
       sheet_in_bounds = (omega (arith, p.reader_tables.rows, w.auto.stops), g.room);
       t = g.links;
@@ -44,5 +43,5 @@ returns c = let a = c.args in
     let p = c.requires in
     let w = c.read_rounds in
     let f = c.follow in
-    let g = rounds_told a.sheet.now a.plan.now w.new.stops w.new.ends w.new.vehicles (rounds_at a.plan.now) c.in-Some.is w.ensures in
-    chained a.sheet.now a.plan.now w.new.stops w.new.ends w.new.vehicles c.in-Some.start g (omega (arith, c.u16_at-rounds.ensures, c.rows.ensures, c.if-rows-rounds.false)) (omega (arith, p.reader_tables.rows, w.auto.stops)) f.new.stops f.result f.auto.stops (told a.sheet.now a.plan.now w.new.stops f.new.stops c.in-Some.start {r = f.result} c.u16_at-aside.ensures refl f.ensures)
+    let g = rounds_told a.sheet.now a.plan.now w.new.stops w.new.ends w.new.vehicles (rounds_at a.plan.now) c.in_ok-start.was w.ensures in
+    chained a.sheet.now a.plan.now w.new.stops w.new.ends w.new.vehicles c.in_ok-start.start g (omega (arith, c.u16_at-rounds.ensures, c.rows.ensures.value, c.if-rows-rounds.false)) (omega (arith, p.reader_tables.rows, w.auto.stops)) f.new.stops f.result f.auto.stops (told a.sheet.now a.plan.now w.new.stops f.new.stops c.in_ok-start.start {r = f.result} c.u16_at-aside.ensures refl f.ensures)

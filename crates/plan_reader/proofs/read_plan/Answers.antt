@@ -7,32 +7,31 @@ use Rattle.plan_reader.proofs.Rounding.{lent}
 use Rattle.plan_reader.proofs.Outcome.{chains_told, within, fails, reads}
 use Rattle.plan_reader.proofs.read_plan.Goals as goal
 
-pub returns-in_default : goal.returns-in_default
-returns-in_default c = let a = c.args in
+pub returns-in_err-total : goal.returns-in_err-total
+returns-in_err-total c = let a = c.args in
     let w = c.read_chains in
-    chains_told a.sheet.now a.plan.now w.new.stops w.new.ends w.new.vehicles c.in_default.is w.ensures
+    rw c.from_residual.ensures (chains_told a.sheet.now a.plan.now w.new.stops w.new.ends w.new.vehicles c.in_err-total.was w.ensures)
 
 pub slice_bounds-each_once-end : goal.slice_bounds-each_once-end
 slice_bounds-each_once-end c = let a = c.args in
     let p = c.requires in
     let w = c.read_chains in
-    within a.sheet.now a.plan.now w.new.stops w.new.ends w.new.vehicles (lent a.sheet.now a.plan.now p w.auto.stops w.auto.ends w.auto.vehicles) c.in-Some.total (chains_told a.sheet.now a.plan.now w.new.stops w.new.ends w.new.vehicles c.in-Some.is w.ensures)
+    within a.sheet.now a.plan.now w.new.stops w.new.ends w.new.vehicles (lent a.sheet.now a.plan.now p w.auto.stops w.auto.ends w.auto.vehicles) c.in_ok-total.total (chains_told a.sheet.now a.plan.now w.new.stops w.new.ends w.new.vehicles c.in_ok-total.was w.ensures)
 
 pub slice_bounds-each_once-end-2 : goal.slice_bounds-each_once-end-2
 slice_bounds-each_once-end-2 c = let a = c.args in
     let p = c.requires in
     let w = c.read_chains in
-    sym (length-take-le c.in-Some.total w.new.stops (within a.sheet.now a.plan.now w.new.stops w.new.ends w.new.vehicles (lent a.sheet.now a.plan.now p w.auto.stops w.auto.ends w.auto.vehicles) c.in-Some.total (chains_told a.sheet.now a.plan.now w.new.stops w.new.ends w.new.vehicles c.in-Some.is w.ensures)))
+    sym (length-take-le c.in_ok-total.total w.new.stops (within a.sheet.now a.plan.now w.new.stops w.new.ends w.new.vehicles (lent a.sheet.now a.plan.now p w.auto.stops w.auto.ends w.auto.vehicles) c.in_ok-total.total (chains_told a.sheet.now a.plan.now w.new.stops w.new.ends w.new.vehicles c.in_ok-total.was w.ensures)))
 
 pub each_once-requires : goal.each_once-requires
 each_once-requires c = let a = c.args in
     let p = c.requires in
     let w = c.read_chains in
-    let g = chains_told a.sheet.now a.plan.now w.new.stops w.new.ends w.new.vehicles c.in-Some.is w.ensures in
-    let h = within a.sheet.now a.plan.now w.new.stops w.new.ends w.new.vehicles (lent a.sheet.now a.plan.now p w.auto.stops w.auto.ends w.auto.vehicles) c.in-Some.total g in
+    let g = chains_told a.sheet.now a.plan.now w.new.stops w.new.ends w.new.vehicles c.in_ok-total.was w.ensures in
+    let h = within a.sheet.now a.plan.now w.new.stops w.new.ends w.new.vehicles (lent a.sheet.now a.plan.now p w.auto.stops w.auto.ends w.auto.vehicles) c.in_ok-total.total g in
     record {
-      sized = p.sheet.sized;
-      depots_value = (c.depots-depots.ensures, omega (arith, g.room, length-take-le c.in-Some.total w.new.stops h));
+      depots_value = (c.depots-depots.ensures.value, omega (arith, g.room, length-take-le c.in_ok-total.total w.new.stops h));
       t = g.links;
     }
 
@@ -40,13 +39,13 @@ pub returns-then-not-each_once : goal.returns-then-not-each_once
 returns-then-not-each_once c = let a = c.args in
     let p = c.requires in
     let w = c.read_chains in
-    let g = chains_told a.sheet.now a.plan.now w.new.stops w.new.ends w.new.vehicles c.in-Some.is w.ensures in
-    fails a.sheet.now a.plan.now w.new.stops w.new.ends w.new.vehicles (lent a.sheet.now a.plan.now p w.auto.stops w.auto.ends w.auto.vehicles) c.in-Some.total g (sym c.each_once.ensures ∙ c.if-not-each_once.true)
+    let g = chains_told a.sheet.now a.plan.now w.new.stops w.new.ends w.new.vehicles c.in_ok-total.was w.ensures in
+    fails a.sheet.now a.plan.now w.new.stops w.new.ends w.new.vehicles (lent a.sheet.now a.plan.now p w.auto.stops w.auto.ends w.auto.vehicles) c.in_ok-total.total g (sym c.each_once.ensures ∙ c.if-not-each_once.true)
 
 pub returns : goal.returns
 unfolding rounds_at
 returns c = let a = c.args in
     let p = c.requires in
     let w = c.read_chains in
-    let g = chains_told a.sheet.now a.plan.now w.new.stops w.new.ends w.new.vehicles c.in-Some.is w.ensures in
-    reads a.sheet.now a.plan.now w.new.stops w.new.ends w.new.vehicles (lent a.sheet.now a.plan.now p w.auto.stops w.auto.ends w.auto.vehicles) c.in-Some.total g (rw (sym c.each_once.ensures ∙ c.if-not-each_once.false) tt) c.u16_at.result c.u16_at.ensures
+    let g = chains_told a.sheet.now a.plan.now w.new.stops w.new.ends w.new.vehicles c.in_ok-total.was w.ensures in
+    reads a.sheet.now a.plan.now w.new.stops w.new.ends w.new.vehicles (lent a.sheet.now a.plan.now p w.auto.stops w.auto.ends w.auto.vehicles) c.in_ok-total.total g (rw (sym c.each_once.ensures ∙ c.if-not-each_once.false) tt) c.u16_at.result c.u16_at.ensures

@@ -21,40 +21,16 @@ read_round-requires c = let a = c.args in
       rounds_read = l.invariant.read;
     }
 
-pub shape_of-stops-in_default : goal.shape_of-stops-in_default
-shape_of-stops-in_default c = c.read_round.auto.stops ∙ c.loop-k.invariant.rows
-
-pub shape_of-ends-in_default : goal.shape_of-ends-in_default
-shape_of-ends-in_default c = c.read_round.auto.ends ∙ c.loop-k.invariant.ended
-
-pub shape_of-vehicles-in_default : goal.shape_of-vehicles-in_default
-shape_of-vehicles-in_default c = c.read_round.auto.vehicles ∙ c.loop-k.invariant.fleet
-
-pub returns-in_default : goal.returns-in_default
-returns-in_default c = let a = c.args in
+pub returns-in_err-at : goal.returns-in_err-at
+returns-in_err-at c = let a = c.args in
     let w = c.read_round in
-    rounds_told a.sheet.now a.plan.now w.new.stops w.new.ends w.new.vehicles (c.loop-k.k + 1) c.in_default.is w.ensures
-
-pub overflow_step-k : goal.overflow_step-k
-overflow_step-k c = omega arith
-
-pub loop-k-smaller : goal.loop-k-smaller
-loop-k-smaller c = omega arith
+    rw c.from_residual.ensures (rounds_told a.sheet.now a.plan.now w.new.stops w.new.ends w.new.vehicles (c.loop-k.k + 1) c.in_err-at.was w.ensures)
 
 pub loop-k-preserved : goal.loop-k-preserved
 loop-k-preserved c = let a = c.args in
     let w = c.read_round in
     let l = c.loop-k in
-    record { rows = w.auto.stops ∙ l.invariant.rows; ended = w.auto.ends ∙ l.invariant.ended; fleet = w.auto.vehicles ∙ l.invariant.fleet; read = rounds_told a.sheet.now a.plan.now w.new.stops w.new.ends w.new.vehicles (l.k + 1) c.in-Some.is w.ensures }
-
-pub shape_of-stops : goal.shape_of-stops
-shape_of-stops c = c.loop-k.invariant.rows
-
-pub shape_of-ends : goal.shape_of-ends
-shape_of-ends c = c.loop-k.invariant.ended
-
-pub shape_of-vehicles : goal.shape_of-vehicles
-shape_of-vehicles c = c.loop-k.invariant.fleet
+    record { rows = w.auto.stops ∙ l.invariant.rows; ended = w.auto.ends ∙ l.invariant.ended; fleet = w.auto.vehicles ∙ l.invariant.fleet; read = rounds_told a.sheet.now a.plan.now w.new.stops w.new.ends w.new.vehicles (l.k + 1) c.in_ok-at.was w.ensures }
 
 pub returns : goal.returns
 returns c = let a = c.args in

@@ -1,10 +1,6 @@
 -- `plan_reader::read_rounds` meets its contract. Assumes nothing.
-use Prim.Native.Nat.{◌-◌}
 use Rattle.plan_reader.proofs.Rounding.{Going}
 use Rattle.plan_reader.proofs.read_rounds.Given as goal
 
 abbrev pub invariant-loop-k : goal.invariant-loop-k
 invariant-loop-k l = Going l.sheet l.plan l.initial.stops l.initial.ends l.initial.vehicles l.stops l.ends l.vehicles l.k l.at
-
-abbrev pub decreases-loop-k : goal.decreases-loop-k
-decreases-loop-k l = l.rounds - l.k

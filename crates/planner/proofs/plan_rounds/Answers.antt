@@ -1,15 +1,10 @@
 -- `planner::plan_rounds` meets its contract. Assumes nothing.
-use mathlib.Core.Path.{◌≡◌, refl}
+use mathlib.Core.Path.{refl}
 use native.Mathlib.Omega.{arith}
 use Rattle.std.proofs.lemmas.Result.{err_from_is_err_and}
-use Rattle.sheet.specs.declared.refusal.Refusal.{Refusal}
-use Rattle.sheet.specs.Told.{number_of}
-use Rattle.sheet.specs.Laws.Told.{number_positive}
+use Rattle.sheet.specs.Laws.Told.{told_some}
 use Rattle.planner.proofs.Answering.{refused_answer, refused_parts, asks, planned_answer, planned_parts}
 use Rattle.planner.proofs.plan_rounds.Goals as goal
-
-told_some : (refusal : Refusal) → number_of refusal ≡ 0 → ⊥
-told_some refusal e = omega (arith, number_positive refusal, e)
 
 pub returns-in_err-refusal : goal.returns-in_err-refusal
 returns-in_err-refusal c =
@@ -27,16 +22,19 @@ returns-in_err-refusal c =
       closed = parts.1.1.1.1;
     }
 
+pub new-requires : goal.new-requires
+new-requires c = (asks c.args.sheet.now c.args.plan.now 0 c.in_ok-refusal.ensures refl).0
+
 pub fill-requires : goal.fill-requires
-fill-requires c = let both = asks c.args.sheet.now c.args.plan.now 0 c.in_ok-refusal.ensures refl in record { accepted = both.0; plan_len = both.1 }
+fill-requires c = rw c.new.ensures (asks c.args.sheet.now c.args.plan.now 0 c.in_ok-refusal.ensures refl).1
 
 pub returns : goal.returns
 returns c =
     let a = c.args in
     let e = c.in_ok-refusal.ensures in
-    let parts = planned_parts a.sheet.now a.plan.now 0 e refl _ c.fill.ensures (λ i. omega (arith, c.shared_slice_known-1.given i)) in
+    let parts = planned_parts a.sheet.now a.plan.now 0 e refl _ (rw c.new.ensures at c.fill.ensures) (λ i. omega (arith, c.shared_slice_known-1.given i)) in
     record {
-      answered = planned_answer a.sheet.now a.plan.now 0 e refl _ c.fill.ensures;
+      answered = planned_answer a.sheet.now a.plan.now 0 e refl _ (rw c.new.ensures at c.fill.ensures);
       once = parts.0;
       feasibly = parts.1.0;
       lawful = parts.1.1.0;

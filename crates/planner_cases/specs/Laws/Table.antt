@@ -25,7 +25,7 @@ use Rattle.evaluation.specs.Feasible.{route_feasible}
 use Rattle.evaluation.specs.Checks.{some_windowed, has_time_windows, has_soft_windows, route_checks_needed}
 use Rattle.evaluator.specs.Record.{placed_of, ready_for, departs_at, late_after, cost_after, visited_of, record_of, build_route, route_cost, price_with}
 use Rattle.constructive.specs.Load.{load_of}
-use Rattle.constructive.specs.Terms.{terms_of}
+use Rattle.constructive.specs.Terms.{terms_of, route_fits}
 use Rattle.insertion.specs.Place.{judge, try_places}
 use Rattle.nearest_neighbor_choice.specs.Choice.{choose}
 use Rattle.nearest_neighbor.specs.Greedy.{extend, extend_on, greedy}
@@ -35,7 +35,7 @@ use Rattle.clarke_wright_savings.specs.Savings.{same_back, symmetric, directed_o
 use Rattle.solomon_i1_judging.specs.Choice.{try_stops}
 use Rattle.solomon_i1.specs.Insertion.{farthest_from, grow, grow_on, seed_step, plan_on, solomon_i1}
 use Rattle.sweep.specs.Angle.{direction_of, part_of, turns_left, below, sweeps_before}
-use Rattle.sweep.specs.Sweep.{route_fits, unservable, closes, stepped, swept_from, swept_by, sweep}
+use Rattle.sweep.specs.Sweep.{unservable, closes, stepped, swept_from, swept_by, sweep}
 use Rattle.multi_depot_offers.specs.ByDepot.{with_vehicle, construct_of, planned_of, outcome_of}
 use Rattle.plan.specs.Plan.{visit_bytes, aside_bytes, round_counts, round_figures, round_bytes, header_bytes, with_visits, with_round, with_rounds, with_aside, price_after, price_of, plan_bytes, plan_of}
 use Rattle.planner.specs.Answer.{priced, plan_for, answer_of}

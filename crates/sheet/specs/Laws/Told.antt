@@ -1,5 +1,5 @@
 -- No refusal has the number 0. Assumes nothing.
-use Rattle.std.specs.Prelude.{◌<◌}
+use Rattle.std.specs.Prelude.{◌≡◌, ◌<◌}
 use Rattle.std.proofs.Common.{arith}
 use Rattle.sheet.specs.declared.refusal.Refusal.{Refusal}
 use Rattle.sheet.specs.declared.refusal.Refusal.TheVariants.{Header, Counts, Method, Lengths, Rows, Entries, Vehicles, Fleet, Depots, Plan, Text, TextRows, Rates}
@@ -19,3 +19,6 @@ number_positive Plan = omega arith
 number_positive Text = omega arith
 number_positive TextRows = omega arith
 number_positive Rates = omega arith
+
+pub told_some : (refusal : Refusal) → number_of refusal ≡ 0 → ⊥
+told_some refusal e = omega (arith, number_positive refusal, e)

@@ -5,11 +5,8 @@ use Rattle.insertion.proofs.Trying.{trial_long, any_stop, written, joins}
 use Rattle.solomon_i1_judging.proofs.Choosing.{load_fits, left_out, taken_in}
 use Rattle.solomon_i1_judging.proofs.try_stop.Goals as goal
 
-pub demand-requires-clause-accepted : goal.demand-requires-clause-accepted
-demand-requires-clause-accepted c = c.requires.joinable.round.sheet
-
-pub demand-requires-clause-row_bound : goal.demand-requires-clause-row_bound
-demand-requires-clause-row_bound c = joins _ _ _ _ c.requires.joinable
+pub demand-requires : goal.demand-requires
+demand-requires c = joins _ _ _ _ c.requires.joinable
 
 pub overflow_add-figures : goal.overflow_add-figures
 overflow_add-figures c = omega (arith, load_fits _ _ _ _ _ c.requires.figures_value _ c.demand.ensures c.requires.joinable)

@@ -18,9 +18,9 @@ use Rattle.constructive.specs.Laws.Rounds.{OfFleet, of_first}
 use Rattle.constructive.specs.Rounds.{Carried, Feasible}
 use Rattle.constructive.specs.Laws.Checked.{Known, members_known, stands_feasible}
 use Rattle.constructive.specs.declared.terms.Terms.{Terms}
-use Rattle.constructive.specs.Terms.{terms_of}
+use Rattle.constructive.specs.Terms.{terms_of, route_fits}
 use Rattle.sweep.specs.Angle.{sweeps_before}
-use Rattle.sweep.specs.Sweep.{route_fits, unservable, closes, Swept, step, stepped, swept_from, nothing_swept, last_round, finished, swept_by, sweep}
+use Rattle.sweep.specs.Sweep.{unservable, closes, Swept, step, stepped, swept_from, nothing_swept, last_round, finished, swept_by, sweep}
 
 -- ---- the rounds so far
 -- a round of rows of which P holds that may stand, its load too

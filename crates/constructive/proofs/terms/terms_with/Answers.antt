@@ -12,4 +12,4 @@ soft_rules-soft-requires-clause-members_value c = λ e. unchecked_hard _ _ _ _ (
 
 pub returns : goal.returns
 unfolding terms_of
-returns c = rw (c.route_checks_needed-constrained.ensures, c.soft_rules-soft.ensures, c.fixed_cost_in_distance-fixed.ensures, c.requires.limits_value, c.vehicle_at-own.ensures)
+returns c = rw (c.route_checks_needed-constrained.ensures, c.soft_rules-soft.ensures, c.fixed_cost_in_distance-fixed.ensures, c.requires.limits_value, c.vehicle_at-own.ensures.value)

@@ -2,4 +2,4 @@
 use Rattle.evaluation.proofs.home.rested.Goals as goal
 
 pub returns : goal.returns
-returns c = rw (← c.start-begun.ensures)
+returns c = rw (← c.later-begun.ensures)

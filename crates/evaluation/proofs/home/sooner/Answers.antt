@@ -5,11 +5,11 @@ use Rattle.evaluation.proofs.home.sooner.Goals.{else-from-rest-via-then-from-res
 use Rattle.evaluation.proofs.home.sooner.Goals as goal
 
 pub returns-then-outlasts : goal.returns-then-outlasts
-returns-then-outlasts c = home_sooner _ _ _ _ _ _ _ c.start-from.ensures c.if-from-rest.true c.outlasts.ensures c.if-outlasts.true c.rested.ensures
+returns-then-outlasts c = home_sooner _ _ _ _ _ _ _ c.later-from.ensures c.if-from-rest.true c.outlasts.ensures c.if-outlasts.true c.rested.ensures
 
 pub returns : goal.returns
 unfolding sooner_of
 returns c = elim c.else-from-rest.branch [
-  | else-from-rest-via-then-from-rest+else-outlasts w ↦ rw (← c.start-from.ensures, w.if-from-rest.true, ← w.outlasts.ensures, w.if-outlasts.false)
-  | else-from-rest-via-else-from-rest w ↦ rw (← c.start-from.ensures, w.if-from-rest.false)
+  | else-from-rest-via-then-from-rest+else-outlasts w ↦ rw (← c.later-from.ensures, w.if-from-rest.true, ← w.outlasts.ensures, w.if-outlasts.false)
+  | else-from-rest-via-else-from-rest w ↦ rw (← c.later-from.ensures, w.if-from-rest.false)
 ]

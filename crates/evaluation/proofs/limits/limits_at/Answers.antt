@@ -10,15 +10,12 @@ use Rattle.evaluation.proofs.limits.limits_at.Goals as goal
 pub stop_at-home-requires : goal.stop_at-home-requires
 unfolding vehicle_of
 stop_at-home-requires c = let p = c.requires in
-    let depot = ap (λ (v : Vehicle). v.depot) c.vehicle_at-vehicle.ensures in
-    record {
-      accepted = p.accepted;
-      row_bound = omega (arith, depot, p.index_bound.1, home_row _ _ p.accepted p.index_bound.0 p.index_bound.1);
-    }
+    let depot = ap (λ (v : Vehicle). v.depot) c.vehicle_at-vehicle.ensures.value in
+    omega (arith, depot, p.1, home_row _ _ c.vehicle_at-vehicle.ensures.accepted p.0 p.1)
 
 pub rests_home-at_home-requires : goal.rests_home-at_home-requires
-rests_home-at_home-requires c = (let p = c.requires in (record { accepted = p.accepted; index_bound = p.index_bound.0 }))
+rests_home-at_home-requires c = c.requires.0
 
 pub returns : goal.returns
 unfolding limits_at
-returns c = c.returning_by.ensures ∙ rw (c.latest_return.ensures, c.rests_home-at_home.ensures, c.stop_at-home.ensures, c.limits_of.ensures, c.vehicle_at-vehicle.ensures)
+returns c = c.returning_by.ensures ∙ rw (c.latest_return.ensures, c.rests_home-at_home.ensures, c.stop_at-home.ensures, c.limits_of.ensures, c.vehicle_at-vehicle.ensures.value)

@@ -8,10 +8,7 @@ pub loop-stop-init : goal.loop-stop-init
 loop-stop-init c = record { routed = c.requires; within = omega arith; from = rw c.new-clock.ensures c.requires.home; count = rw c.new-clock.ensures; same = refl }
 
 pub distance-distance-requires : goal.distance-distance-requires
-distance-distance-requires c = let g = c.loop-stop.invariant in record {
-  accepted = g.routed.sheet;
-  from_bound = (g.from, in_range_lem _ _ _ _ _ _ _ g c.loop-stop-test.true);
-}
+distance-distance-requires c = let g = c.loop-stop.invariant in (g.from, in_range_lem _ _ _ _ _ _ _ g c.loop-stop-test.true)
 
 pub next-clock-requires : goal.next-clock-requires
 next-clock-requires c = let g = c.loop-stop.invariant in record {
@@ -28,10 +25,7 @@ pub loop-stop-preserved : goal.loop-stop-preserved
 loop-stop-preserved c = rw c.distance-distance.ensures (goes_on _ _ _ _ _ _ _ c.loop-stop.invariant _ c.loop-stop-test.true c.next-clock.ensures)
 
 pub distance-distance-requires-2 : goal.distance-distance-requires-2
-distance-distance-requires-2 c = let g = c.loop-stop.invariant in record {
-  accepted = g.routed.sheet;
-  from_bound = (g.from, g.routed.home);
-}
+distance-distance-requires-2 c = let g = c.loop-stop.invariant in (g.from, g.routed.home)
 
 pub finish-found-requires : goal.finish-found-requires
 finish-found-requires c = let g = c.loop-stop.invariant in record {

@@ -1,7 +1,7 @@
 -- `evaluator::Progress::visited` meets its contract. Assumes nothing.
 use native.Mathlib.Omega.{arith}
 use Rattle.evaluator.specs.Record.{visited_of}
-use Rattle.evaluator.proofs.Going.{stop_demand}
+use Rattle.evaluator.proofs.Going.{stop_demand, departs_lem}
 use Rattle.evaluator.proofs.Progress.visited.Goals as goal
 
 pub overflow_add-result : goal.overflow_add-result
@@ -12,4 +12,4 @@ overflow_add-result-2 c = record { fits = omega (arith, c.requires.driven.room) 
 
 pub returns : goal.returns
 unfolding visited_of
-returns c = rw (c.cost_after.ensures, c.late_after.ensures, c.distance.ensures, c.departure.ensures, c.stop_at-stop.ensures, c.ready_for-ready.ensures, c.travel_time.ensures)
+returns c = let p = c.late_after-lateness.ensures in rw (p.1, p.0, c.distance.ensures, c.service_start.ensures, c.stop_at-stop.ensures, c.ready_for-ready.ensures, c.travel_time.ensures, departs_lem)

@@ -1,30 +1,35 @@
 -- `multi_depot_offers::depots::next_depot` meets its contract. Assumes nothing.
-use Prim.Native.Nat.{◌-◌}
-use native.Mathlib.Omega.{arith}
-use Rattle.multi_depot_offers.proofs.Asking.{begins, goes_on, ends}
+use Rattle.std.proofs.Common.{◌≡◌, sym, ◌∙◌, ◌+◌, arith, unwrap_or}
+use Rattle.multi_depot_offers.specs.ByDepot.{nearer}
+use Rattle.multi_depot_offers.proofs.Asking.{Seeking, begins, taken, not_asked_lem, beaten, goes_on, ends}
 use Rattle.multi_depot_offers.proofs.depots.next_depot.Goals as goal
+use Rattle.multi_depot_offers.proofs.depots.next_depot.Goals.{then-wins+then-is_asked, else-wins, else-wins-via-then-wins+else-is_asked, else-wins-via-else-wins}
 
 pub loop-d-init : goal.loop-d-init
-loop-d-init c = let a = c.args in (omega arith, begins a.sheet.now a.stop a.after a.depots c.requires.count)
-
-pub nearer-best-requires-clause-row_asked : goal.nearer-best-requires-clause-row_asked
-nearer-best-requires-clause-row_asked c = c.requires
-
-pub nearer-best-requires-clause-d_lt_depots : goal.nearer-best-requires-clause-d_lt_depots
-nearer-best-requires-clause-d_lt_depots c = omega arith
-
-pub overflow_step-d : goal.overflow_step-d
-overflow_step-d c = omega arith
-
-pub loop-d-smaller : goal.loop-d-smaller
-loop-d-smaller c = omega arith
+loop-d-init c = let a = c.args in record {
+  bound = λ x e. cc;
+  seeking = begins a.sheet.now a.stop (unwrap_or a.after a.depots) a.depots c.requires.row_asked.count;
+}
 
 pub loop-d-preserved : goal.loop-d-preserved
 loop-d-preserved c = let a = c.args in
     let l = c.loop-d in
-    (omega arith, rw c.nearer-best.ensures (goes_on a.sheet.now a.stop a.after a.depots l.best l.d l.invariant.1 (omega arith)))
+    let next : Seeking a.sheet.now a.stop (unwrap_or a.after a.depots) a.depots (nearer a.sheet.now a.stop (unwrap_or a.after a.depots) (unwrap_or l.best a.depots) l.d) (l.d + 1) = goes_on a.sheet.now a.stop (unwrap_or a.after a.depots) a.depots (unwrap_or l.best a.depots) l.d l.invariant.seeking c.loop-d-test.true in
+    elim c.if-wins.branch [
+      | then-wins+then-is_asked w ↦ record {
+        bound = λ x e. let q : l.d ≡ x = cc in omega arith;
+        seeking = rw w.best-is (rw (taken _ _ (sym w.is_asked.ensures ∙ w.if-is_asked.true) (sym c.wins.ensures ∙ w.if-wins.true)) at next);
+      }
+      | else-wins w ↦ record {
+        bound = rw w.best-is l.invariant.bound;
+        seeking = rw w.best-is (elim w.else-wins.branch [
+          | else-wins-via-then-wins+else-is_asked v ↦ rw (not_asked_lem _ _ _ (sym v.is_asked.ensures ∙ v.if-is_asked.false)) at next
+          | else-wins-via-else-wins v ↦ rw (beaten _ _ _ (sym c.wins.ensures ∙ v.if-wins.false)) at next
+        ]);
+      }
+    ]
 
-pub returns : goal.returns
-returns c = let a = c.args in
+pub returns-clause-value : goal.returns-clause-value
+returns-clause-value c = let a = c.args in
     let l = c.loop-d in
-    ends a.sheet.now a.stop a.after a.depots l.best l.d l.invariant.1 (omega arith)
+    ends a.sheet.now a.stop (unwrap_or a.after a.depots) a.depots (unwrap_or l.best a.depots) l.d l.invariant.seeking c.loop-d-test.false

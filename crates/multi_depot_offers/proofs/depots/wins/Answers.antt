@@ -1,16 +1,7 @@
 -- `multi_depot_offers::depots::wins` meets its contract. Assumes nothing.
-use native.Mathlib.Omega.{arith}
-use Rattle.multi_depot_offers.proofs.Asking.{depot_row, unassigned, assigned}
+use Rattle.multi_depot_offers.proofs.Asking.{depot_row}
 use Rattle.multi_depot_offers.proofs.depots.wins.Goals as goal
 
-pub returns-then-depots-best : goal.returns-then-depots-best
-returns-then-depots-best c = let a = c.args in rw (unassigned a.sheet.now a.depots a.stop c.requires.row_asked a.best c.if-depots-best.true)
-
 pub is_sooner-requires : goal.is_sooner-requires
-is_sooner-requires c = let a = c.args in let p = c.requires.row_asked in record {
-  accepted = p.sheet;
-  stop_bound = (p.row, (depot_row a.sheet.now a.depots a.stop p a.d c.requires.d_lt_depots, depot_row a.sheet.now a.depots a.stop p a.best (omega arith)));
-}
-
-pub returns : goal.returns
-returns c = let a = c.args in rw (assigned a.sheet.now a.depots a.stop c.requires.row_asked a.best (omega arith)) c.is_sooner.ensures
+is_sooner-requires c = let p = c.requires in
+    (p.row_asked.row, (depot_row _ _ _ p.row_asked c.args.d p.d_lt_depots, depot_row _ _ _ p.row_asked c.in-Some.best (p.best_bound c.in-Some.best c.in-Some.is)))

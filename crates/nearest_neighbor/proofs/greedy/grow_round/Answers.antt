@@ -6,21 +6,17 @@ use Rattle.nearest_neighbor_choice.specs.Partial.{empty_partial}
 use Rattle.nearest_neighbor.proofs.Growing.{begins, length_same, routed, rides, grown_full, inside, stop_row, goes_on, grown_out, ends_at, ends_laid}
 use Rattle.nearest_neighbor.proofs.greedy.grow_round.Goals as goal
 
-pub vehicle_at-vehicle-requires-clause-accepted : goal.vehicle_at-vehicle-requires-clause-accepted
-vehicle_at-vehicle-requires-clause-accepted g c = c.requires.members.routed.sheet
-
-pub vehicle_at-vehicle-requires-clause-index_bound : goal.vehicle_at-vehicle-requires-clause-index_bound
-vehicle_at-vehicle-requires-clause-index_bound g c = c.requires.index_bound
+pub vehicle_at-vehicle-requires : goal.vehicle_at-vehicle-requires
+vehicle_at-vehicle-requires g c = c.requires.index_bound
 
 pub limits_for-limits-requires : goal.limits_for-limits-requires
 limits_for-limits-requires g c = let p = c.requires in record {
-  accepted = p.members.routed.sheet;
   index_bound = (p.index_bound, omega (arith, p.members.routed.home));
-  vehicle_value = c.vehicle_at-vehicle.ensures;
+  vehicle_value = c.vehicle_at-vehicle.ensures.value;
 }
 
 pub loop-end-init : goal.loop-end-init
-loop-end-init g c = ((c.vehicle_at-vehicle.ensures, c.limits_for-limits.ensures), begins c.args.sheet.now c.args.depot (g.R.Rule.which c.args.rule) c.args.index c.args.stops.now c.args.start c.args.total _ c.requires.members (c.empty_partial-partial.ensures ∙ ap (λ (l : RouteLimits). empty_partial l.rest c.args.depot) c.limits_for-limits.ensures))
+loop-end-init g c = ((c.vehicle_at-vehicle.ensures.value, c.limits_for-limits.ensures), begins c.args.sheet.now c.args.depot (g.R.Rule.which c.args.rule) c.args.index c.args.stops.now c.args.start c.args.total _ c.requires.members (c.empty_partial-partial.ensures ∙ ap (λ (l : RouteLimits). empty_partial l.rest c.args.depot) c.limits_for-limits.ensures))
 
 pub offset_bounds-stops-end : goal.offset_bounds-stops-end
 offset_bounds-stops-end g c = omega (arith, c.loop-end.invariant.1.members.most)

@@ -1,26 +1,11 @@
 -- `sheet::customer::marked_depots` meets its contract. Assumes nothing.
-use mathlib.Core.Path.{◌∙◌, sym}
-use native.Mathlib.Omega.{arith}
-use Rattle.sheet.proofs.Leading.{begins, ends, goes_on, stops}
+use Rattle.std.proofs.Common.{rules, ◌≡◌, true, false, ◌∙◌}
+use Rattle.std.proofs.lemmas.Iterator.{first_from_Range}
+use borrow.Author.Tests.{tests}
+use Rattle.sheet.specs.Depots.{is_depot}
+use Rattle.sheet.proofs.Leading.{first_unmarked}
 use Rattle.sheet.proofs.customer.marked_depots.Goals as goal
 
-pub loop-i-init : goal.loop-i-init
-loop-i-init c = (omega arith, begins c.args.sheet.now c.args.rows)
-
-pub is_depot-requires : goal.is_depot-requires
-is_depot-requires c = omega arith
-
-pub returns-then-not-is_depot : goal.returns-then-not-is_depot
-returns-then-not-is_depot c = let z = stops c.args.sheet.now c.args.rows c.loop-i.i c.loop-i-test.true (sym c.is_depot.ensures ∙ c.if-not-is_depot.true) in omega (arith, c.loop-i.invariant.1)
-
-pub overflow_step-i : goal.overflow_step-i
-overflow_step-i c = omega arith
-
-pub loop-i-smaller : goal.loop-i-smaller
-loop-i-smaller c = omega arith
-
-pub loop-i-preserved : goal.loop-i-preserved
-loop-i-preserved c = let z = goes_on c.args.sheet.now c.args.rows c.loop-i.i c.loop-i-test.true (sym c.is_depot.ensures ∙ c.if-not-is_depot.false) in (omega arith, omega (arith, c.loop-i.invariant.1))
-
 pub returns : goal.returns
-returns c = let z = ends c.args.sheet.now c.args.rows c.loop-i.i (omega arith) in omega (arith, c.loop-i.invariant)
+returns c = let s = c.args.sheet.now in
+    c.unwrap_or.ensures ∙ first_unmarked s c.args.rows c.find.result (first_from_Range _ _ _ _ (λ k. is_depot s k ≡ false) (λ k. is_depot s k ≡ true) c.find.ensures.ran (λ x q k. search (rules, tests)) (λ x q k. search (rules, tests)))

@@ -29,7 +29,7 @@ pub bounds-stops-at : goal.bounds-stops-at
 bounds-stops-at c = seed_in_lem _ _ _ _ _ _ _ _ _ _ _ _ _ _ c.loop-at.invariant c.loop-at-test.true c.farthest-seed.result c.farthest-seed.ensures
 
 pub goes_alone-requires : goal.goes_alone-requires
-goes_alone-requires c = let both = known _ _ _ _ _ _ _ _ _ _ _ _ _ _ c.loop-at.invariant c.loop-at-test.true c.farthest-seed.result c.farthest-seed.ensures in record { accepted = both.0; depot_bound = both.1 }
+goes_alone-requires c = let both = known _ _ _ _ _ _ _ _ _ _ _ _ _ _ c.loop-at.invariant c.loop-at-test.true c.farthest-seed.result c.farthest-seed.ensures in both.1
 
 pub overflow_add-at-then-not-goes_alone : goal.overflow_add-at-then-not-goes_alone
 overflow_add-at-then-not-goes_alone c = omega (arith, seed_in_lem _ _ _ _ _ _ _ _ _ _ _ _ _ _ c.loop-at.invariant c.loop-at-test.true c.farthest-seed.result c.farthest-seed.ensures, stops_long _ _ _ _ _ _ _ _ _ _ _ _ _ _ c.loop-at.invariant, c.loop-at.invariant.few)

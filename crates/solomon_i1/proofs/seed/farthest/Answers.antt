@@ -8,11 +8,8 @@ use Rattle.solomon_i1.proofs.seed.farthest.Goals as goal
 pub loop-j-init : goal.loop-j-init
 loop-j-init c = record { last = refl; within = omega arith; same = refl }
 
-pub distance-distance-requires-clause-accepted : goal.distance-distance-requires-clause-accepted
-distance-distance-requires-clause-accepted c = c.requires.sheet
-
-pub distance-distance-requires-clause-from_bound : goal.distance-distance-requires-clause-from_bound
-distance-distance-requires-clause-from_bound c = (c.requires.home, c.requires.row c.loop-j.j (omega (arith, c.loop-j.invariant.last)))
+pub distance-distance-requires : goal.distance-distance-requires
+distance-distance-requires c = (c.requires.home, c.requires.row c.loop-j.j (omega (arith, c.loop-j.invariant.last)))
 
 pub loop-j-preserved : goal.loop-j-preserved
 loop-j-preserved c =

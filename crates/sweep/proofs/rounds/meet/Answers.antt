@@ -6,11 +6,8 @@ use Rattle.sweep.proofs.rounds.meet.Goals as goal
 pub overflow_cast-stops : goal.overflow_cast-stops
 overflow_cast-stops c = omega (arith, next_row c.args.sheet.now c.args.stops.now c.args.terms.depot c.args.packing c.args.total c.requires.members c.requires.midway, c.requires.members.routed.sheet.sized.rows)
 
-pub demand-demand-requires-clause-accepted : goal.demand-demand-requires-clause-accepted
-demand-demand-requires-clause-accepted c = c.requires.members.routed.sheet
-
-pub demand-demand-requires-clause-row_bound : goal.demand-demand-requires-clause-row_bound
-demand-demand-requires-clause-row_bound c = next_row c.args.sheet.now c.args.stops.now c.args.terms.depot c.args.packing c.args.total c.requires.members c.requires.midway
+pub demand-demand-requires : goal.demand-demand-requires
+demand-demand-requires c = next_row c.args.sheet.now c.args.stops.now c.args.terms.depot c.args.packing c.args.total c.requires.members c.requires.midway
 
 pub is_unservable-requires : goal.is_unservable-requires
 is_unservable-requires c = let both = alone_asks c.args.sheet.now c.args.stops.now c.args.terms.depot c.args.packing c.args.total c.requires.members c.requires.midway _ c.demand-demand.ensures in record { routed = both.0; at_in_bounds = both.1.0; demand_value = both.1.1 }

@@ -4,4 +4,4 @@ use Rattle.nearest_neighbor_choice.proofs.nn_tw.NearestNeighborTwRule.clock_at.G
 
 pub returns : goal.returns
 unfolding clock_by
-returns c = rw (c.start_at.ensures, c.arrival_at.ensures, c.stop_at-stop.ensures)
+returns c = rw (c.service_start.ensures, c.arrival_at.ensures, c.stop_at-stop.ensures)

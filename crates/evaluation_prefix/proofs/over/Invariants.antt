@@ -1,6 +1,0 @@
--- `evaluation_prefix::over` meets its contract. Assumes nothing.
-use Rattle.evaluation.proofs.Walking.{Walking}
-use Rattle.evaluation_prefix.proofs.over.Given as goal
-
-abbrev pub invariant-loop-stop : goal.invariant-loop-stop
-invariant-loop-stop l = Walking l.sheet l.rows l.initial.label l.initial.distance l.initial.prev l.label l.distance l.prev l.stop-index

@@ -1,0 +1,45 @@
+-- `insertion::places::try_hard` meets its contract. Assumes nothing.
+use mathlib.Core.Path.{sym, ap, ◌∙◌}
+use native.Mathlib.Omega.{arith}
+use Rattle.insertion.specs.Place.{feasible_in}
+use Rattle.insertion.proofs.Trying.{trial_long, slides, joins, routed}
+use Rattle.insertion.proofs.Judged.{hard_lost, hard_out, hard_won}
+use Rattle.insertion.proofs.Trying.{front_alike, trial_grown}
+use Rattle.insertion.proofs.places.try_hard.Goals as goal
+
+pub detour-cost-requires-clause-routed : goal.detour-cost-requires-clause-routed
+detour-cost-requires-clause-routed b c = c.requires.joinable.round
+
+pub detour-cost-requires-clause-row_bound : goal.detour-cost-requires-clause-row_bound
+detour-cost-requires-clause-row_bound b c = (joins _ _ _ _ c.requires.joinable, c.requires.soft_value.1.1)
+
+pub returns-then-not-wins : goal.returns-then-not-wins
+returns-then-not-wins b c = let a = c.args in record {
+  choice_value = hard_lost a.sheet.now a.terms a.route.now a.row a.k c.requires.soft_value.0 a.walked.tried.choice a.j _ c.detour-cost.ensures (sym c.wins.ensures ∙ c.if-not-wins.true);
+  trial_2 = c.requires.trial;
+  knows_2 = (c.requires.knows, c.requires.soft_value.1.0);
+}
+
+pub slide-requires : goal.slide-requires
+slide-requires b c = (omega (arith, trial_long _ _ _ _ c.requires.trial, c.requires.trial.place), omega (arith, trial_long _ _ _ _ c.requires.trial, c.requires.soft_value.1.1))
+
+pub towards-next-requires-clause-routed : goal.towards-next-requires-clause-routed
+towards-next-requires-clause-routed b c = c.requires.joinable.round
+
+pub towards-next-requires-clause-knows : goal.towards-next-requires-clause-knows
+towards-next-requires-clause-knows b c = c.requires.knows
+
+pub towards-next-requires-clause-reach : goal.towards-next-requires-clause-reach
+towards-next-requires-clause-reach b c = (c.requires.soft_value.1.0, c.requires.soft_value.1.1)
+
+pub feasible-requires : goal.feasible-requires
+feasible-requires b c = let g = slides _ _ _ _ c.requires.trial _ _ c.requires.soft_value.1.1 c.slide.ensures in record {
+  routed = routed _ _ _ _ c.requires.joinable _ _ g;
+  knows = b.met.W.Walker.alike _ _ _ c.args.route.now _ _ c.towards-next.ensures.knows_2 (trial_grown _ _ _ _ g) (front_alike _ _ _ _ g _ c.towards-next.ensures.reach_2);
+}
+
+pub returns-then-not-feasible : goal.returns-then-not-feasible
+returns-then-not-feasible b c = let a = c.args in let g = slides _ _ _ _ c.requires.trial _ _ c.requires.soft_value.1.1 c.slide.ensures in let n = c.towards-next.ensures in rw c.walked_to.ensures (record { choice_value = hard_out a.sheet.now a.terms a.route.now a.row a.k c.requires.soft_value.0 a.walked.tried.choice a.j _ c.detour-cost.ensures _ (c.feasible.ensures ∙ ap (feasible_in a.sheet.now a.terms) g.holds) (c.if-not-feasible.true); trial_2 = g; knows_2 = (n.knows_2, n.reach_2) })
+
+pub returns : goal.returns
+returns b c = let a = c.args in let g = slides _ _ _ _ c.requires.trial _ _ c.requires.soft_value.1.1 c.slide.ensures in let n = c.towards-next.ensures in rw c.walked_to-2.ensures (record { choice_value = hard_won a.sheet.now a.terms a.route.now a.row a.k c.requires.soft_value.0 a.walked.tried.choice a.j _ c.detour-cost.ensures _ (c.feasible.ensures ∙ ap (feasible_in a.sheet.now a.terms) g.holds) (sym c.wins.ensures ∙ c.if-not-wins.false) (c.if-not-feasible.false); trial_2 = g; knows_2 = (n.knows_2, n.reach_2) })

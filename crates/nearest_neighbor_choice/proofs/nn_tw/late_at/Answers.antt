@@ -1,8 +1,0 @@
--- `nearest_neighbor_choice::nn_tw::late_at` meets its contract. Assumes nothing.
-use Rattle.nearest_neighbor_choice.proofs.nn_tw.late_at.Goals as goal
-
-pub returns-in-Hard : goal.returns-in-Hard
-returns-in-Hard c = rw (c.in-Hard.is, c.lateness.ensures)
-
-pub returns-in-Soft : goal.returns-in-Soft
-returns-in-Soft c = rw (c.in-Soft.is, c.lateness-in-Soft.ensures)

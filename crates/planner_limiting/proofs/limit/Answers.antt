@@ -1,0 +1,21 @@
+-- `planner_limiting::limit` meets its contract. Assumes nothing.
+use native.Mathlib.Omega.{arith}
+use Rattle.std.proofs.lemmas.Result.{err_from_is_err_and}
+use Rattle.sheet.specs.Laws.Told.{number_positive}
+use Rattle.planner_limiting.proofs.PlanOut.{limit_refused, limit_may, limit_fits, limit_done}
+use Rattle.planner_limiting.proofs.limit.Goals as goal
+
+pub returns-in_err-rounds : goal.returns-in_err-rounds
+returns-in_err-rounds c = let p = err_from_is_err_and c.from_residual.result c.from_residual.ensures.1 in rw (p.1, p.2) (limit_refused _ _ _ _ _ (number_positive _) c.in_err-rounds.ensures)
+
+pub new-requires : goal.new-requires
+new-requires c = c.in_ok-rounds.ensures.read.tables.sheet
+
+pub limit_read-requires-clause-limitable : goal.limit_read-requires-clause-limitable
+limit_read-requires-clause-limitable c = rw c.new.ensures (limit_may _ _ c.args.plan_out.now _ _ _ _ c.in_ok-rounds.ensures _ _ (omega arith) (omega arith))
+
+pub limit_read-requires-clause-plan_out_len : goal.limit_read-requires-clause-plan_out_len
+limit_read-requires-clause-plan_out_len c = rw c.new.ensures (limit_fits _ _ c.args.plan_out.now _ _ _ _ c.in_ok-rounds.ensures)
+
+pub returns : goal.returns
+returns c = limit_done _ _ _ _ _ _ _ c.in_ok-rounds.ensures _ _ (rw c.new.ensures at c.limit_read.ensures)

@@ -1,0 +1,7 @@
+-- `sheet::Sheet::demand` meets its contract. Assumes nothing.
+use Rattle.sheet.specs.Values.{demand_of}
+use Rattle.sheet.proofs.Sheet.demand.Goals as goal
+
+pub returns : goal.returns
+unfolding demand_of
+returns c = rw (← c.self.view_is) c.u32_at.ensures
