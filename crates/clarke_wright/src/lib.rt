@@ -11,30 +11,28 @@ ghost use Rattle.clarke_wright_savings.specs.Savings.{clarke_wright};
 
 use clarke_wright_savings::Savings;
 use clarke_wright_slots::RouteSlots;
-use constructive::tables::Filled;
+use constructive::tables::{Filled, RouteTables};
 use sheet::Sheet;
 
 // The plan by way of tables for so many pairs of members, and for the stops of the rounds. Each size is a function of its own:
 // the large tables' frame is no part of the plans with small ones.
-fn by_tables<const PAIRS: usize, const CELLS: usize>(
+fn by_tables<const PAIRS: usize, const CELLS: usize, const N: usize>(
     sheet: &Sheet,
     depot: usize,
     vehicle: u16,
-    stops: &mut [u16],
-    ends: &mut [u16],
-    vehicles: &mut [u16],
+    tables: &mut RouteTables<N>,
     filled: Filled,
     total: usize,
 ) -> Filled
-    requires members { Members sheet.now depot stops.old filled.routed total }
-    requires room { Room ends.old vehicles.old filled total }
+    requires members { Members sheet.now depot tables.old.stops filled.routed total }
+    requires room { Room tables.old.ends tables.old.vehicles filled total }
     requires vehicle_bound { vehicle < vehicles_of sheet.now }
-    requires by_index { (x : ℕ) → count x (part stops.old filled.routed total) ≤ 1 }
+    requires by_index { (x : ℕ) → count x (part tables.old.stops filled.routed total) ≤ 1 }
     requires members_in_bounds { (total - filled.routed) * (total - filled.routed) ≤ PAIRS }
     requires cells_in_bounds { (total - filled.routed) * most_rows ≤ CELLS }
     requires sizes_bound { (PAIRS ≤ most_rows * most_rows) × (CELLS ≤ most_rows * most_rows) }
-    ensures value { result ≡ filled_by filled (clarke_wright sheet.now depot vehicle (part stops.old filled.routed total)).rounds }
-    ensures stored { Stored stops.old ends.old vehicles.old filled (clarke_wright sheet.now depot vehicle (part stops.old filled.routed total)) stops.new ends.new vehicles.new }
+    ensures value { result ≡ filled_by filled (clarke_wright sheet.now depot vehicle (part tables.old.stops filled.routed total)).rounds }
+    ensures stored { Stored tables.old.stops tables.old.ends tables.old.vehicles filled (clarke_wright sheet.now depot vehicle (part tables.old.stops filled.routed total)) tables.new.stops tables.new.ends tables.new.vehicles }
 {
     let mut savings = Savings::<PAIRS>::new();
     let mut slots = RouteSlots::<CELLS>::new();
@@ -44,9 +42,7 @@ fn by_tables<const PAIRS: usize, const CELLS: usize>(
         sheet,
         depot,
         vehicle,
-        stops,
-        ends,
-        vehicles,
+        tables,
         filled,
         total,
         &mut savings,
@@ -58,44 +54,40 @@ fn by_tables<const PAIRS: usize, const CELLS: usize>(
 
 // The members stand in `stops` from where the tables are filled up to `total`; every round is the vehicle's, by its index.
 // Answers how far the tables are filled with the rounds; the stops set aside stand after them, up to `total`.
-pub fn clarke_wright_savings(
+pub fn clarke_wright_savings<const N: usize>(
     sheet: &Sheet,
     depot: usize,
     vehicle: u16,
-    stops: &mut [u16],
-    ends: &mut [u16],
-    vehicles: &mut [u16],
+    tables: &mut RouteTables<N>,
     filled: Filled,
     total: usize,
 ) -> Filled
-    requires members { Members sheet.now depot stops.old filled.routed total }
-    requires room { Room ends.old vehicles.old filled total }
+    requires members { Members sheet.now depot tables.old.stops filled.routed total }
+    requires room { Room tables.old.ends tables.old.vehicles filled total }
     requires vehicle_bound { vehicle < vehicles_of sheet.now }
-    requires by_index { (x : ℕ) → count x (part stops.old filled.routed total) ≤ 1 }
-    ensures value { result ≡ filled_by filled (clarke_wright sheet.now depot vehicle (part stops.old filled.routed total)).rounds }
-    ensures stored { Stored stops.old ends.old vehicles.old filled (clarke_wright sheet.now depot vehicle (part stops.old filled.routed total)) stops.new ends.new vehicles.new }
+    requires by_index { (x : ℕ) → count x (part tables.old.stops filled.routed total) ≤ 1 }
+    ensures value { result ≡ filled_by filled (clarke_wright sheet.now depot vehicle (part tables.old.stops filled.routed total)).rounds }
+    ensures stored { Stored tables.old.stops tables.old.ends tables.old.vehicles filled (clarke_wright sheet.now depot vehicle (part tables.old.stops filled.routed total)) tables.new.stops tables.new.ends tables.new.vehicles }
 {
-    by_tables::<10201, 10201>(sheet, depot, vehicle, stops, ends, vehicles, filled, total)
+    by_tables::<10201, 10201, N>(sheet, depot, vehicle, tables, filled, total)
 }
 
 // The same of at most 24 members, whose tables are a tenth as large: to set up the others takes longer than such a plan.
-pub fn clarke_wright_few(
+pub fn clarke_wright_few<const N: usize>(
     sheet: &Sheet,
     depot: usize,
     vehicle: u16,
-    stops: &mut [u16],
-    ends: &mut [u16],
-    vehicles: &mut [u16],
+    tables: &mut RouteTables<N>,
     filled: Filled,
     total: usize,
 ) -> Filled
-    requires members { Members sheet.now depot stops.old filled.routed total }
-    requires room { Room ends.old vehicles.old filled total }
+    requires members { Members sheet.now depot tables.old.stops filled.routed total }
+    requires room { Room tables.old.ends tables.old.vehicles filled total }
     requires vehicle_bound { vehicle < vehicles_of sheet.now }
-    requires by_index { (x : ℕ) → count x (part stops.old filled.routed total) ≤ 1 }
+    requires by_index { (x : ℕ) → count x (part tables.old.stops filled.routed total) ≤ 1 }
     requires routed_bound { total - filled.routed ≤ 24 }
-    ensures value { result ≡ filled_by filled (clarke_wright sheet.now depot vehicle (part stops.old filled.routed total)).rounds }
-    ensures stored { Stored stops.old ends.old vehicles.old filled (clarke_wright sheet.now depot vehicle (part stops.old filled.routed total)) stops.new ends.new vehicles.new }
+    ensures value { result ≡ filled_by filled (clarke_wright sheet.now depot vehicle (part tables.old.stops filled.routed total)).rounds }
+    ensures stored { Stored tables.old.stops tables.old.ends tables.old.vehicles filled (clarke_wright sheet.now depot vehicle (part tables.old.stops filled.routed total)) tables.new.stops tables.new.ends tables.new.vehicles }
 {
-    by_tables::<576, 2424>(sheet, depot, vehicle, stops, ends, vehicles, filled, total)
+    by_tables::<576, 2424, N>(sheet, depot, vehicle, tables, filled, total)
 }

@@ -13,7 +13,7 @@ ghost use Rattle.clarke_wright_slots.specs.Slots.{slots_in, Roomy, Slotted};
 use clarke_wright_savings::terms::Directed;
 use clarke_wright_savings::{Savings, terms};
 use clarke_wright_slots::RouteSlots;
-use constructive::tables::Filled;
+use constructive::tables::{Filled, RouteTables};
 use sheet::Sheet;
 
 // The members' rounds in the slots, once no saving is left; answers how many stops are set aside.
@@ -44,13 +44,11 @@ fn merge_members<const PAIRS: usize, const CELLS: usize>(
 }
 
 // The rounds by way of tables that are lent.
-pub fn plan_by<const PAIRS: usize, const CELLS: usize>(
+pub fn plan_by<const PAIRS: usize, const CELLS: usize, const N: usize>(
     sheet: &Sheet,
     depot: usize,
     vehicle: u16,
-    stops: &mut [u16],
-    ends: &mut [u16],
-    vehicles: &mut [u16],
+    tables: &mut RouteTables<N>,
     filled: Filled,
     total: usize,
     savings: &mut Savings<PAIRS>,
@@ -58,27 +56,20 @@ pub fn plan_by<const PAIRS: usize, const CELLS: usize>(
     trial: &mut [u16],
     aside: &mut [u16],
 ) -> Filled
-    requires members { Members sheet.now depot stops.old filled.routed total }
-    requires room { Room ends.old vehicles.old filled total }
+    requires members { Members sheet.now depot tables.old.stops filled.routed total }
+    requires room { Room tables.old.ends tables.old.vehicles filled total }
     requires vehicle_bound { vehicle < vehicles_of sheet.now }
-    requires by_index { (x : ℕ) → count x (part stops.old filled.routed total) ≤ 1 }
+    requires by_index { (x : ℕ) → count x (part tables.old.stops filled.routed total) ≤ 1 }
     requires members_in_bounds { (total - filled.routed) * (total - filled.routed) ≤ PAIRS }
     requires roomy { Roomy (total - filled.routed) slots.old.cells slots.old.lens slots.old.loads slots.old.slots }
     requires most_rows_in_bounds { (most_rows ≤ length trial.old) × (most_rows ≤ length aside.old) }
-    ensures value { result ≡ filled_by filled (clarke_wright sheet.now depot vehicle (part stops.old filled.routed total)).rounds }
-    ensures stored { Stored stops.old ends.old vehicles.old filled (clarke_wright sheet.now depot vehicle (part stops.old filled.routed total)) stops.new ends.new vehicles.new }
+    ensures value { result ≡ filled_by filled (clarke_wright sheet.now depot vehicle (part tables.old.stops filled.routed total)).rounds }
+    ensures stored { Stored tables.old.stops tables.old.ends tables.old.vehicles filled (clarke_wright sheet.now depot vehicle (part tables.old.stops filled.routed total)) tables.new.stops tables.new.ends tables.new.vehicles }
 {
     let start = filled.routed;
+    let stops = &tables.stops[..];
     let members = &stops[start..total];
     let terms = terms::directed_of(sheet, depot, vehicle, members);
     let left = merge_members(sheet, terms, members, savings, slots, trial, aside);
-    slots.lay(
-        total - start,
-        &aside[..left],
-        vehicle,
-        stops,
-        ends,
-        vehicles,
-        filled,
-    )
+    slots.lay(total - start, &aside[..left], vehicle, tables, filled)
 }

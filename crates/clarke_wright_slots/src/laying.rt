@@ -6,22 +6,20 @@ ghost use Rattle.clarke_wright_slots.specs.Slots.{slots_in, routed_stops, Laying
 
 use crate::RouteSlots;
 use constructive::tables;
-use constructive::tables::Filled;
+use constructive::tables::{Filled, RouteTables};
 
 impl<const CELLS: usize> RouteSlots<CELLS> {
     // The slots that have stops, in order, each a round of the vehicle, behind what the tables hold.
-    fn lay_slots(
+    fn lay_slots<const N: usize>(
         &self,
         count: usize,
         vehicle: u16,
-        stops: &mut [u16],
-        ends: &mut [u16],
-        vehicles: &mut [u16],
+        tables: &mut RouteTables<N>,
         filled: Filled,
     ) -> Filled
-        requires { Laying count self.now.cells self.now.lens stops.old ends.old vehicles.old filled }
+        requires { Laying count self.now.cells self.now.lens tables.old.stops tables.old.ends tables.old.vehicles filled }
         ensures value { result ≡ filled_by filled (rounds_of vehicle (slots_in count self.now.cells self.now.lens)) }
-        ensures stored { Stored stops.old ends.old vehicles.old filled (record { rounds = rounds_of vehicle (slots_in count self.now.cells self.now.lens); aside = [] }) stops.new ends.new vehicles.new }
+        ensures stored { Stored tables.old.stops tables.old.ends tables.old.vehicles filled (record { rounds = rounds_of vehicle (slots_in count self.now.cells self.now.lens); aside = [] }) tables.new.stops tables.new.ends tables.new.vehicles }
     {
         let cells = &self.cells[..];
         let mut done = filled;
@@ -33,30 +31,30 @@ impl<const CELLS: usize> RouteSlots<CELLS> {
             }
             let at = sheet::MOST_ROWS * k;
             let start = done.routed;
+            let stops = &mut tables.stops[..];
             stops[start..start + n].copy_from_slice(&cells[at..at + n]);
-            done = tables::close_round(ends, vehicles, done, vehicle, start + n);
+            done = tables.close_round(done, vehicle, start + n);
         }
         done
     }
 
     // The same, and behind the rounds the stops set aside.
-    pub fn lay(
+    pub fn lay<const N: usize>(
         &self,
         count: usize,
         aside: &[u16],
         vehicle: u16,
-        stops: &mut [u16],
-        ends: &mut [u16],
-        vehicles: &mut [u16],
+        tables: &mut RouteTables<N>,
         filled: Filled,
     ) -> Filled
-        requires laying { Laying count self.now.cells self.now.lens stops.old ends.old vehicles.old filled }
-        requires aside_in_bounds { filled.routed + routed_stops (slots_in count self.now.cells self.now.lens) + length aside.now ≤ length stops.old }
+        requires laying { Laying count self.now.cells self.now.lens tables.old.stops tables.old.ends tables.old.vehicles filled }
+        requires aside_in_bounds { filled.routed + routed_stops (slots_in count self.now.cells self.now.lens) + length aside.now ≤ length tables.old.stops }
         ensures value { result ≡ filled_by filled (rounds_of vehicle (slots_in count self.now.cells self.now.lens)) }
-        ensures stored { Stored stops.old ends.old vehicles.old filled (record { rounds = rounds_of vehicle (slots_in count self.now.cells self.now.lens); aside = aside.now }) stops.new ends.new vehicles.new }
+        ensures stored { Stored tables.old.stops tables.old.ends tables.old.vehicles filled (record { rounds = rounds_of vehicle (slots_in count self.now.cells self.now.lens); aside = aside.now }) tables.new.stops tables.new.ends tables.new.vehicles }
     {
-        let done = self.lay_slots(count, vehicle, stops, ends, vehicles, filled);
+        let done = self.lay_slots(count, vehicle, tables, filled);
         let end = done.routed;
+        let stops = &mut tables.stops[..];
         stops[end..end + aside.len()].copy_from_slice(aside);
         done
     }

@@ -1,5 +1,5 @@
 -- What is asked of the tables of an outcome.
-use Rattle.std.specs.Prelude.{ℕ, ◌≤◌, ◌<◌, List, [], ◌∷◌, length, get_or}
+use Rattle.std.specs.Prelude.{◌≡◌, ℕ, ◌≤◌, ◌<◌, List, [], ◌∷◌, length, get_or}
 use Rattle.sheet.specs.Fields.{rows_of, vehicles_of, most_rows}
 use Rattle.sheet.specs.Accepted.{Accepted}
 use Rattle.sheet.specs.Values.{vehicle_of}
@@ -22,6 +22,12 @@ pub record Tables (s stops ends vehicles : List ℕ) (n total : ℕ) : Type 0 wh
 -- the rounds alone
 abbrev pub RoundTables : List ℕ → List ℕ → List ℕ → List ℕ → ℕ → Type 0
 RoundTables s stops ends vehicles n = (total : ℕ) × Tables s stops ends vehicles n total
+
+-- tables that are as long as they were: what a loop that fills them anew goes by
+pub record AsLong (stops ends vehicles stops' ends' vehicles' : List ℕ) : Type 0 where
+  pub stopped : length stops' ≡ length stops
+  pub ended : length ends' ≡ length ends
+  pub driven : length vehicles' ≡ length vehicles
 
 -- a round of a vehicle of the sheet
 pub record RoundOf (s : List ℕ) (r : Round) : Type 0 where

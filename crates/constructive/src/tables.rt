@@ -1,5 +1,5 @@
 // The tables that constructors fill: the rounds' stops one after another, where each round ends, and its vehicle.
-ghost use Rattle.std.specs.Prelude.{◌≡◌, [], ◌∷◌, ◌++◌, ◌+◌, ◌-◌, ◌≤◌, ◌<◌, length, get_or, take, drop};
+ghost use Rattle.std.specs.Prelude.{◌≡◌, [], ◌∷◌, ◌++◌, ◌+◌, ◌-◌, ◌≤◌, ◌<◌, length, get_or, replicate, take, drop};
 ghost use Rattle.sheet.specs.Fields.{most_rows};
 ghost use Rattle.wire.specs.Bytes.{write};
 ghost use Rattle.constructive.specs.Outcome.{start_in};
@@ -11,25 +11,65 @@ pub struct Filled {
     pub routed: usize,
 }
 
-// Adds a round to the tables.
-pub fn close_round(
-    ends: &mut [u16],
-    vehicles: &mut [u16],
-    filled: Filled,
-    index: u16,
-    end: usize,
-) -> Filled
-    requires rounds_in_bounds { (filled.rounds < length ends.old) × (filled.rounds < length vehicles.old) }
-    requires end_le_most_rows { end ≤ most_rows }
-    ensures value { result ≡ record { rounds = filled.rounds + 1; routed = end } }
-    ensures ends_after { (ends.new ≡ write ends.old filled.rounds (end ∷ [])) × (vehicles.new ≡ write vehicles.old filled.rounds (index ∷ [])) }
-{
-    let rounds = filled.rounds;
-    ends[rounds] = end as u16;
-    vehicles[rounds] = index;
-    Filled {
-        rounds: rounds + 1,
-        routed: end,
+// Tables of N stops and N rounds at most. A part of one is taken of a slice of it: the borrow checker takes none of an array
+// whose length is a parameter.
+#[derive(Drop)]
+pub struct RouteTables<const N: usize> {
+    pub stops: [u16; N],
+    pub ends: [u16; N],
+    pub vehicles: [u16; N],
+}
+
+impl<const N: usize> RouteTables<N> {
+    pub fn new() -> Self
+        ensures { result ≡ record { stops = replicate N 0; ends = replicate N 0; vehicles = replicate N 0 } }
+    {
+        RouteTables {
+            stops: [0; N],
+            ends: [0; N],
+            vehicles: [0; N],
+        }
+    }
+
+    // Adds a round.
+    pub fn close_round(&mut self, filled: Filled, index: u16, end: usize) -> Filled
+        requires rounds_in_bounds { (filled.rounds < length self.old.ends) × (filled.rounds < length self.old.vehicles) }
+        requires end_le_most_rows { end ≤ most_rows }
+        ensures value { result ≡ record { rounds = filled.rounds + 1; routed = end } }
+        ensures ends_after { (self.new.ends ≡ write self.old.ends filled.rounds (end ∷ [])) × (self.new.vehicles ≡ write self.old.vehicles filled.rounds (index ∷ [])) }
+        ensures stops_kept { self.new.stops ≡ self.old.stops }
+    {
+        let rounds = filled.rounds;
+        self.ends[rounds] = end as u16;
+        self.vehicles[rounds] = index;
+        Filled {
+            rounds: rounds + 1,
+            routed: end,
+        }
+    }
+
+    // Where the round after the first n starts.
+    pub fn start_of(&self, n: usize) -> usize
+        requires { n ≤ length self.now.ends }
+        ensures { result ≡ start_in self.now.ends n }
+    {
+        if n == 0 { 0 } else { self.ends[n - 1] as usize }
+    }
+
+    // Where the round counted k from 0 ends.
+    pub fn end_of(&self, k: usize) -> usize
+        requires { k < length self.now.ends }
+        ensures { result ≡ get_or self.now.ends k 0 }
+    {
+        self.ends[k] as usize
+    }
+
+    // Its vehicle, by the index in the sheet.
+    pub fn vehicle_of(&self, k: usize) -> u16
+        requires { k < length self.now.vehicles }
+        ensures { result ≡ get_or self.now.vehicles k 0 }
+    {
+        self.vehicles[k]
     }
 }
 
@@ -58,12 +98,4 @@ pub fn send_last(stops: &mut [u16], from: usize)
         stops[i] = stops[i + 1];
     }
     stops[last] = sent;
-}
-
-// Where the round after the first n starts.
-pub fn end_of(ends: &[u16], n: usize) -> usize
-    requires { n ≤ length ends.now }
-    ensures { result ≡ start_in ends.now n }
-{
-    if n == 0 { 0 } else { ends[n - 1] as usize }
 }

@@ -11,10 +11,10 @@ use lib.Seq.{length-take-le}
 use Rattle.sheet.specs.Fields.{vehicles_of}
 use Rattle.evaluation.specs.Routed.{Routed}
 use Rattle.constructive.specs.Outcome.{rounds_in, start_in}
-use Rattle.constructive.specs.Tables.{Tables}
 use Rattle.constructive.proofs.InTables.{part, round_of}
 use Rattle.insertion.specs.Choice.{Choice}
 use Rattle.fleet.specs.Cheapest.{in_round, insertion_from, cheapest_insertion}
+use Rattle.fleet_cheapest.specs.Promises.{RoomToTry}
 
 -- ---- the round counted i, as it is lent, and the part of the trial that is lent with it
 pub record Lent (s stops ends vehicles trial : List ℕ) (start i : ℕ) : Type 0 where
@@ -38,20 +38,22 @@ module _ (s stops ends vehicles : List ℕ) (n : ℕ) (soft : Bool) (row : ℕ) 
   begins = let e : n - 0 ≡ n = omega arith in record { few = omega arith; from = refl; long = refl; same = rw e }
 
   module _ (trial : List ℕ) (best : Choice) (start i : ℕ) (g : Inserting s stops ends vehicles n soft row trial₀ trial best start i) where
-    pub lent : Tables s stops ends vehicles n (length stops) → length stops < 101 → length stops < length trial₀ → i < n → Lent s stops ends vehicles trial start i
-    lent ok few wide h =
-        let p = part s stops ends vehicles n (length stops) ok i h start g.from in
-        let r = round_of s stops ends vehicles n (length stops) ok i h in
+    pub lent : RoomToTry s stops ends vehicles n trial₀ → i < n → Lent s stops ends vehicles trial start i
+    lent a h =
+        let ok = a.tables in
+        let p = part s stops ends vehicles n a.total ok i h start g.from in
+        let r = round_of s stops ends vehicles n a.total ok i h in
+        let w = ok.within i h in
         let rows = rw (← g.from) at r.routed.row in
         let l : length (take (get_or ends i 0 - start) (drop start stops)) ≡ get_or ends i 0 - start = length-take-le (get_or ends i 0 - start) (drop start stops) (omega (arith, length-drop start stops)) in
         record {
           from = p.0;
           within = p.1;
-          wide = omega (arith, g.long);
-          routed = record { sheet = ok.sheet; home = omega (arith, ok.few); few = omega arith; row = rows };
+          wide = omega (arith, g.long, w, a.wide);
+          routed = record { sheet = ok.sheet; home = omega (arith, ok.few); few = omega (arith, l, w, a.few); row = rows };
           own = r.vehicle;
-          room = omega arith;
-          exact = length-take-le (get_or ends i 0 - start + 1) trial (omega (arith, g.long)) ∙ ap (λ (m : ℕ). m + 1) (sym l);
+          room = omega (arith, l, w, a.few);
+          exact = length-take-le (get_or ends i 0 - start + 1) trial (omega (arith, g.long, w, a.wide)) ∙ ap (λ (m : ℕ). m + 1) (sym l);
         }
 
     pub goes_on : (after : List ℕ) (next : Choice) → i < n → length after ≡ length trial → next ≡ in_round s soft row best i (record { vehicle = get_or vehicles i 0; stops = take (get_or ends i 0 - start) (drop start stops) })

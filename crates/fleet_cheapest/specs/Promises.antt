@@ -1,12 +1,13 @@
 -- What the code that judges insertions is told of a sheet's windows, and the terms by which it judges the rounds of a vehicle.
-use Rattle.std.specs.Prelude.{◌≡◌, ℕ, ◌<◌, false, not, ◌||◌, List}
+use Rattle.std.specs.Prelude.{◌≡◌, ℕ, ◌<◌, false, not, ◌||◌, List, length}
 use Rattle.std.specs.Float.{inf}
-use Rattle.sheet.specs.Fields.{rows_of}
+use Rattle.sheet.specs.Fields.{rows_of, most_rows}
 use Rattle.sheet.specs.Accepted.{Accepted}
 use Rattle.sheet.specs.Values.{vehicle_of}
 use Rattle.evaluation.specs.Limits.{limits_at, is_unlimited}
 use Rattle.constructive.specs.Unchecked.{Windowless}
 use Rattle.constructive.specs.declared.terms.Terms.{Terms}
+use Rattle.constructive.specs.Tables.{Tables}
 use Rattle.insertion.specs.Choice.{Choice}
 use Rattle.insertion.specs.Place.{detour, wins}
 use Rattle.fleet_cheapest.specs.declared.Windows.{Windows}
@@ -32,3 +33,10 @@ terms_at s w v = record {
 -- none of the first n places wins over the best so far
 abbrev pub Unwon : List ℕ → List ℕ → ℕ → Choice → ℕ → Type 0
 Unwon s route row c n = (k : ℕ) → k < n → wins (detour s 0 route row k) c ≡ false
+
+-- tables of n rounds, and room to try the longest with a stop more
+pub record RoomToTry (s stops ends vehicles : List ℕ) (n : ℕ) (trial : List ℕ) : Type 0 where
+  pub total : ℕ
+  pub tables : Tables s stops ends vehicles n total
+  pub few : total < most_rows
+  pub wide : total < length trial

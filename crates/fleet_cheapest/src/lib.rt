@@ -5,11 +5,11 @@ ghost use Rattle.std.specs.Prelude.{◌≡◌, false, ◌+◌, ◌<◌, length};
 ghost use Rattle.sheet.specs.Fields.{rows_of, vehicles_of, most_rows};
 ghost use Rattle.evaluation.specs.Routed.{Routed};
 ghost use Rattle.constructive.specs.Outcome.{rounds_in};
-ghost use Rattle.constructive.specs.Tables.{Tables};
 ghost use Rattle.fleet.specs.Cheapest.{in_round, cheapest_insertion, pick_of};
-ghost use Rattle.fleet_cheapest.specs.Promises.{WindowsOf, Unwon, terms_at};
+ghost use Rattle.fleet_cheapest.specs.Promises.{WindowsOf, Unwon, RoomToTry, terms_at};
 
 use constructive::load;
+use constructive::tables::RouteTables;
 use constructive::terms::Terms;
 use evaluation::limits;
 use evaluation_prefix::Prefix;
@@ -134,31 +134,30 @@ fn try_round(
 }
 
 // The cheapest insertion of one stop into the n rounds of the tables.
-fn cheapest_insertion(
+fn cheapest_insertion<const N: usize>(
     sheet: &Sheet,
     windows: Windows,
-    stops: &[u16],
-    ends: &[u16],
-    vehicles: &[u16],
+    tables: &RouteTables<N>,
     n: usize,
     row: u16,
     trial: &mut [u16],
 ) -> Choice
     requires windows_of { WindowsOf sheet.now windows }
-    requires tables { Tables sheet.now stops.now ends.now vehicles.now n (length stops.now) }
-    requires row_bound { (row < rows_of sheet.now) × (length stops.now < most_rows) × (length stops.now < length trial.old) }
-    ensures { result ≡ cheapest_insertion sheet.now windows.soft (rounds_in stops.now ends.now vehicles.now n 0 0) row }
+    requires room { RoomToTry sheet.now tables.now.stops tables.now.ends tables.now.vehicles n trial.old }
+    requires row_bound { row < rows_of sheet.now }
+    ensures { result ≡ cheapest_insertion sheet.now windows.soft (rounds_in tables.now.stops tables.now.ends tables.now.vehicles n 0 0) row }
 {
+    let stops = &tables.stops[..];
     let mut best = None;
     let mut start: usize = 0;
     // by rounds: one stands in two tables, and the choice names it by i
     for i in 0..n {
-        let end = ends[i] as usize;
+        let end = tables.end_of(i);
         let room = end - start + 1;
         let next = try_round(
             sheet,
             windows,
-            vehicles[i],
+            tables.vehicle_of(i),
             &stops[start..end],
             row,
             &mut trial[..room],
@@ -172,25 +171,22 @@ fn cheapest_insertion(
 }
 
 // The cheapest insertion of the stops pending, which stand in `pending`, into the n rounds of the tables.
-pub fn cheapest(
+pub fn cheapest<const N: usize>(
     sheet: &Sheet,
     windows: Windows,
-    stops: &[u16],
-    ends: &[u16],
-    vehicles: &[u16],
+    tables: &RouteTables<N>,
     n: usize,
     pending: &[u16],
     trial: &mut [u16],
 ) -> Pick
     requires windows_of { WindowsOf sheet.now windows }
-    requires tables { Tables sheet.now stops.now ends.now vehicles.now n (length stops.now) }
+    requires room { RoomToTry sheet.now tables.now.stops tables.now.ends tables.now.vehicles n trial.old }
     requires routed { Routed sheet.now 0 pending.now }
-    requires stops_len_bound { (length stops.now < most_rows) × (length stops.now < length trial.old) }
-    ensures { result ≡ pick_of sheet.now windows.soft (rounds_in stops.now ends.now vehicles.now n 0 0) pending.now }
+    ensures { result ≡ pick_of sheet.now windows.soft (rounds_in tables.now.stops tables.now.ends tables.now.vehicles n 0 0) pending.now }
 {
     let mut best = None;
     for (j, &row) in pending.iter().enumerate() {
-        let choice = cheapest_insertion(sheet, windows, stops, ends, vehicles, n, row, trial);
+        let choice = cheapest_insertion(sheet, windows, tables, n, row, trial);
         best = fleet::pick_with(best, j, choice);
     }
     best

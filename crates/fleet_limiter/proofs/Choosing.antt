@@ -1,21 +1,21 @@
 -- The rounds of the tables, apart from the stops behind them. Assumes nothing.
-use mathlib.Core.Path.{◌≡◌, ap, ◌∙◌}
+use mathlib.Core.Path.{◌≡◌, sym, ◌∙◌}
 use Prim.Native.Nat.{ℕ, ◌+◌, ◌-◌, ◌≤◌, ◌<◌}
 use native.Mathlib.Omega.{arith}
 use mathlib.Core.Bool.{Bool}
-use mathlib.Core.List.{List, []}
-use lib.ListN.{length, take, drop, length-drop}
+use mathlib.Core.List.{List, [], append-nil}
+use lib.ListN.{drop, length-drop}
 use lib.Seq.{length-take-le, get_or-take, get_or-drop}
 use Rattle.sheet.specs.Fields.{rows_of}
 use Rattle.evaluation.specs.Routed.{Routed}
-use Rattle.constructive.specs.Outcome.{Outcome, rounds_in, start_in, outcome_in}
+use Rattle.constructive.specs.Outcome.{Outcome, rounds_in, start_in, outcome_in, chains}
 use Rattle.constructive.specs.Members.{part}
 use Rattle.constructive.specs.Tables.{Tables}
-use Rattle.constructive.specs.Laws.TableContents.{held_outcome}
 use Rattle.fleet.specs.Pick.{Pick}
 use Rattle.fleet.specs.Cheapest.{pick_of}
 use Rattle.fleet_tables.specs.Promises.{TablesOf}
-use Rattle.fleet_tables.specs.Laws.Standing.{tables_tabled, tables_sound, sound_tables, rounds_tabled, alone_sound}
+use Rattle.fleet_tables.specs.Laws.Standing.{tables_tabled, tables_sound, sound_tables, alone_sound}
+use Rattle.fleet_tables.specs.Laws.Places.{tabled}
 
 module _ (s stops ends vehicles : List ℕ) (n total : ℕ) (ok : Tables s stops ends vehicles n total) where
   abbrev pub whole : Outcome
@@ -41,24 +41,16 @@ module _ (s stops ends vehicles : List ℕ) (n total : ℕ) (ok : Tables s stops
     pub routed_within : routed ≤ total
     routed_within = omega (arith, held.from)
 
-    pub routed_long : length (take routed stops) ≡ routed
-    routed_long = length-take-le routed stops (omega (arith, routed_within, ok.all))
-
-    alone : TablesOf (take routed stops) ends vehicles n routed (record { rounds = whole.rounds; aside = [] })
-    alone = rw e (rounds_tabled s stops ends vehicles n total whole held)
-
     -- the tables of the rounds without the stops behind them
-    pub alone_tables : Tables s (take routed stops) ends vehicles n (length (take routed stops))
-    alone_tables = rw routed_long
-        (sound_tables s (take routed stops) ends vehicles n routed (record { rounds = whole.rounds; aside = [] }) alone (alone_sound s whole (tables_sound s stops ends vehicles n total ok)) ok.sheet ok.few (omega (arith, routed_within, ok.most)))
+    alone : TablesOf stops ends vehicles n routed (record { rounds = whole.rounds; aside = [] })
+    alone = rw e
+        (tabled stops ends vehicles n (start_in ends n) (record { rounds = whole.rounds; aside = [] }) held.holds.count held.holds.ended held.holds.driven
+        (held.holds.stopped ∙ sym (append-nil (chains whole.rounds []))) (omega (arith, held.holds.routed)) (omega (arith, held.from, held.within)))
 
-    pub alone_outcome : outcome_in (take routed stops) ends vehicles n (length (take routed stops)) ≡ record { rounds = whole.rounds; aside = [] }
-    alone_outcome = rw routed_long (held_outcome (take routed stops) ends vehicles (record { rounds = n; routed = start_in ends n }) routed (record { rounds = whole.rounds; aside = [] }) alone)
+    pub alone_tables : Tables s stops ends vehicles n routed
+    alone_tables =
+        sound_tables s stops ends vehicles n routed (record { rounds = whole.rounds; aside = [] }) alone (alone_sound s whole (tables_sound s stops ends vehicles n total ok)) ok.sheet ok.few (omega (arith, routed_within, ok.most))
 
-    alone_rounds : rounds_in (take routed stops) ends vehicles n 0 0 ≡ whole.rounds
+    pub picked : (soft : Bool) (p : Pick) → p ≡ pick_of s soft (rounds_in stops ends vehicles n 0 0) (part stops routed total) → p ≡ pick_of s soft whole.rounds whole.aside
     unfolding outcome_in
-    alone_rounds = ap (λ (o : Outcome). o.rounds) alone_outcome
-
-    pub picked : (soft : Bool) (p : Pick) → p ≡ pick_of s soft (rounds_in (take routed stops) ends vehicles n 0 0) (part stops routed total) → p ≡ pick_of s soft whole.rounds whole.aside
-    unfolding outcome_in
-    picked soft p q = q ∙ rw (alone_rounds, e)
+    picked soft p q = rw e at q

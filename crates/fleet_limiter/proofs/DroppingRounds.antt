@@ -1,20 +1,22 @@
 -- The loop over the rounds that are too many: one is dropped, or no more are. Assumes nothing.
 use mathlib.Core.Path.{◌≡◌, refl, sym, ap, ◌∙◌, subst}
-use Prim.Native.Nat.{ℕ, zero, suc, ◌+◌, ◌-◌, ◌≤◌, ◌<◌}
+use Prim.Native.Nat.{ℕ, zero, suc, ◌-◌, ◌≤◌, ◌<◌}
 use native.Mathlib.Omega.{arith}
 use mathlib.Core.Bool.{Bool}
 use mathlib.Core.List.{List, ◌++◌}
-use lib.ListN.{length, take, drop, length-append, length-drop}
-use lib.Seq.{length-take-le}
+use lib.ListN.{length, take, drop, length-drop, take-append-drop}
+use lib.Seq.{length-take-le, take-take}
 use borrow.Author.Tests.{lt-ltb, le-ltb}
 use Rattle.constructive.specs.Outcome.{Outcome, start_in, outcome_in}
 use Rattle.constructive.specs.Tables.{Tables}
 use Rattle.constructive.specs.Laws.TableContents.{held_outcome}
 use Rattle.fleet.specs.Limit.{Refit, refit_on, dropped, drop_round, limit_on}
 use Rattle.fleet_tables.specs.Promises.{TablesOf}
+use Rattle.fleet_tables.specs.Laws.Places.{stops_upto, total_long}
+use Rattle.fleet_tables.specs.Laws.Places.{tabled as tabled_by}
 use Rattle.fleet_tables.specs.Laws.Standing.{Sound, tables_tabled, tables_sound, sound_tables, aside_sound, joined_tabled, joined_sound}
 use Rattle.fleet_limiter.specs.Promises.{TablesHold, set_down, refit_outcome}
-use Rattle.fleet_limiter.proofs.Choosing.{whole, held, routed_within, routed_long, alone_tables, alone_outcome}
+use Rattle.fleet_limiter.proofs.Choosing.{whole, held, routed_within, alone_tables}
 
 -- ---- the definition
 limit_drops : (s : List ℕ) (soft : Bool) (greatest m : ℕ) (o : Outcome) → greatest < length o.rounds → limit_on s soft greatest (suc m) o ≡ limit_on s soft greatest m (drop_round s soft o)
@@ -29,9 +31,6 @@ limit_rests s soft greatest (suc m) o h = rw (le-ltb greatest (length o.rounds) 
 -- ---- the loop
 pub record DroppingRounds (s : List ℕ) (soft : Bool) (greatest : ℕ) (stops₀ ends₀ vehicles₀ trial₀ : List ℕ) (rounds total : ℕ) (stops ends vehicles trial : List ℕ) (n : ℕ) : Type 0 where
   pub tables : Tables s stops ends vehicles n total
-  pub stopped : length stops ≡ length stops₀
-  pub ended : length ends ≡ length ends₀
-  pub driven : length vehicles ≡ length vehicles₀
   pub tried : length trial ≡ length trial₀
   pub same : limit_on s soft greatest n (outcome_in stops ends vehicles n total) ≡ limit_on s soft greatest rounds (outcome_in stops₀ ends₀ vehicles₀ rounds total)
 
@@ -48,58 +47,71 @@ module _ (s : List ℕ) (soft : Bool) (greatest : ℕ) (stops₀ ends₀ vehicle
 
   module _ (h : greatest < n) (routed : ℕ) (e : routed ≡ start_in ends n) where
     -- ---- what the call asks
-    pub lent : length (take routed stops) ≡ routed
-    lent = routed_long s stops ends vehicles n total g.tables routed e
+    pub few : routed ≤ total
+    few = routed_within s stops ends vehicles n total g.tables routed e
 
-    pub few : length (take routed stops) ≤ total
-    few = omega (arith, lent, routed_within s stops ends vehicles n total g.tables routed e)
-
-    pub alone : Tables s (take routed stops) ends vehicles n (length (take routed stops))
+    pub alone : Tables s stops ends vehicles n routed
     alone = alone_tables s stops ends vehicles n total g.tables routed e
 
     -- ---- what it leaves
-    module _ (part ends' vehicles' : List ℕ) (long : length part ≡ length (take routed stops))
-        (d : TablesHold s part ends' vehicles' (n - 1) (length (take routed stops)) (refit_outcome s soft (dropped s (outcome_in (take routed stops) ends vehicles n (length (take routed stops))).rounds))) where
+    module _ (stops' ends' vehicles' : List ℕ) (behind : drop routed stops' ≡ drop routed stops)
+        (d : TablesHold s stops' ends' vehicles' (n - 1) routed (refit_outcome s soft (dropped s (outcome_in stops ends vehicles n routed).rounds))) where
       abbrev x : Refit
       x = refit_on s soft (length (dropped s o.rounds).pending) (dropped s o.rounds)
 
-      part_outcome : outcome_in part ends' vehicles' (n - 1) (length part) ≡ set_down x
-      part_outcome = rw long (d.outcome ∙ ap (λ (q : Outcome). refit_outcome s soft (dropped s q.rounds)) (alone_outcome s stops ends vehicles n total g.tables routed e))
+      abbrev part : List ℕ
+      part = take routed stops'
 
-      part_tables : Tables s part ends' vehicles' (n - 1) (length part)
-      part_tables = rw long d.tables
+      front_outcome : outcome_in stops' ends' vehicles' (n - 1) routed ≡ set_down x
+      unfolding outcome_in
+      front_outcome = d.outcome
+
+      front_tabled : TablesOf stops' ends' vehicles' (n - 1) routed (set_down x)
+      front_tabled = subst (TablesOf stops' ends' vehicles' (n - 1) routed) front_outcome (tables_tabled s stops' ends' vehicles' (n - 1) routed d.tables)
+
+      part_long : length part ≡ routed
+      part_long = length-take-le routed stops' front_tabled.within
+
+      part_tabled : TablesOf part ends' vehicles' (n - 1) (length part) (set_down x)
+      part_tabled = rw part_long
+          (tabled_by part ends' vehicles' (n - 1) routed (set_down x) front_tabled.holds.count front_tabled.holds.ended front_tabled.holds.driven
+          (take-take routed routed stops' (omega arith) ∙ stops_upto stops' ends' vehicles' (n - 1) routed (set_down x) front_tabled)
+          (total_long stops' ends' vehicles' (n - 1) routed (set_down x) front_tabled)
+          (omega (arith, part_long)))
 
       aside_long : length o.aside ≡ total - routed
       unfolding outcome_in
       aside_long = rw e (length-take-le (total - start_in ends n) (drop (start_in ends n) stops) (omega (arith, length-drop (start_in ends n) stops, g.tables.all)))
 
-      behind : take (length o.aside) (drop routed stops) ≡ o.aside
-      behind = ap (λ (k : ℕ). take k (drop routed stops)) aside_long ∙ rw e tabled.aside
+      behind_so : take (length o.aside) (drop routed stops') ≡ o.aside
+      behind_so = ap (take (length o.aside)) behind ∙ ap (λ (k : ℕ). take k (drop routed stops)) aside_long ∙ rw e tabled.aside
 
-      after : TablesOf (part ++ drop routed stops) ends' vehicles' (n - 1) total (drop_round s soft o)
+      long : length (part ++ drop routed stops') ≡ length stops'
+      long = ap length (take-append-drop routed stops')
+
+      -- as many stops stand behind the rounds' as before
+      within : total ≤ length stops'
+      within = omega (arith, ap length behind, length-drop routed stops', length-drop routed stops, front_tabled.within, g.tables.all, few)
+
+      joined : TablesOf (part ++ drop routed stops') ends' vehicles' (n - 1) total (drop_round s soft o)
       unfolding drop_round
-      after =
-          let w = routed_within s stops ends vehicles n total g.tables routed e in
-          joined_tabled part (drop routed stops) ends' vehicles' (n - 1) x.rounds x.pending o.aside
-          (subst (TablesOf part ends' vehicles' (n - 1) (length part)) part_outcome (tables_tabled s part ends' vehicles' (n - 1) (length part) part_tables))
-          total (omega (arith, aside_long, long, lent, w)) (omega (arith, length-append part (drop routed stops), length-drop routed stops, long, lent, w, g.tables.all)) behind
+      joined = joined_tabled part (drop routed stops') ends' vehicles' (n - 1) x.rounds x.pending o.aside part_tabled total (omega (arith, aside_long, part_long, few)) (omega (arith, long, within)) behind_so
+
+      after : TablesOf stops' ends' vehicles' (n - 1) total (drop_round s soft o)
+      after = rw (take-append-drop routed stops') at joined
 
       sound : Sound s (drop_round s soft o)
       unfolding drop_round
-      sound = joined_sound s x.rounds x.pending o.aside (subst (Sound s) part_outcome (tables_sound s part ends' vehicles' (n - 1) (length part) part_tables)) (aside_sound s o (tables_sound s stops ends vehicles n total g.tables))
+      sound = joined_sound s x.rounds x.pending o.aside (subst (Sound s) front_outcome (tables_sound s stops' ends' vehicles' (n - 1) routed d.tables)) (aside_sound s o (tables_sound s stops ends vehicles n total g.tables))
 
-      after_outcome : outcome_in (part ++ drop routed stops) ends' vehicles' (n - 1) total ≡ drop_round s soft o
-      after_outcome = held_outcome (part ++ drop routed stops) ends' vehicles' (record { rounds = n - 1; routed = start_in ends' (n - 1) }) total (drop_round s soft o) after
+      after_outcome : outcome_in stops' ends' vehicles' (n - 1) total ≡ drop_round s soft o
+      after_outcome = held_outcome stops' ends' vehicles' (record { rounds = n - 1; routed = start_in ends' (n - 1) }) total (drop_round s soft o) after
 
-      pub goes_on : (trial' : List ℕ) → length ends' ≡ length ends → length vehicles' ≡ length vehicles → length trial' ≡ length trial
-          → DroppingRounds s soft greatest stops₀ ends₀ vehicles₀ trial₀ rounds total (part ++ drop routed stops) ends' vehicles' trial' (n - 1)
-      goes_on trial' ended driven tried =
+      pub goes_on : (trial' : List ℕ) → length trial' ≡ length trial → DroppingRounds s soft greatest stops₀ ends₀ vehicles₀ trial₀ rounds total stops' ends' vehicles' trial' (n - 1)
+      goes_on trial' tried =
           let m : suc (n - 1) ≡ n = omega arith in
           record {
-            tables = sound_tables s (part ++ drop routed stops) ends' vehicles' (n - 1) total (drop_round s soft o) after sound g.tables.sheet (omega (arith, g.tables.few)) g.tables.most;
-            stopped = omega (arith, length-append part (drop routed stops), length-drop routed stops, long, lent, routed_within s stops ends vehicles n total g.tables routed e, g.tables.all, g.stopped);
-            ended = ended ∙ g.ended;
-            driven = driven ∙ g.driven;
+            tables = sound_tables s stops' ends' vehicles' (n - 1) total (drop_round s soft o) after sound g.tables.sheet (omega (arith, g.tables.few)) g.tables.most;
             tried = tried ∙ g.tried;
             same =
                 ap (limit_on s soft greatest (n - 1)) after_outcome

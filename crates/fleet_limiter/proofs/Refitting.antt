@@ -1,11 +1,11 @@
 -- The loop over the choices: a stop is put into a round, or none can be. Assumes nothing.
 use Rattle.std.specs.Prelude.{Some, None}
 use mathlib.Core.Path.{◌≡◌, refl, sym, ap, ◌∙◌, subst}
-use Prim.Native.Nat.{ℕ, zero, suc, ◌≤◌, ◌<◌}
+use Prim.Native.Nat.{ℕ, zero, suc, ◌+◌, ◌≤◌, ◌<◌}
 use native.Mathlib.Omega.{arith}
 use mathlib.Core.Bool.{Bool}
 use mathlib.Core.List.{List}
-use lib.ListN.{length}
+use lib.ListN.{length, drop}
 use lib.Ieee.{Float}
 use Rattle.lists.specs.Moved.{without}
 use Rattle.lists.specs.Laws.Moved.{without_length}
@@ -17,6 +17,7 @@ use Rattle.fleet.specs.Cheapest.{pick_of}
 use Rattle.fleet.specs.Limit.{Refit, refit_by, refit, refit_on}
 use Rattle.fleet.specs.Laws.Bounds.{Picked, pick_picked}
 use Rattle.fleet_tables.specs.Promises.{TablesOf, taken_in, Enters}
+use Rattle.fleet_tables.specs.Laws.Places.{total_long}
 use Rattle.fleet_tables.specs.Laws.Standing.{tables_sound, sound_tables, in_sound}
 use Rattle.fleet_limiter.specs.Promises.{TablesHold, pending_first, set_down, refit_outcome}
 use Rattle.fleet_limiter.proofs.Choosing.{whole, held}
@@ -33,29 +34,25 @@ at_rest s soft x e zero = refl
 at_rest s soft x e (suc n) = ap (refit_on s soft n) (refit_by_lem s soft x None e) ∙ at_rest s soft x e n
 
 -- ---- the loop
-pub record Refitting (s : List ℕ) (soft : Bool) (stops₀ ends₀ vehicles trial₀ : List ℕ) (n : ℕ) (stops ends trial : List ℕ) : Type 0 where
-  pub tables : Tables s stops ends vehicles n (length stops)
-  pub stopped : length stops ≡ length stops₀
-  pub ended : length ends ≡ length ends₀
+pub record Refitting (s : List ℕ) (soft : Bool) (stops₀ ends₀ vehicles₀ trial₀ : List ℕ) (n total : ℕ) (stops ends vehicles trial : List ℕ) : Type 0 where
+  pub tables : Tables s stops ends vehicles n total
+  pub behind : drop total stops ≡ drop total stops₀
   pub tried : length trial ≡ length trial₀
-  pub same : refit_outcome s soft (pending_first (outcome_in stops ends vehicles n (length stops))) ≡ refit_outcome s soft (pending_first (outcome_in stops₀ ends₀ vehicles n (length stops₀)))
+  pub same : refit_outcome s soft (pending_first (outcome_in stops ends vehicles n total)) ≡ refit_outcome s soft (pending_first (outcome_in stops₀ ends₀ vehicles₀ n total))
 
-module _ (s : List ℕ) (soft : Bool) (stops₀ ends₀ vehicles trial₀ : List ℕ) (n : ℕ) (stops ends trial : List ℕ) (g : Refitting s soft stops₀ ends₀ vehicles trial₀ n stops ends trial) (p : Pick)
-    (told : p ≡ pick_of s soft (outcome_in stops ends vehicles n (length stops)).rounds (outcome_in stops ends vehicles n (length stops)).aside) where
+module _ (s : List ℕ) (soft : Bool) (stops₀ ends₀ vehicles₀ trial₀ : List ℕ) (n total : ℕ) (stops ends vehicles trial : List ℕ) (g : Refitting s soft stops₀ ends₀ vehicles₀ trial₀ n total stops ends vehicles trial) (p : Pick)
+    (told : p ≡ pick_of s soft (outcome_in stops ends vehicles n total).rounds (outcome_in stops ends vehicles n total).aside) where
   abbrev o : Outcome
-  o = whole s stops ends vehicles n (length stops) g.tables
+  o = whole s stops ends vehicles n total g.tables
 
-  tabled : TablesOf stops ends vehicles n (length stops) o
-  tabled = held s stops ends vehicles n (length stops) g.tables
+  tabled : TablesOf stops ends vehicles n total o
+  tabled = held s stops ends vehicles n total g.tables
 
   -- no stop is picked: the outcome stays
-  pub rests : p ≡ None → TablesHold s stops ends vehicles n (length stops₀) (refit_outcome s soft (pending_first (outcome_in stops₀ ends₀ vehicles n (length stops₀))))
+  pub rests : p ≡ None → TablesHold s stops ends vehicles n total (refit_outcome s soft (pending_first (outcome_in stops₀ ends₀ vehicles₀ n total)))
   rests e =
       let z = at_rest s soft (pending_first o) (sym e ∙ told) (length o.aside) in
-      record {
-        tables = rw g.stopped at g.tables;
-        outcome = ap (λ (k : ℕ). outcome_in stops ends vehicles n k) (sym g.stopped) ∙ sym (ap set_down z) ∙ g.same;
-      }
+      record { tables = g.tables; outcome = sym (ap set_down z) ∙ g.same }
 
   -- a stop is picked, and put in
   module _ (j i k : ℕ) (cost : Float) (e : p ≡ Some (j, i, k, cost)) where
@@ -65,7 +62,7 @@ module _ (s : List ℕ) (soft : Bool) (stops₀ ends₀ vehicles trial₀ : List
     pub enters : Enters stops ends n i k j
     enters = record {
       vehicles = vehicles;
-      total = length stops;
+      total = total;
       outcome = o;
       held = tabled;
       few = g.tables.most;
@@ -74,23 +71,26 @@ module _ (s : List ℕ) (soft : Bool) (stops₀ ends₀ vehicles trial₀ : List
       from = place.0;
     }
 
-    module _ (stops' ends' : List ℕ) (put : (v : List ℕ) (total : ℕ) (q : Outcome) → TablesOf stops ends v n total q → k ≤ length (round_at q.rounds i).stops → j < length q.aside → TablesOf stops' ends' v n total (taken_in j i k q))
-        (stopped : length stops' ≡ length stops) where
-      after : TablesOf stops' ends' vehicles n (length stops) (taken_in j i k o)
-      after = put vehicles (length stops) o tabled place.1.place place.0
+    -- it stands before those that stay
+    before_those : start_in ends n + j < total
+    before_those = omega (arith, place.0, total_long stops ends vehicles n total o tabled, tabled.holds.routed)
 
-      after_outcome : outcome_in stops' ends' vehicles n (length stops') ≡ taken_in j i k o
-      after_outcome = rw stopped (held_outcome stops' ends' vehicles (record { rounds = n; routed = start_in ends' n }) (length stops) (taken_in j i k o) after)
+    module _ (stops' ends' vehicles' : List ℕ) (put : (v : List ℕ) (t : ℕ) (q : Outcome) → TablesOf stops ends v n t q → k ≤ length (round_at q.rounds i).stops → j < length q.aside → TablesOf stops' ends' v n t (taken_in j i k q))
+        (driven : vehicles' ≡ vehicles) where
+      after : TablesOf stops' ends' vehicles' n total (taken_in j i k o)
+      after = rw driven (put vehicles total o tabled place.1.place place.0)
 
-      pub fewer : length (outcome_in stops' ends' vehicles n (length stops')).aside < length (outcome_in stops ends vehicles n (length stops)).aside
+      after_outcome : outcome_in stops' ends' vehicles' n total ≡ taken_in j i k o
+      after_outcome = held_outcome stops' ends' vehicles' (record { rounds = n; routed = start_in ends' n }) total (taken_in j i k o) after
+
+      pub fewer : length (outcome_in stops' ends' vehicles' n total).aside < length (outcome_in stops ends vehicles n total).aside
       fewer = rw after_outcome (omega (arith, without_length o.aside j place.0))
 
-      pub goes_on : (trial' : List ℕ) → length ends' ≡ length ends → length trial' ≡ length trial → Refitting s soft stops₀ ends₀ vehicles trial₀ n stops' ends' trial'
+      pub goes_on : (trial' : List ℕ) → ((m : ℕ) → start_in ends n + j < m → drop m stops' ≡ drop m stops) → length trial' ≡ length trial → Refitting s soft stops₀ ends₀ vehicles₀ trial₀ n total stops' ends' vehicles' trial'
       unfolding refit_on
-      goes_on trial' ended tried = record {
-        tables = rw stopped (sound_tables s stops' ends' vehicles n (length stops) (taken_in j i k o) after (in_sound s o (tables_sound s stops ends vehicles n (length stops) g.tables) j i k place.0) g.tables.sheet g.tables.few g.tables.most);
-        stopped = stopped ∙ g.stopped;
-        ended = ended ∙ g.ended;
+      goes_on trial' kept tried = record {
+        tables = sound_tables s stops' ends' vehicles' n total (taken_in j i k o) after (in_sound s o (tables_sound s stops ends vehicles n total g.tables) j i k place.0) g.tables.sheet g.tables.few g.tables.most;
+        behind = kept total before_those ∙ g.behind;
         tried = tried ∙ g.tried;
         same =
             ap (λ (q : Outcome). refit_outcome s soft (pending_first q)) after_outcome

@@ -10,32 +10,28 @@ ghost use Rattle.multi_depot_offers.specs.ByDepot.{by_depot, outcome_of};
 ghost use Rattle.multi_depot_offers.specs.Promises.{PlanningTables};
 ghost use Rattle.multi_depot.specs.Promises.{OutcomeTables, OutcomeStored};
 
-use constructive::tables::Filled;
+use constructive::tables::{Filled, RouteTables};
 use multi_depot_offers::members;
 use sheet::Sheet;
 
 // Every depot planned; then the stops are settled and, where one has moved, every depot is planned once more: between offers
 // only the marks are kept.
-fn by_depot(
+fn by_depot<const N: usize>(
     sheet: &Sheet,
     at: &mut [u16],
     marks: &mut [u16],
     fleet: &mut [u16],
-    stops: &mut [u16],
-    ends: &mut [u16],
-    vehicles: &mut [u16],
+    tables: &mut RouteTables<N>,
 ) -> Filled
-    requires planning_tables { PlanningTables sheet.now at.old fleet.old stops.old ends.old vehicles.old }
+    requires planning_tables { PlanningTables sheet.now at.old fleet.old tables.old.stops tables.old.ends tables.old.vehicles }
     requires sheet_in_bounds { rows_of sheet.now ≤ length marks.old }
-    ensures { HoldsOutcome stops.new ends.new vehicles.new result (rows_of sheet.now - depots_of sheet.now) (by_depot sheet.now) }
+    ensures { HoldsOutcome tables.new.stops tables.new.ends tables.new.vehicles result (rows_of sheet.now - depots_of sheet.now) (by_depot sheet.now) }
 {
     let depots = sheet.depots();
     let rows = at.len();
     let mut before = [0u16; sheet::MOST_ROWS];
     multi_depot_offers::first_at(sheet, depots, at);
-    let filled = multi_depot_planning::plan_depots(
-        sheet, depots, at, marks, fleet, stops, ends, vehicles,
-    );
+    let filled = multi_depot_planning::plan_depots(sheet, depots, at, marks, fleet, tables);
     if !multi_depot_settling::settle(
         sheet,
         depots,
@@ -43,44 +39,31 @@ fn by_depot(
         at,
         marks,
         fleet,
-        stops,
-        ends,
-        vehicles,
+        tables,
     ) {
-        members::lay_aside(sheet, at, marks, stops, filled.routed);
+        members::lay_aside(sheet, at, marks, &mut tables.stops, filled.routed);
         return filled;
     }
-    let last = multi_depot_planning::plan_depots(
-        sheet, depots, at, marks, fleet, stops, ends, vehicles,
-    );
-    members::lay_aside(sheet, at, marks, stops, last.routed);
+    let last = multi_depot_planning::plan_depots(sheet, depots, at, marks, fleet, tables);
+    members::lay_aside(sheet, at, marks, &mut tables.stops, last.routed);
     last
 }
 
 // The sheet's outcome in the tables that are lent: its rounds, and behind them the stops set aside. `at` and `marks` are for
 // the offers, `fleet` for a depot's vehicles.
-pub fn outcome(
+pub fn outcome<const N: usize>(
     sheet: &Sheet,
     at: &mut [u16],
     marks: &mut [u16],
     fleet: &mut [u16],
-    stops: &mut [u16],
-    ends: &mut [u16],
-    vehicles: &mut [u16],
+    tables: &mut RouteTables<N>,
 ) -> Filled
-    requires { OutcomeTables sheet.now at.old marks.old fleet.old stops.old ends.old vehicles.old }
-    ensures { OutcomeStored sheet.now stops.new ends.new vehicles.new result (outcome_of sheet.now) }
+    requires { OutcomeTables sheet.now at.old marks.old fleet.old tables.old.stops tables.old.ends tables.old.vehicles }
+    ensures { OutcomeStored sheet.now tables.new.stops tables.new.ends tables.new.vehicles result (outcome_of sheet.now) }
 {
     let rows = sheet.rows();
     if sheet.depots() == 1 {
-        return multi_depot_planning::one_depot(
-            sheet,
-            &mut at[0..rows],
-            fleet,
-            stops,
-            ends,
-            vehicles,
-        );
+        return multi_depot_planning::one_depot(sheet, &mut at[0..rows], fleet, tables);
     }
-    by_depot(sheet, &mut at[0..rows], marks, fleet, stops, ends, vehicles)
+    by_depot(sheet, &mut at[0..rows], marks, fleet, tables)
 }

@@ -10,7 +10,7 @@ ghost use Rattle.constructive.specs.Members.{part, Members};
 ghost use Rattle.multi_depot_offers.specs.ByDepot.{with_vehicle};
 ghost use Rattle.multi_depot_offers.specs.Promises.{Ready, construct_at};
 
-use constructive::tables::Filled;
+use constructive::tables::{Filled, RouteTables};
 use multi_depot_offers::members;
 use sheet::Sheet;
 use sheet::method::Method;
@@ -18,75 +18,67 @@ use sheet::method::Method;
 // Savings with the depot's first vehicle, by way of the large tables; without one every stop is set aside, as it stands. Not
 // inlined, so that no other planning has its frame.
 #[inline(never)]
-pub fn by_savings(
+pub fn by_savings<const N: usize>(
     sheet: &Sheet,
     depot: usize,
     fleet: &mut [u16],
-    stops: &mut [u16],
-    ends: &mut [u16],
-    vehicles: &mut [u16],
+    tables: &mut RouteTables<N>,
     filled: Filled,
     total: usize,
 ) -> Filled
-    requires ready { Ready sheet.now depot fleet.old stops.old ends.old vehicles.old filled total }
+    requires ready { Ready sheet.now depot fleet.old tables.old.stops tables.old.ends tables.old.vehicles filled total }
     requires sheet_value { method_of sheet.now ≡ 0 }
-    ensures value { result ≡ filled_by filled (construct_at sheet.now depot (part stops.old filled.routed total)).rounds }
-    ensures stored { Stored stops.old ends.old vehicles.old filled (construct_at sheet.now depot (part stops.old filled.routed total)) stops.new ends.new vehicles.new }
+    ensures value { result ≡ filled_by filled (construct_at sheet.now depot (part tables.old.stops filled.routed total)).rounds }
+    ensures stored { Stored tables.old.stops tables.old.ends tables.old.vehicles filled (construct_at sheet.now depot (part tables.old.stops filled.routed total)) tables.new.stops tables.new.ends tables.new.vehicles }
 {
     if members::fleet_of(sheet, depot, fleet) == 0 {
         return filled;
     }
-    clarke_wright::clarke_wright_savings(
-        sheet, depot, fleet[0], stops, ends, vehicles, filled, total,
-    )
+    clarke_wright::clarke_wright_savings(sheet, depot, fleet[0], tables, filled, total)
 }
 
 // One vehicle for all rounds: savings of few members, insertion or sweep, by the method's number.
-fn with_vehicle(
+fn with_vehicle<const N: usize>(
     sheet: &Sheet,
     depot: usize,
     vehicle: u16,
-    stops: &mut [u16],
-    ends: &mut [u16],
-    vehicles: &mut [u16],
+    tables: &mut RouteTables<N>,
     filled: Filled,
     total: usize,
 ) -> Filled
-    requires members { Members sheet.now depot stops.old filled.routed total }
-    requires room { Room ends.old vehicles.old filled total }
+    requires members { Members sheet.now depot tables.old.stops filled.routed total }
+    requires room { Room tables.old.ends tables.old.vehicles filled total }
     requires vehicle_bound { vehicle < vehicles_of sheet.now }
-    requires by_index { (x : ℕ) → count x (part stops.old filled.routed total) ≤ 1 }
+    requires by_index { (x : ℕ) → count x (part tables.old.stops filled.routed total) ≤ 1 }
     requires routed_bound { method_of sheet.now ≡ 0 → total - filled.routed ≤ 24 }
-    ensures value { result ≡ filled_by filled (with_vehicle sheet.now depot (part stops.old filled.routed total) vehicle).rounds }
-    ensures stored { Stored stops.old ends.old vehicles.old filled (with_vehicle sheet.now depot (part stops.old filled.routed total) vehicle) stops.new ends.new vehicles.new }
+    ensures value { result ≡ filled_by filled (with_vehicle sheet.now depot (part tables.old.stops filled.routed total) vehicle).rounds }
+    ensures stored { Stored tables.old.stops tables.old.ends tables.old.vehicles filled (with_vehicle sheet.now depot (part tables.old.stops filled.routed total) vehicle) tables.new.stops tables.new.ends tables.new.vehicles }
 {
     match sheet.method() {
         Method::Savings => clarke_wright::clarke_wright_few(
-            sheet, depot, vehicle, stops, ends, vehicles, filled, total,
+            sheet, depot, vehicle, tables, filled, total,
         ),
         Method::Insertion => {
-            solomon_i1::solomon_i1(sheet, depot, vehicle, stops, ends, vehicles, filled, total)
+            solomon_i1::solomon_i1(sheet, depot, vehicle, tables, filled, total)
         }
-        _ => sweep::sweep(sheet, depot, vehicle, stops, ends, vehicles, filled, total),
+        _ => sweep::sweep(sheet, depot, vehicle, tables, filled, total),
     }
 }
 
 // Every other planning: the nearest neighbours with the depot's vehicles, the other methods with the first. Likewise.
 #[inline(never)]
-pub fn construct(
+pub fn construct<const N: usize>(
     sheet: &Sheet,
     depot: usize,
     fleet: &mut [u16],
-    stops: &mut [u16],
-    ends: &mut [u16],
-    vehicles: &mut [u16],
+    tables: &mut RouteTables<N>,
     filled: Filled,
     total: usize,
 ) -> Filled
-    requires ready { Ready sheet.now depot fleet.old stops.old ends.old vehicles.old filled total }
+    requires ready { Ready sheet.now depot fleet.old tables.old.stops tables.old.ends tables.old.vehicles filled total }
     requires routed_bound { method_of sheet.now ≡ 0 → total - filled.routed ≤ 24 }
-    ensures value { result ≡ filled_by filled (construct_at sheet.now depot (part stops.old filled.routed total)).rounds }
-    ensures stored { Stored stops.old ends.old vehicles.old filled (construct_at sheet.now depot (part stops.old filled.routed total)) stops.new ends.new vehicles.new }
+    ensures value { result ≡ filled_by filled (construct_at sheet.now depot (part tables.old.stops filled.routed total)).rounds }
+    ensures stored { Stored tables.old.stops tables.old.ends tables.old.vehicles filled (construct_at sheet.now depot (part tables.old.stops filled.routed total)) tables.new.stops tables.new.ends tables.new.vehicles }
 {
     let n = members::fleet_of(sheet, depot, fleet);
     let method = sheet.method();
@@ -95,9 +87,7 @@ pub fn construct(
             sheet,
             depot,
             &fleet[0..n],
-            stops,
-            ends,
-            vehicles,
+            tables,
             filled,
             total,
         ),
@@ -105,14 +95,12 @@ pub fn construct(
             sheet,
             depot,
             &fleet[0..n],
-            stops,
-            ends,
-            vehicles,
+            tables,
             filled,
             total,
         ),
         _ if n == 0 => filled,
-        _ => with_vehicle(sheet, depot, fleet[0], stops, ends, vehicles, filled, total),
+        _ => with_vehicle(sheet, depot, fleet[0], tables, filled, total),
     }
 }
 

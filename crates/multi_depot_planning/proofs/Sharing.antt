@@ -22,8 +22,9 @@ use Rattle.sheet.specs.Fleet.{fleet_of}
 use Rattle.constructive.specs.declared.tables.Filled.{Filled}
 use Rattle.constructive.specs.Outcome.{Round, Outcome, chains, stops_of}
 use Rattle.constructive.specs.Members.{part, members_of, Gathers}
-use Rattle.constructive.specs.Stored.{routed_in, filled_by, Stored}
-use Rattle.constructive.specs.Laws.Stored.{chains_aside, length_chains, length_routed}
+use Rattle.constructive.specs.Stored.{routed_in, filled_by, ends_from, vehicles_from, Stored}
+use Rattle.constructive.specs.Laws.Stored.{chains_aside, length_chains, length_routed, length_ends, length_vehicles}
+use Rattle.constructive.specs.Tables.{AsLong}
 use Rattle.constructive.specs.TableContents.{HoldsRounds}
 use Rattle.constructive.specs.Laws.TableContents.{holds_behind, holds_more}
 use Rattle.multi_depot_offers.specs.ByDepot.{construct_of, planned_of}
@@ -90,6 +91,7 @@ module _ {s at fleet stops ends vehicles : List ℕ} {depot : ℕ} {f : Filled} 
       from = omega arith;
       within = omega (arith, long, within);
       aside = let z : total - f.routed ≡ 0 = omega arith in rw z;
+      long = record { stopped = long; ended = refl; driven = refl };
     })
 
     module _ (some : total ≡ f.routed → ⊥) where
@@ -145,13 +147,22 @@ module _ {s at fleet stops ends vehicles : List ℕ} {depot : ℕ} {f : Filled} 
             rw (filled_so, m, laid_so.stopped, ← length_routed o.rounds, chains_aside o.rounds o.aside)
             (part_write stops₁ f.routed (chains o.rounds []) o.aside (rw (chains_aside o.rounds o.aside) at fits))
 
+        ends_fit : f.rounds + length o.rounds ≤ length ends
+        ends_fit = omega (arith, planned_routed s depot (members_of s at depot), all, parts, next.rounds, next.room, lent.ended)
+
+        vehicles_fit : f.rounds + length o.rounds ≤ length vehicles
+        vehicles_fit = omega (arith, planned_routed s depot (members_of s at depot), all, parts, next.rounds, next.room, lent.driven)
+
         pub shares : DepotLaid stops ends vehicles f o stops₂ ends₂ vehicles₂ done total
         shares = record {
-          holds = λ rounds h. rw filled_so (holds_more stops₁ ends vehicles f rounds (still rounds h) o stops₂ ends₂ vehicles₂ laid_so fits
-              (omega (arith, planned_routed s depot (members_of s at depot), all, parts, next.rounds, next.room, lent.ended))
-              (omega (arith, planned_routed s depot (members_of s at depot), all, parts, next.rounds, next.room, lent.driven)));
+          holds = λ rounds h. rw filled_so (holds_more stops₁ ends vehicles f rounds (still rounds h) o stops₂ ends₂ vehicles₂ laid_so fits ends_fit vehicles_fit);
           count = omega (arith, all);
           from = rw filled_so (omega (arith, all, parts));
           within = omega (arith, ap length laid_so.stopped, length_write stops₁ f.routed (stops_of o) fits, long, within);
           aside = aside_there;
+          long = record {
+            stopped = ap length laid_so.stopped ∙ length_write stops₁ f.routed (stops_of o) fits ∙ long;
+            ended = ap length laid_so.ended ∙ length_write ends f.rounds (ends_from f.routed o.rounds) (rw (length_ends f.routed o.rounds) ends_fit);
+            driven = ap length laid_so.driven ∙ length_write vehicles f.rounds (vehicles_from o.rounds) (rw (length_vehicles o.rounds) vehicles_fit);
+          };
         }

@@ -2,6 +2,7 @@
 use Rattle.std.specs.Prelude.{◌≡◌, ℕ, ◌+◌, ◌≤◌, List, ◌++◌, length}
 use Rattle.constructive.specs.Outcome.{Round, Outcome, stops_of}
 use Rattle.constructive.specs.Members.{part}
+use Rattle.constructive.specs.Tables.{AsLong}
 use Rattle.constructive.specs.TableContents.{HoldsRounds}
 use Rattle.constructive.specs.declared.tables.Filled.{Filled}
 
@@ -12,3 +13,4 @@ pub record DepotLaid (stops ends vehicles : List ℕ) (f : Filled) (o : Outcome)
   pub from : done.routed ≤ total
   pub within : total ≤ length stops'
   pub aside : part stops' done.routed total ≡ o.aside
+  pub long : AsLong stops ends vehicles stops' ends' vehicles'

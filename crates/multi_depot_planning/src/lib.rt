@@ -5,83 +5,76 @@ ghost use Rattle.std.specs.Prelude.{◌≡◌, ◌-◌, ◌≤◌, length};
 ghost use Rattle.sheet.specs.Depots.{depots_of};
 ghost use Rattle.sheet.specs.Fields.{rows_of};
 ghost use Rattle.sheet.specs.Stops.{all_stops};
+ghost use Rattle.constructive.specs.Tables.{AsLong};
 ghost use Rattle.constructive.specs.TableContents.{HoldsOutcome};
 ghost use Rattle.constructive.specs.Members.{members_of};
 ghost use Rattle.multi_depot_offers.specs.ByDepot.{planned_of, planned_at};
 ghost use Rattle.multi_depot_offers.specs.Promises.{PlanningTables, Next, Added, Planned};
 ghost use Rattle.multi_depot_planning.specs.DepotLaid.{DepotLaid};
 
-use constructive::tables::Filled;
+use constructive::tables::{Filled, RouteTables};
 use sheet::Sheet;
 
 // A depot with its members, which no other has, behind the rounds that the tables hold; without any it is not planned. Told
 // with how far the tables are filled is where the stops that it turns down end.
-fn lay_depot(
+fn lay_depot<const N: usize>(
     sheet: &Sheet,
     at: &[u16],
     fleet: &mut [u16],
-    stops: &mut [u16],
-    ends: &mut [u16],
-    vehicles: &mut [u16],
+    tables: &mut RouteTables<N>,
     depot: usize,
     filled: Filled,
 ) -> (Filled, usize)
-    requires planning_tables { PlanningTables sheet.now at.now fleet.old stops.old ends.old vehicles.old }
+    requires planning_tables { PlanningTables sheet.now at.now fleet.old tables.old.stops tables.old.ends tables.old.vehicles }
     requires next { Next sheet.now at.now depot filled }
-    ensures { DepotLaid stops.old ends.old vehicles.old filled (planned_of sheet.now depot (members_of sheet.now at.now depot)) stops.new ends.new vehicles.new result.0 result.1 }
+    ensures { DepotLaid tables.old.stops tables.old.ends tables.old.vehicles filled (planned_of sheet.now depot (members_of sheet.now at.now depot)) tables.new.stops tables.new.ends tables.new.vehicles result.0 result.1 }
 {
     let from = filled.routed;
-    let total = constructive::members::members_of(sheet, at, depot, stops, from);
+    let total = constructive::members::members_of(sheet, at, depot, &mut tables.stops, from);
     if total == from {
         return (filled, total);
     }
     if multi_depot_methods::saves_many(sheet.method(), total - from) {
-        let saved = multi_depot_methods::by_savings(
-            sheet, depot, fleet, stops, ends, vehicles, filled, total,
-        );
+        let saved = multi_depot_methods::by_savings(sheet, depot, fleet, tables, filled, total);
         return (saved, total);
     }
-    let done = multi_depot_methods::construct(
-        sheet, depot, fleet, stops, ends, vehicles, filled, total,
-    );
+    let done = multi_depot_methods::construct(sheet, depot, fleet, tables, filled, total);
     (done, total)
 }
 
 // The same with the stops that it turns down marked.
-pub fn plan_depot(
+pub fn plan_depot<const N: usize>(
     sheet: &Sheet,
     at: &[u16],
     marks: &mut [u16],
     fleet: &mut [u16],
-    stops: &mut [u16],
-    ends: &mut [u16],
-    vehicles: &mut [u16],
+    tables: &mut RouteTables<N>,
     depot: usize,
     filled: Filled,
 ) -> Filled
-    requires planning_tables { PlanningTables sheet.now at.now fleet.old stops.old ends.old vehicles.old }
+    requires planning_tables { PlanningTables sheet.now at.now fleet.old tables.old.stops tables.old.ends tables.old.vehicles }
     requires next { Next sheet.now at.now depot filled × (rows_of sheet.now ≤ length marks.old) }
-    ensures { Added marks.old stops.old ends.old vehicles.old filled (planned_of sheet.now depot (members_of sheet.now at.now depot)) marks.new stops.new ends.new vehicles.new result }
+    ensures added { Added marks.old tables.old.stops tables.old.ends tables.old.vehicles filled (planned_of sheet.now depot (members_of sheet.now at.now depot)) marks.new tables.new.stops tables.new.ends tables.new.vehicles result }
+    ensures as_long { AsLong tables.old.stops tables.old.ends tables.old.vehicles tables.new.stops tables.new.ends tables.new.vehicles }
 {
-    let (done, total) = lay_depot(sheet, at, fleet, stops, ends, vehicles, depot, filled);
-    constructive::marks::mark(marks, stops, done.routed, total);
+    let (done, total) = lay_depot(sheet, at, fleet, tables, depot, filled);
+    constructive::marks::mark(marks, &tables.stops, done.routed, total);
     done
 }
 
 // Every depot in order.
-pub fn plan_depots(
+pub fn plan_depots<const N: usize>(
     sheet: &Sheet,
     depots: usize,
     at: &[u16],
     marks: &mut [u16],
     fleet: &mut [u16],
-    stops: &mut [u16],
-    ends: &mut [u16],
-    vehicles: &mut [u16],
+    tables: &mut RouteTables<N>,
 ) -> Filled
-    requires planning_tables { PlanningTables sheet.now at.now fleet.old stops.old ends.old vehicles.old }
+    requires planning_tables { PlanningTables sheet.now at.now fleet.old tables.old.stops tables.old.ends tables.old.vehicles }
     requires depots_value { (depots ≡ depots_of sheet.now) × (rows_of sheet.now ≤ length marks.old) }
-    ensures { Planned sheet.now marks.new stops.new ends.new vehicles.new result (planned_at sheet.now at.now) }
+    ensures planned { Planned sheet.now marks.new tables.new.stops tables.new.ends tables.new.vehicles result (planned_at sheet.now at.now) }
+    ensures as_long { AsLong tables.old.stops tables.old.ends tables.old.vehicles tables.new.stops tables.new.ends tables.new.vehicles }
 {
     marks.fill(0);
     let mut filled = Filled {
@@ -90,30 +83,26 @@ pub fn plan_depots(
     };
     // Over numbers: a depot is a row of the sheet, and no slice stands behind it.
     for depot in 0..depots {
-        filled = plan_depot(
-            sheet, at, marks, fleet, stops, ends, vehicles, depot, filled,
-        );
+        filled = plan_depot(sheet, at, marks, fleet, tables, depot, filled);
     }
     filled
 }
 
 // One depot with every stop.
-pub fn one_depot(
+pub fn one_depot<const N: usize>(
     sheet: &Sheet,
     at: &mut [u16],
     fleet: &mut [u16],
-    stops: &mut [u16],
-    ends: &mut [u16],
-    vehicles: &mut [u16],
+    tables: &mut RouteTables<N>,
 ) -> Filled
-    requires { PlanningTables sheet.now at.old fleet.old stops.old ends.old vehicles.old }
-    ensures { HoldsOutcome stops.new ends.new vehicles.new result (rows_of sheet.now - depots_of sheet.now) (planned_of sheet.now 0 (all_stops sheet.now)) }
+    requires { PlanningTables sheet.now at.old fleet.old tables.old.stops tables.old.ends tables.old.vehicles }
+    ensures { HoldsOutcome tables.new.stops tables.new.ends tables.new.vehicles result (rows_of sheet.now - depots_of sheet.now) (planned_of sheet.now 0 (all_stops sheet.now)) }
 {
     at.fill(0);
     let filled = Filled {
         rounds: 0,
         routed: 0,
     };
-    let (done, _) = lay_depot(sheet, at, fleet, stops, ends, vehicles, 0, filled);
+    let (done, _) = lay_depot(sheet, at, fleet, tables, 0, filled);
     done
 }

@@ -4,83 +4,79 @@
 ghost use Rattle.std.specs.Prelude.{◌≡◌, false, ◌≤◌, ◌<◌, length};
 ghost use Rattle.sheet.specs.Depots.{depots_of};
 ghost use Rattle.sheet.specs.Fields.{rows_of};
+ghost use Rattle.constructive.specs.Tables.{AsLong};
 ghost use Rattle.constructive.specs.Marks.{Marks};
 ghost use Rattle.multi_depot_offers.specs.ByDepot.{planned_at, after_offers, first_depots, settled_at};
 ghost use Rattle.multi_depot_offers.specs.Promises.{PlanningTables};
 ghost use Rattle.multi_depot_settling.specs.Promises.{MarksUpdated, Untouched};
 
-use constructive::tables::Filled;
+use constructive::tables::{Filled, RouteTables};
 use sheet::Sheet;
 
 // A depot planned anew, from the start of the tables on: only its marks are needed.
-fn update_marks(
+fn update_marks<const N: usize>(
     sheet: &Sheet,
     at: &[u16],
     marks: &mut [u16],
     fleet: &mut [u16],
-    stops: &mut [u16],
-    ends: &mut [u16],
-    vehicles: &mut [u16],
+    tables: &mut RouteTables<N>,
     depot: usize,
 )
-    requires planning_tables { PlanningTables sheet.now at.now fleet.old stops.old ends.old vehicles.old }
+    requires planning_tables { PlanningTables sheet.now at.now fleet.old tables.old.stops tables.old.ends tables.old.vehicles }
     requires depot_bound { (depot < depots_of sheet.now) × (rows_of sheet.now ≤ length marks.old) }
-    ensures { MarksUpdated sheet.now at.now marks.old depot marks.new }
+    ensures marks_updated { MarksUpdated sheet.now at.now marks.old depot marks.new }
+    ensures as_long { AsLong tables.old.stops tables.old.ends tables.old.vehicles tables.new.stops tables.new.ends tables.new.vehicles }
 {
     multi_depot_offers::clear(at, marks, depot);
     let filled = Filled {
         rounds: 0,
         routed: 0,
     };
-    multi_depot_planning::plan_depot(
-        sheet, at, marks, fleet, stops, ends, vehicles, depot, filled,
-    );
+    multi_depot_planning::plan_depot(sheet, at, marks, fleet, tables, depot, filled);
 }
 
 // The marks after an offer. A depot whose members are the same turns the same ones down, so that it is not planned.
-fn update_changed(
+fn update_changed<const N: usize>(
     sheet: &Sheet,
     depots: usize,
     before: &[u16],
     at: &[u16],
     marks: &mut [u16],
     fleet: &mut [u16],
-    stops: &mut [u16],
-    ends: &mut [u16],
-    vehicles: &mut [u16],
+    tables: &mut RouteTables<N>,
 )
-    requires planning_tables { PlanningTables sheet.now at.now fleet.old stops.old ends.old vehicles.old }
+    requires planning_tables { PlanningTables sheet.now at.now fleet.old tables.old.stops tables.old.ends tables.old.vehicles }
     requires depots_value { (depots ≡ depots_of sheet.now) × (at.now ≡ after_offers sheet.now before.now) }
     requires marks { Marks sheet.now marks.old (planned_at sheet.now before.now).aside }
-    ensures { Marks sheet.now marks.new (planned_at sheet.now at.now).aside }
+    ensures marks_after { Marks sheet.now marks.new (planned_at sheet.now at.now).aside }
+    ensures as_long { AsLong tables.old.stops tables.old.ends tables.old.vehicles tables.new.stops tables.new.ends tables.new.vehicles }
 {
     // Over numbers: a depot is a row of the sheet, and no slice stands behind it.
     for depot in 0..depots {
         if !multi_depot_offers::is_changed(before, at, depot) {
             continue;
         }
-        update_marks(sheet, at, marks, fleet, stops, ends, vehicles, depot);
+        update_marks(sheet, at, marks, fleet, tables, depot);
     }
 }
 
 // Offers until no stop moves: each that moves one lowers the attempts left. Answers whether one has moved; what the tables held
 // is lost then.
-pub fn settle(
+pub fn settle<const N: usize>(
     sheet: &Sheet,
     depots: usize,
     before: &mut [u16],
     at: &mut [u16],
     marks: &mut [u16],
     fleet: &mut [u16],
-    stops: &mut [u16],
-    ends: &mut [u16],
-    vehicles: &mut [u16],
+    tables: &mut RouteTables<N>,
 ) -> bool
-    requires planning_tables { PlanningTables sheet.now at.old fleet.old stops.old ends.old vehicles.old }
+    requires planning_tables { PlanningTables sheet.now at.old fleet.old tables.old.stops tables.old.ends tables.old.vehicles }
     requires depots_value { (depots ≡ depots_of sheet.now) × (length before.old ≡ rows_of sheet.now) }
     requires at_value { (at.old ≡ first_depots sheet.now) × Marks sheet.now marks.old (planned_at sheet.now at.old).aside }
     ensures at_after { at.new ≡ settled_at sheet.now }
-    ensures untouched { result ≡ false → Untouched at.old marks.old stops.old ends.old vehicles.old at.new marks.new stops.new ends.new vehicles.new }
+    ensures untouched { result ≡ false → Untouched at.old marks.old tables.old.stops tables.old.ends tables.old.vehicles at.new marks.new tables.new.stops tables.new.ends tables.new.vehicles }
+    ensures as_long { AsLong tables.old.stops tables.old.ends tables.old.vehicles tables.new.stops tables.new.ends tables.new.vehicles }
 {
     let mut any = false;
     'offers: loop {
@@ -88,9 +84,7 @@ pub fn settle(
         if !multi_depot_offers::offer(sheet, depots, at, marks) {
             break 'offers;
         }
-        update_changed(
-            sheet, depots, before, at, marks, fleet, stops, ends, vehicles,
-        );
+        update_changed(sheet, depots, before, at, marks, fleet, tables);
         any = true;
     }
     any

@@ -10,7 +10,7 @@ ghost use Rattle.nearest_neighbor_choice.specs.Partial.{PartialRoute};
 ghost use Rattle.nearest_neighbor.specs.Heuristic.{limits_by, rule_of, onward_by};
 
 use constructive::tables;
-use constructive::tables::Filled;
+use constructive::tables::{Filled, RouteTables};
 use evaluation::limits;
 use evaluation::limits::RouteLimits;
 use nearest_neighbor_choice::partial::Partial;
@@ -89,31 +89,37 @@ fn grow_round<R: Rule>(
 }
 
 // Lays down the rounds of the fleet over the members, which stand in `stops` from where the tables are filled up to `total`.
-pub fn lay_rounds<R: Rule>(
+pub fn lay_rounds<R: Rule, const N: usize>(
     sheet: &Sheet,
     depot: usize,
     rule: R,
     fleet: &[u16],
-    stops: &mut [u16],
-    ends: &mut [u16],
-    vehicles: &mut [u16],
+    tables: &mut RouteTables<N>,
     filled: Filled,
     total: usize,
 ) -> Filled
-    requires members { Members sheet.now depot stops.old filled.routed total }
-    requires room { Room ends.old vehicles.old filled total }
+    requires members { Members sheet.now depot tables.old.stops filled.routed total }
+    requires room { Room tables.old.ends tables.old.vehicles filled total }
     requires fleet { Fleet sheet.now fleet.now }
-    ensures value { result ≡ filled_by filled (greedy (rule_of sheet.now depot (R.which rule)) depot fleet.now (part stops.old filled.routed total)).rounds }
-    ensures stored { Stored stops.old ends.old vehicles.old filled (greedy (rule_of sheet.now depot (R.which rule)) depot fleet.now (part stops.old filled.routed total)) stops.new ends.new vehicles.new }
+    ensures value { result ≡ filled_by filled (greedy (rule_of sheet.now depot (R.which rule)) depot fleet.now (part tables.old.stops filled.routed total)).rounds }
+    ensures stored { Stored tables.old.stops tables.old.ends tables.old.vehicles filled (greedy (rule_of sheet.now depot (R.which rule)) depot fleet.now (part tables.old.stops filled.routed total)) tables.new.stops tables.new.ends tables.new.vehicles }
 {
     let mut done = filled;
     for &index in fleet {
         let start = done.routed;
-        let end = grow_round(sheet, depot, rule, index as usize, stops, start, total);
+        let end = grow_round(
+            sheet,
+            depot,
+            rule,
+            index as usize,
+            &mut tables.stops,
+            start,
+            total,
+        );
         if end == start {
             continue;
         }
-        done = tables::close_round(ends, vehicles, done, index, end);
+        done = tables.close_round(done, index, end);
     }
     done
 }

@@ -9,69 +9,54 @@ ghost use Rattle.constructive.specs.Stored.{Stored, Room, filled_by};
 ghost use Rattle.constructive.specs.Members.{part, Members, Fleet};
 ghost use Rattle.nearest_neighbor.specs.Nearest.{nearest_neighbor, nearest_neighbor_tw};
 
-use constructive::tables::Filled;
+use constructive::tables::{Filled, RouteTables};
 use nearest_neighbor_choice::nearest::NearestNeighbor;
 use nearest_neighbor_choice::nn_tw::NearestNeighborTw;
 use sheet::Sheet;
 
 // The members stand in `stops` from where the tables are filled up to `total`, ascending; the fleet is the depot's vehicles.
 // Answers how far the tables are filled with the rounds; the stops set aside stand after them, up to `total`.
-pub fn nearest_neighbor(
+pub fn nearest_neighbor<const N: usize>(
     sheet: &Sheet,
     depot: usize,
     fleet: &[u16],
-    stops: &mut [u16],
-    ends: &mut [u16],
-    vehicles: &mut [u16],
+    tables: &mut RouteTables<N>,
     filled: Filled,
     total: usize,
 ) -> Filled
-    requires members { Members sheet.now depot stops.old filled.routed total }
-    requires room { Room ends.old vehicles.old filled total }
+    requires members { Members sheet.now depot tables.old.stops filled.routed total }
+    requires room { Room tables.old.ends tables.old.vehicles filled total }
     requires fleet { Fleet sheet.now fleet.now }
-    ensures value { result ≡ filled_by filled (nearest_neighbor sheet.now depot (part stops.old filled.routed total) fleet.now).rounds }
-    ensures stored { Stored stops.old ends.old vehicles.old filled (nearest_neighbor sheet.now depot (part stops.old filled.routed total) fleet.now) stops.new ends.new vehicles.new }
+    ensures value { result ≡ filled_by filled (nearest_neighbor sheet.now depot (part tables.old.stops filled.routed total) fleet.now).rounds }
+    ensures stored { Stored tables.old.stops tables.old.ends tables.old.vehicles filled (nearest_neighbor sheet.now depot (part tables.old.stops filled.routed total) fleet.now) tables.new.stops tables.new.ends tables.new.vehicles }
 {
-    greedy::lay_rounds(
-        sheet,
-        depot,
-        NearestNeighbor,
-        fleet,
-        stops,
-        ends,
-        vehicles,
-        filled,
-        total,
-    )
+    greedy::lay_rounds(sheet, depot, NearestNeighbor, fleet, tables, filled, total)
 }
 
 // The same with windows.
-pub fn nearest_neighbor_tw(
+pub fn nearest_neighbor_tw<const N: usize>(
     sheet: &Sheet,
     depot: usize,
     fleet: &[u16],
-    stops: &mut [u16],
-    ends: &mut [u16],
-    vehicles: &mut [u16],
+    tables: &mut RouteTables<N>,
     filled: Filled,
     total: usize,
 ) -> Filled
-    requires members { Members sheet.now depot stops.old filled.routed total }
-    requires room { Room ends.old vehicles.old filled total }
+    requires members { Members sheet.now depot tables.old.stops filled.routed total }
+    requires room { Room tables.old.ends tables.old.vehicles filled total }
     requires fleet { Fleet sheet.now fleet.now }
-    ensures value { result ≡ filled_by filled (nearest_neighbor_tw sheet.now depot (part stops.old filled.routed total) fleet.now).rounds }
-    ensures stored { Stored stops.old ends.old vehicles.old filled (nearest_neighbor_tw sheet.now depot (part stops.old filled.routed total) fleet.now) stops.new ends.new vehicles.new }
+    ensures value { result ≡ filled_by filled (nearest_neighbor_tw sheet.now depot (part tables.old.stops filled.routed total) fleet.now).rounds }
+    ensures stored { Stored tables.old.stops tables.old.ends tables.old.vehicles filled (nearest_neighbor_tw sheet.now depot (part tables.old.stops filled.routed total) fleet.now) tables.new.stops tables.new.ends tables.new.vehicles }
 {
     let start = filled.routed;
+    let stops = &tables.stops[..];
     let soft = evaluation::checks::has_soft_windows(sheet, depot, &stops[start..total]);
     greedy::lay_rounds(
         sheet,
         depot,
         NearestNeighborTw { soft },
         fleet,
-        stops,
-        ends,
-        vehicles,
+        tables,
         filled,
         total,
     )

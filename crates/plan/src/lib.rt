@@ -14,7 +14,7 @@ ghost use Rattle.constructive.specs.Tables.{RoundOf, Tables, RoundTables};
 ghost use Rattle.plan.specs.Plan.{first_of, row_record_at, visit_bytes, aside_bytes, with_visits, with_round, with_rounds, with_aside, price_after, price_of, priced_cost, plan_of};
 ghost use Rattle.plan.specs.Writable.{VisitWritable, VisitsWritable, RoundWritable, Writable, Chained};
 
-use constructive::tables;
+use constructive::tables::RouteTables;
 use evaluation::limits;
 use evaluation::limits::RouteLimits;
 use evaluator::{Placed, Progress, Record};
@@ -125,29 +125,28 @@ fn write_priced(
 }
 
 // The rounds one after another, and what they cost.
-fn write_rounds(
+fn write_rounds<const N: usize>(
     plan: &mut [u8],
     sheet: &Sheet,
-    stops: &[u16],
-    ends: &[u16],
-    vehicles: &[u16],
+    tables: &RouteTables<N>,
     rounds: usize,
 ) -> f64
-    requires round_tables { RoundTables sheet.now stops.now ends.now vehicles.now rounds }
+    requires round_tables { RoundTables sheet.now tables.now.stops tables.now.ends tables.now.vehicles rounds }
     requires plan_len { length plan.old ≡ plan_length sheet.now }
-    ensures value { result ≡ price_of sheet.now price_start (rounds_in stops.now ends.now vehicles.now rounds 0 0) }
-    ensures plan_after { plan.new ≡ with_rounds sheet.now 0 (rounds_in stops.now ends.now vehicles.now rounds 0 0) plan.old }
+    ensures value { result ≡ price_of sheet.now price_start (rounds_in tables.now.stops tables.now.ends tables.now.vehicles rounds 0 0) }
+    ensures plan_after { plan.new ≡ with_rounds sheet.now 0 (rounds_in tables.now.stops tables.now.ends tables.now.vehicles rounds 0 0) plan.old }
 {
+    let stops = &tables.stops[..];
     let mut cost = evaluator::price_start();
     let mut start: usize = 0;
     // by rounds: one stands in two tables, and its record at a place told by k
     for k in 0..rounds {
-        let end = ends[k] as usize;
+        let end = tables.end_of(k);
         cost = write_priced(
             plan,
             sheet,
             k,
-            vehicles[k] as usize,
+            tables.vehicle_of(k) as usize,
             &stops[start..end],
             cost,
         );
@@ -184,23 +183,22 @@ fn cost_of(priced: bool, price: f64) -> f64
 }
 
 // The plan of the outcome in the tables: `rounds` rounds, `total` stops with those set aside.
-pub fn write_plan(
+pub fn write_plan<const N: usize>(
     plan: &mut [u8],
     sheet: &Sheet,
-    stops: &[u16],
-    ends: &[u16],
-    vehicles: &[u16],
+    tables: &RouteTables<N>,
     rounds: usize,
     total: usize,
     priced: bool,
 )
-    requires tables { Tables sheet.now stops.now ends.now vehicles.now rounds total }
+    requires tables { Tables sheet.now tables.now.stops tables.now.ends tables.now.vehicles rounds total }
     requires plan_len { length plan.old ≡ plan_length sheet.now }
-    ensures { plan.new ≡ plan_of sheet.now (outcome_in stops.now ends.now vehicles.now rounds total) priced }
+    ensures { plan.new ≡ plan_of sheet.now (outcome_in tables.now.stops tables.now.ends tables.now.vehicles rounds total) priced }
 {
     plan.fill(0);
-    let price = write_rounds(plan, sheet, stops, ends, vehicles, rounds);
-    let start = tables::end_of(ends, rounds);
+    let price = write_rounds(plan, sheet, tables, rounds);
+    let start = tables.start_of(rounds);
+    let stops = &tables.stops[..];
     let aside = write_aside(plan, sheet, &stops[start..total]);
     records::put_header(
         plan,

@@ -6,6 +6,7 @@ ghost use Rattle.std.specs.Prelude.{◌≡◌};
 ghost use Rattle.sheet.specs.Told.{told};
 ghost use Rattle.plan_door.specs.Door.{unread_refusal, DoorTables, EntryAs};
 
+use constructive::tables::RouteTables;
 use sheet::refusal::Refusal;
 use sheet::{Sheet, customer};
 
@@ -25,18 +26,16 @@ pub fn unread_refusal(sheet: &[u8], plan_len: usize, room: bool, one: bool) -> R
 }
 
 // The same, and the plan read: how many rounds are in the tables.
-pub fn enter(
+pub fn enter<const N: usize>(
     sheet: &[u8],
     plan: &[u8],
     room: bool,
     one: bool,
-    stops: &mut [u16],
-    ends: &mut [u16],
-    vehicles: &mut [u16],
+    tables: &mut RouteTables<N>,
 ) -> Result<usize, Refusal>
-    requires { DoorTables stops.old ends.old vehicles.old }
-    ensures { EntryAs sheet.now plan.now room one result stops.new ends.new vehicles.new }
+    requires { DoorTables tables.old.stops tables.old.ends tables.old.vehicles }
+    ensures { EntryAs sheet.now plan.now room one result tables.new.stops tables.new.ends tables.new.vehicles }
 {
     unread_refusal(sheet, plan.len(), room, one)?;
-    plan_reader::read_plan(&Sheet::new(sheet), plan, stops, ends, vehicles).ok_or(Refusal::Plan)
+    plan_reader::read_plan(&Sheet::new(sheet), plan, tables).ok_or(Refusal::Plan)
 }

@@ -5,9 +5,9 @@ ghost use Rattle.std.specs.Prelude.{◌≡◌};
 ghost use Rattle.constructive.specs.Outcome.{rounds_in};
 ghost use Rattle.constructive.specs.Tables.{RoundOf, RoundTables};
 ghost use Rattle.plan.specs.Stated.{built_record};
-ghost use Rattle.plan_door.specs.Door.{DoorTables};
 ghost use Rattle.plan_figures.specs.Walked.{FigureTables, FiguresIn, WalkedAs};
 
+use constructive::tables::RouteTables;
 use evaluation::limits;
 use evaluator::Record;
 use sheet::Sheet;
@@ -25,24 +25,23 @@ fn built(sheet: &Sheet, index: usize, route: &[u16]) -> Record
 }
 
 // The distance and the duration of each round in the tables.
-fn walk_rounds(
+fn walk_rounds<const N: usize>(
     sheet: &Sheet,
-    stops: &[u16],
-    ends: &[u16],
-    vehicles: &[u16],
+    tables: &RouteTables<N>,
     rounds: usize,
     distances: &mut [f64],
     durations: &mut [f64],
 )
-    requires round_tables { RoundTables sheet.now stops.now ends.now vehicles.now rounds }
+    requires round_tables { RoundTables sheet.now tables.now.stops tables.now.ends tables.now.vehicles rounds }
     requires figure_tables { FigureTables distances.old durations.old }
-    ensures { FiguresIn sheet.now (rounds_in stops.now ends.now vehicles.now rounds 0 0) distances.new durations.new }
+    ensures { FiguresIn sheet.now (rounds_in tables.now.stops tables.now.ends tables.now.vehicles rounds 0 0) distances.new durations.new }
 {
+    let stops = &tables.stops[..];
     let mut start: usize = 0;
     // by rounds: one stands in two tables, and its figures in two more
     for k in 0..rounds {
-        let end = ends[k] as usize;
-        let figures = built(sheet, vehicles[k] as usize, &stops[start..end]);
+        let end = tables.end_of(k);
+        let figures = built(sheet, tables.vehicle_of(k) as usize, &stops[start..end]);
         distances[k] = figures.distance;
         durations[k] = figures.duration;
         start = end;
@@ -61,18 +60,8 @@ pub fn walk_plan(
     requires { FigureTables distances.old durations.old }
     ensures { WalkedAs sheet.now plan.now room one result distances.new durations.new }
 {
-    let mut stops = [0u16; sheet::MOST_ROWS];
-    let mut ends = [0u16; sheet::MOST_ROWS];
-    let mut vehicles = [0u16; sheet::MOST_ROWS];
-    let rounds = plan_door::enter(sheet, plan, room, one, &mut stops, &mut ends, &mut vehicles)?;
-    walk_rounds(
-        &Sheet::new(sheet),
-        &stops,
-        &ends,
-        &vehicles,
-        rounds,
-        distances,
-        durations,
-    );
+    let mut tables = RouteTables::<{ sheet::MOST_ROWS }>::new();
+    let rounds = plan_door::enter(sheet, plan, room, one, &mut tables)?;
+    walk_rounds(&Sheet::new(sheet), &tables, rounds, distances, durations);
     Ok(rounds)
 }

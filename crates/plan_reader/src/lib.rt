@@ -6,10 +6,12 @@ ghost use Rattle.sheet.specs.Depots.{depots_of};
 ghost use Rattle.sheet.specs.Fields.{rows_of, vehicles_of, vehicle_at, id_field, plan_length, most_rows};
 ghost use Rattle.sheet.specs.Fleet.{index_of};
 ghost use Rattle.constructive.specs.Right.{links_right, each_once};
+ghost use Rattle.constructive.specs.Tables.{AsLong};
 ghost use Rattle.plan.specs.Read.{rounds_at, next_at, chain_of};
 ghost use Rattle.plan_reader.specs.Reading.{stop_count, ReaderTables, ReadAs};
 ghost use Rattle.plan_reader.specs.Chains.{FollowedAs, RoundsRead, RoundsAs, ChainsAs, SingleAs};
 
+use constructive::tables::RouteTables;
 use sheet::Sheet;
 
 // The id of a vehicle, of which nothing else is read.
@@ -73,48 +75,46 @@ fn follow(
 }
 
 // The k-th round, its stops from `at` on.
-fn read_round(
+fn read_round<const N: usize>(
     sheet: &Sheet,
     plan: &[u8],
     depots: usize,
     k: usize,
-    stops: &mut [u16],
-    ends: &mut [u16],
-    vehicles: &mut [u16],
+    tables: &mut RouteTables<N>,
     at: usize,
 ) -> Option<usize>
-    requires reader_tables { ReaderTables sheet.now plan.now stops.old ends.old vehicles.old }
+    requires reader_tables { ReaderTables sheet.now plan.now tables.old.stops tables.old.ends tables.old.vehicles }
     requires depots_value { depots ≡ depots_of sheet.now }
     requires k_bound { (k < rounds_at plan.now) × (rounds_at plan.now ≤ rows_of sheet.now) }
-    requires rounds_read { RoundsRead sheet.now plan.now stops.old ends.old vehicles.old k at }
-    ensures { RoundsAs sheet.now plan.now (k + 1) result stops.new ends.new vehicles.new }
+    requires rounds_read { RoundsRead sheet.now plan.now tables.old.stops tables.old.ends tables.old.vehicles k at }
+    ensures rounds_as { RoundsAs sheet.now plan.now (k + 1) result tables.new.stops tables.new.ends tables.new.vehicles }
+    ensures as_long { AsLong tables.old.stops tables.old.ends tables.old.vehicles tables.new.stops tables.new.ends tables.new.vehicles }
 {
     let index = index_of(sheet, wire::u32_at(plan, 16 + 56 * k))?;
     let first = wire::u16_at(plan, 16 + 56 * k + 8) as usize;
-    let end = follow(sheet, plan, depots, first, stops, at)?;
-    ends[k] = end as u16;
-    vehicles[k] = index as u16;
+    let end = follow(sheet, plan, depots, first, &mut tables.stops, at)?;
+    tables.ends[k] = end as u16;
+    tables.vehicles[k] = index as u16;
     Some(end)
 }
 
-fn read_rounds(
+fn read_rounds<const N: usize>(
     sheet: &Sheet,
     plan: &[u8],
     depots: usize,
     rounds: usize,
-    stops: &mut [u16],
-    ends: &mut [u16],
-    vehicles: &mut [u16],
+    tables: &mut RouteTables<N>,
 ) -> Option<usize>
-    requires reader_tables { ReaderTables sheet.now plan.now stops.old ends.old vehicles.old }
+    requires reader_tables { ReaderTables sheet.now plan.now tables.old.stops tables.old.ends tables.old.vehicles }
     requires depots_value { depots ≡ depots_of sheet.now }
     requires rounds_value { (rounds ≡ rounds_at plan.now) × (rounds_at plan.now ≤ rows_of sheet.now) }
-    ensures { RoundsAs sheet.now plan.now (rounds_at plan.now) result stops.new ends.new vehicles.new }
+    ensures rounds_as { RoundsAs sheet.now plan.now (rounds_at plan.now) result tables.new.stops tables.new.ends tables.new.vehicles }
+    ensures as_long { AsLong tables.old.stops tables.old.ends tables.old.vehicles tables.new.stops tables.new.ends tables.new.vehicles }
 {
     let mut at = 0;
     // Over numbers: a round is read into three tables, at k in two of them.
     for k in 0..rounds {
-        at = read_round(sheet, plan, depots, k, stops, ends, vehicles, at)?;
+        at = read_round(sheet, plan, depots, k, tables, at)?;
     }
     Some(at)
 }
@@ -145,40 +145,38 @@ fn each_once(sheet: &Sheet, depots: usize, rows: &[u16]) -> bool
 }
 
 // The rounds, then the stops set aside.
-fn read_chains(
+fn read_chains<const N: usize>(
     sheet: &Sheet,
     plan: &[u8],
     depots: usize,
-    stops: &mut [u16],
-    ends: &mut [u16],
-    vehicles: &mut [u16],
+    tables: &mut RouteTables<N>,
 ) -> Option<usize>
-    requires reader_tables { ReaderTables sheet.now plan.now stops.old ends.old vehicles.old }
+    requires reader_tables { ReaderTables sheet.now plan.now tables.old.stops tables.old.ends tables.old.vehicles }
     requires depots_value { depots ≡ depots_of sheet.now }
-    ensures { ChainsAs sheet.now plan.now result stops.new ends.new vehicles.new }
+    ensures chains_as { ChainsAs sheet.now plan.now result tables.new.stops tables.new.ends tables.new.vehicles }
+    ensures as_long { AsLong tables.old.stops tables.old.ends tables.old.vehicles tables.new.stops tables.new.ends tables.new.vehicles }
 {
     let rounds = wire::u16_at(plan, 0) as usize;
     if sheet.rows() < rounds {
         return None;
     }
-    let start = read_rounds(sheet, plan, depots, rounds, stops, ends, vehicles)?;
+    let start = read_rounds(sheet, plan, depots, rounds, tables)?;
     let aside = wire::u16_at(plan, 2) as usize;
-    follow(sheet, plan, depots, aside, stops, start)
+    follow(sheet, plan, depots, aside, &mut tables.stops, start)
 }
 
 // The outcome of a plan, into the tables.
-pub fn read_plan(
+pub fn read_plan<const N: usize>(
     sheet: &Sheet,
     plan: &[u8],
-    stops: &mut [u16],
-    ends: &mut [u16],
-    vehicles: &mut [u16],
+    tables: &mut RouteTables<N>,
 ) -> Option<usize>
-    requires { ReaderTables sheet.now plan.now stops.old ends.old vehicles.old }
-    ensures { ReadAs sheet.now plan.now result stops.new ends.new vehicles.new }
+    requires { ReaderTables sheet.now plan.now tables.old.stops tables.old.ends tables.old.vehicles }
+    ensures { ReadAs sheet.now plan.now result tables.new.stops tables.new.ends tables.new.vehicles }
 {
     let depots = sheet.depots();
-    let total = read_chains(sheet, plan, depots, stops, ends, vehicles)?;
+    let total = read_chains(sheet, plan, depots, tables)?;
+    let stops = &tables.stops[..];
     if !each_once(sheet, depots, &stops[..total]) {
         return None;
     }

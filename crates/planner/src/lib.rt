@@ -10,6 +10,7 @@ ghost use Rattle.tariff_bill.specs.Bill.{BillAnswered, BillExact};
 ghost use Rattle.planner.specs.Answer.{priced, plan_for, Answered, Once, Feasibly, Lawful, Alone, Closed};
 ghost use Rattle.planner.specs.Limited.{LimitAnswered, LimitOnce, LimitFew, LimitStood, LimitAside};
 
+use constructive::tables::RouteTables;
 use sheet::Sheet;
 use sheet::refusal::Refusal;
 use tariff::Rates;
@@ -36,29 +37,10 @@ fn fill(sheet: &Sheet, plan: &mut [u8])
     let mut at = [0u16; sheet::MOST_ROWS];
     let mut marks = [0u16; sheet::MOST_ROWS];
     let mut fleet = [0u16; sheet::MOST_VEHICLES];
-    let mut stops = [0u16; sheet::MOST_ROWS];
-    let mut ends = [0u16; sheet::MOST_ROWS];
-    let mut vehicles = [0u16; sheet::MOST_ROWS];
+    let mut tables = RouteTables::<{ sheet::MOST_ROWS }>::new();
     let total = planner_limiting::stops_in(sheet.bytes());
-    let filled = multi_depot::outcome(
-        sheet,
-        &mut at,
-        &mut marks,
-        &mut fleet,
-        &mut stops,
-        &mut ends,
-        &mut vehicles,
-    );
-    plan::write_plan(
-        plan,
-        sheet,
-        &stops,
-        &ends,
-        &vehicles,
-        filled.rounds,
-        total,
-        is_priced(sheet),
-    );
+    let filled = multi_depot::outcome(sheet, &mut at, &mut marks, &mut fleet, &mut tables);
+    plan::write_plan(plan, sheet, &tables, filled.rounds, total, is_priced(sheet));
 }
 
 // Plans a sheet's rounds. A refusal leaves every byte of `plan` as it was.

@@ -13,6 +13,7 @@ ghost use Rattle.fleet.specs.Limit.{limit_routes};
 ghost use Rattle.fleet_limiter.specs.Limitable.{Limitable};
 ghost use Rattle.planner_limiting.specs.Limiting.{LimitDone};
 
+use constructive::tables::RouteTables;
 use sheet::Sheet;
 use sheet::refusal::Refusal;
 
@@ -25,26 +26,22 @@ pub fn stops_in(sheet: &[u8]) -> usize
 }
 
 // The plan out of the plan in the tables.
-fn limit_read(
+fn limit_read<const N: usize>(
     sheet: &Sheet,
     greatest: u32,
     plan_out: &mut [u8],
-    stops: &mut [u16],
-    ends: &mut [u16],
-    vehicles: &mut [u16],
+    tables: &mut RouteTables<N>,
     marks: &mut [u16],
     trial: &mut [u16],
     rounds: usize,
 )
-    requires limitable { Limitable sheet.now stops.old ends.old vehicles.old marks.old trial.old rounds (stop_count sheet.now) }
+    requires limitable { Limitable sheet.now tables.old.stops tables.old.ends tables.old.vehicles marks.old trial.old rounds (stop_count sheet.now) }
     requires plan_out_len { length plan_out.old ≡ plan_length sheet.now }
-    ensures { plan_out.new ≡ plan_of sheet.now (limit_routes sheet.now greatest (outcome_in stops.old ends.old vehicles.old rounds (stop_count sheet.now))) true }
+    ensures { plan_out.new ≡ plan_of sheet.now (limit_routes sheet.now greatest (outcome_in tables.old.stops tables.old.ends tables.old.vehicles rounds (stop_count sheet.now))) true }
 {
     let total = stops_in(sheet.bytes());
-    let left = fleet_limiter::limit_routes(
-        sheet, greatest, stops, ends, vehicles, marks, trial, rounds, total,
-    );
-    plan::write_plan(plan_out, sheet, stops, ends, vehicles, left, total, true);
+    let left = fleet_limiter::limit_routes(sheet, greatest, tables, marks, trial, rounds, total);
+    plan::write_plan(plan_out, sheet, tables, left, total, true);
 }
 
 // The plan out, or a refusal and nothing written. The tables stand here, a kilobyte in all.
@@ -56,28 +53,16 @@ pub fn limit(
 ) -> Result<(), Refusal>
     ensures { LimitDone sheet.now plan_in.now greatest plan_out.old (told result) plan_out.new }
 {
-    let mut stops = [0u16; sheet::MOST_ROWS];
-    let mut ends = [0u16; sheet::MOST_ROWS];
-    let mut vehicles = [0u16; sheet::MOST_ROWS];
+    let mut tables = RouteTables::<{ sheet::MOST_ROWS }>::new();
     let mut marks = [0u16; sheet::MOST_ROWS];
     let mut trial = [0u16; sheet::MOST_ROWS];
     let room = plan_out.len() == plan_in.len();
-    let rounds = plan_door::enter(
-        sheet,
-        plan_in,
-        room,
-        true,
-        &mut stops,
-        &mut ends,
-        &mut vehicles,
-    )?;
+    let rounds = plan_door::enter(sheet, plan_in, room, true, &mut tables)?;
     limit_read(
         &Sheet::new(sheet),
         greatest,
         plan_out,
-        &mut stops,
-        &mut ends,
-        &mut vehicles,
+        &mut tables,
         &mut marks,
         &mut trial,
         rounds,

@@ -5,8 +5,8 @@ use native.Mathlib.Nat.{zero-lt-suc}
 use native.Mathlib.Omega.{arith}
 use mathlib.Core.Bool.{Bool, true, false}
 use mathlib.Core.List.{List, [], ◌∷◌, ◌++◌, append_assoc, append-nil}
-use lib.ListN.{length, get_or, take, drop, length-append, length-drop, get_or-append}
-use lib.Seq.{take_at, drop_at, take-append-le, drop-append-le, get_or-append-add, append_snoc, drop-length}
+use lib.ListN.{length, get_or, take, drop, length-append, length-drop, get_or-append, take-append-drop}
+use lib.Seq.{take_at, drop_at, take-append-le, drop-append-le, get_or-append-add, append_snoc, drop-length, drop-drop, length-take-le}
 use Rattle.lists.specs.Every.{Every}
 use Rattle.lists.specs.Moved.{without}
 use Rattle.lists.specs.Laws.Moved.{without_length, without_every, inserted_length}
@@ -84,57 +84,100 @@ between routed left aside new at n e f = rw (take_at routed (left ++ aside) at e
 abbrev joined : List Round → List ℕ → Outcome → Outcome
 joined done aside o = record { rounds = done ++ o.rounds; aside = aside ++ o.aside }
 
-pub record Laying (s : List ℕ) (t : Terms) (stops₀ ends₀ vehicles₀ trial₀ : List ℕ) (f₀ : Filled) (stops ends vehicles trial : List ℕ) (f : Filled) (at end : ℕ) : Type 0 where
-  pub few : f₀.routed + length stops₀ ≤ 101
-  pub wide : length stops₀ ≤ length trial₀
-  pub room : Room ends₀ vehicles₀ f₀ (f₀.routed + length stops₀)
+pub record Laying (s : List ℕ) (t : Terms) (stops₀ ends₀ vehicles₀ trial₀ : List ℕ) (f₀ : Filled) (total : ℕ) (stops ends vehicles trial : List ℕ) (f : Filled) (at end : ℕ) : Type 0 where
+  pub few : total ≤ 101
+  pub from : f₀.routed ≤ total
+  pub inside : total ≤ length stops₀
+  pub wide : total - f₀.routed ≤ length trial₀
+  pub room : Room ends₀ vehicles₀ f₀ total
   pub tried : length trial ≡ length trial₀
   pub done : List Round
   pub left : List ℕ
   pub aside : List ℕ
-  pub laid : stops ≡ chains done [] ++ (left ++ aside)
+  pub laid : stops ≡ (take f₀.routed stops₀ ++ chains done []) ++ (left ++ (aside ++ drop total stops₀))
   pub entered : Entered ends₀ vehicles₀ f₀ done ends vehicles f
-  pub here : at ≡ routed_in done
+  pub here : at ≡ f₀.routed + routed_in done
   pub last : end ≡ at + length left
-  pub all : end + length aside ≡ length stops₀
+  pub all : end + length aside ≡ total
   pub each : length done ≤ routed_in done
   pub joinable : Joinable s t [] left
-  pub same : plan_on s t (length stops₀) stops₀ ≡ joined done aside (plan_on s t (length left) left)
+  pub same : plan_on s t (length (part stops₀ f₀.routed total)) (part stops₀ f₀.routed total) ≡ joined done aside (plan_on s t (length left) left)
 
-pub begins : (s : List ℕ) (t : Terms) (stops ends vehicles trial : List ℕ) (f : Filled) → Joinable s t [] stops → f.routed + length stops ≤ 101 → length stops ≤ length trial → Room ends vehicles f (f.routed + length stops)
-    → Laying s t stops ends vehicles trial f stops ends vehicles trial f 0 (length stops)
+part_long : (stops : List ℕ) (start total : ℕ) → total ≤ length stops → length (part stops start total) ≡ total - start
+part_long stops start total k = length-take-le (total - start) (drop start stops) (omega (arith, length-drop start stops))
+
+-- a table in three parts
+in_parts : (stops : List ℕ) (start total : ℕ) → start ≤ total → stops ≡ take start stops ++ (part stops start total ++ drop total stops)
+in_parts stops start total h =
+    let e : start + (total - start) ≡ total = omega arith in
+    sym (take-append-drop start stops)
+    ∙ ap (◌++◌ (take start stops)) (sym (take-append-drop (total - start) (drop start stops)) ∙ ap (◌++◌ (part stops start total)) (drop-drop (total - start) start stops ∙ ap (λ (n : ℕ). drop n stops) e))
+
+pub begins : (s : List ℕ) (t : Terms) (stops ends vehicles trial : List ℕ) (f : Filled) (total : ℕ) → Joinable s t [] (part stops f.routed total) → total ≤ 101 → f.routed ≤ total → total ≤ length stops → total - f.routed ≤ length trial → Room ends vehicles f total
+    → Laying s t stops ends vehicles trial f total stops ends vehicles trial f f.routed total
 unfolding chains routed_in
-begins s t stops ends vehicles trial f ok h l room = record {
+begins s t stops ends vehicles trial f total ok h from inside l room = record {
   few = h;
+  from = from;
+  inside = inside;
   wide = l;
   room = room;
   tried = refl;
   done = [];
-  left = stops;
+  left = part stops f.routed total;
   aside = [];
-  laid = sym (append-nil stops);
+  laid = rw (append-nil (take f.routed stops)) (in_parts stops f.routed total from);
   entered = enters_none ends vehicles f (omega (arith, room.rounds, room.ended)) (omega (arith, room.rounds, room.driven));
-  here = refl;
-  last = omega arith;
+  here = omega arith;
+  last = omega (arith, part_long stops f.routed total inside);
   all = omega arith;
   each = omega arith;
   joinable = ok;
   same = refl;
 }
 
-module _ (s : List ℕ) (t : Terms) (stops₀ ends₀ vehicles₀ trial₀ : List ℕ) (f₀ : Filled) (stops ends vehicles trial : List ℕ) (f : Filled) (at end : ℕ)
-    (g : Laying s t stops₀ ends₀ vehicles₀ trial₀ f₀ stops ends vehicles trial f at end) where
+module _ (s : List ℕ) (t : Terms) (stops₀ ends₀ vehicles₀ trial₀ : List ℕ) (f₀ : Filled) (total : ℕ) (stops ends vehicles trial : List ℕ) (f : Filled) (at end : ℕ)
+    (g : Laying s t stops₀ ends₀ vehicles₀ trial₀ f₀ total stops ends vehicles trial f at end) where
+  abbrev members : List ℕ
+  members = part stops₀ f₀.routed total
+
+  -- what stands before the members, and behind them
+  abbrev before : List ℕ
+  before = take f₀.routed stops₀
+
+  abbrev behind : List ℕ
+  behind = drop total stops₀
+
   abbrev routed : List ℕ
-  routed = chains g.done []
+  routed = before ++ chains g.done []
+
+  before_long : length before ≡ f₀.routed
+  before_long = length-take-le f₀.routed stops₀ (omega (arith, g.from, g.inside))
 
   routed_long : length routed ≡ at
-  routed_long = length_chains g.done [] ∙ omega (arith, g.here)
+  routed_long = length-append before (chains g.done []) ∙ omega (arith, before_long, length_chains g.done [], g.here)
+
+  -- the table up to the stops behind the members
+  abbrev front : List ℕ
+  front = routed ++ (g.left ++ g.aside)
+
+  front_long : length front ≡ total
+  front_long = omega (arith, length-append routed (g.left ++ g.aside), length-append g.left g.aside, routed_long, g.last, g.all)
+
+  in_two : stops ≡ front ++ behind
+  in_two = g.laid ∙ sym (append_assoc routed (g.left ++ g.aside) behind ∙ ap (◌++◌ routed) (append_assoc g.left g.aside behind))
+
+  front_told : take total stops ≡ front
+  front_told = rw in_two (take_at front behind total front_long)
+
+  behind_told : drop total stops ≡ behind
+  behind_told = rw in_two (drop_at front behind total front_long)
 
   pub stops_long : length stops ≡ length stops₀
-  stops_long = ap length g.laid ∙ omega (arith, length-append routed (g.left ++ g.aside), length-append g.left g.aside, routed_long, g.last, g.all)
+  stops_long = ap length in_two ∙ omega (arith, length-append front behind, front_long, length-drop total stops₀, g.inside)
 
   -- no more rounds than stops on them, so there is room for each
-  rounds_room : f.rounds ≤ f₀.routed + at
+  rounds_room : f.rounds ≤ at
   rounds_room = omega (arith, rounds_at_lem _ _ _ _ _ _ _ g.entered, g.room.rounds, g.each, g.here)
 
   pub ends_kept : length ends ≡ length ends₀
@@ -148,15 +191,18 @@ module _ (s : List ℕ) (t : Terms) (stops₀ ends₀ vehicles₀ trial₀ : Lis
   starts = omega (arith, g.last)
 
   pub within : end ≤ length stops
-  within = omega (arith, stops_long, g.all)
+  within = omega (arith, stops_long, g.all, g.inside)
 
-  pub most : f₀.routed + end ≤ 101
+  pub total_within : total ≤ length stops
+  total_within = omega (arith, stops_long, g.inside)
+
+  pub most : end ≤ 101
   most = omega (arith, g.all, g.few)
 
   left_part : part stops at end ≡ g.left
   left_part =
       let n : length g.left ≡ end - at = omega (arith, g.last) in
-      rw (g.laid, drop_at routed (g.left ++ g.aside) at routed_long) (take_at g.left g.aside (end - at) n)
+      rw (g.laid, drop_at routed (g.left ++ (g.aside ++ behind)) at routed_long) (take_at g.left (g.aside ++ behind) (end - at) n)
 
   pub left_routed : Routed s t.depot (part stops at end)
   left_routed = rw left_part g.joinable.unrouted
@@ -175,9 +221,17 @@ module _ (s : List ℕ) (t : Terms) (stops₀ ends₀ vehicles₀ trial₀ : Lis
     pub seed_in_lem : at + seed < length stops
     seed_in_lem = omega (arith, inside, g.last, within)
 
+    pub seed_in_front : at + seed < total
+    seed_in_front = omega (arith, inside, g.last, g.all)
+
     seed_at : get_or stops (at + seed) 0 ≡ get_or g.left seed 0
     seed_at =
-        rw (g.laid, ← routed_long) (get_or-append-add routed (g.left ++ g.aside) seed 0)
+        rw (g.laid, ← routed_long) (get_or-append-add routed (g.left ++ (g.aside ++ behind)) seed 0)
+        ∙ get_or-append g.left (g.aside ++ behind) 0 seed inside
+
+    seed_there : get_or front (at + seed) 0 ≡ get_or g.left seed 0
+    seed_there =
+        rw (← routed_long) (get_or-append-add routed (g.left ++ g.aside) seed 0)
         ∙ get_or-append g.left g.aside 0 seed inside
 
     pub seed_row : get_or stops (at + seed) 0 < rows_of s
@@ -194,29 +248,37 @@ module _ (s : List ℕ) (t : Terms) (stops₀ ends₀ vehicles₀ trial₀ : Lis
       abbrev row : ℕ
       row = get_or g.left seed 0
 
-      sent_so : (stops' : List ℕ) → stops' ≡ write stops (at + seed) (drop (at + seed + 1) stops ++ (get_or stops (at + seed) 0 ∷ [])) → stops' ≡ routed ++ (without seed g.left ++ (g.aside ++ (row ∷ [])))
-      sent_so stops' p =
+      abbrev sends : List ℕ → List ℕ → Type 0
+      sends table new = new ≡ write table (at + seed) (drop (at + seed + 1) table ++ (get_or table (at + seed) 0 ∷ []))
+
+      sent_front : (new : List ℕ) → sends (take total stops) new → new ≡ routed ++ (without seed g.left ++ (g.aside ++ (row ∷ [])))
+      sent_front new p =
           p
-          ∙ sent stops (at + seed) (get_or stops (at + seed) 0) seed_in_lem
-          ∙ ap (λ (x : ℕ). without (at + seed) stops ++ (x ∷ [])) seed_at
-          ∙ ap (λ (l : List ℕ). without (at + seed) l ++ (row ∷ [])) g.laid
-          ∙ ap (λ (n : ℕ). without (n + seed) (routed ++ (g.left ++ g.aside)) ++ (row ∷ [])) (sym routed_long)
+          ∙ ap (λ (l : List ℕ). write l (at + seed) (drop (at + seed + 1) l ++ (get_or l (at + seed) 0 ∷ []))) front_told
+          ∙ sent front (at + seed) (get_or front (at + seed) 0) (omega (arith, front_long, seed_in_front))
+          ∙ ap (λ (x : ℕ). without (at + seed) front ++ (x ∷ [])) seed_there
+          ∙ ap (λ (n : ℕ). without (n + seed) front ++ (row ∷ [])) (sym routed_long)
           ∙ ap (λ (l : List ℕ). l ++ (row ∷ [])) (without_between routed g.left g.aside seed inside)
           ∙ simp append_assoc
 
-      pub goes_aside : (stops' : List ℕ) → stops' ≡ write stops (at + seed) (drop (at + seed + 1) stops ++ (get_or stops (at + seed) 0 ∷ []))
-          → Laying s t stops₀ ends₀ vehicles₀ trial₀ f₀ stops' ends vehicles trial f at (end - 1)
-      goes_aside stops' p =
+      sent_so : (new : List ℕ) → sends (take total stops) new → new ++ drop total stops ≡ routed ++ (without seed g.left ++ ((g.aside ++ (row ∷ [])) ++ behind))
+      sent_so new p = rw (behind_told, sent_front new p) (simp append_assoc)
+
+      pub goes_aside : (new : List ℕ) → new ≡ write (take total stops) (at + seed) (drop (at + seed + 1) (take total stops) ++ (get_or (take total stops) (at + seed) 0 ∷ []))
+          → Laying s t stops₀ ends₀ vehicles₀ trial₀ f₀ total (new ++ drop total stops) ends vehicles trial f at (end - 1)
+      goes_aside new p =
           let n = without_length g.left seed inside in
           record {
             few = g.few;
+            from = g.from;
+            inside = g.inside;
             wide = g.wide;
             room = g.room;
             tried = g.tried;
             done = g.done;
             left = without seed g.left;
             aside = g.aside ++ (row ∷ []);
-            laid = sent_so stops' p;
+            laid = sent_so new p;
             entered = g.entered;
             here = g.here;
             last = omega (arith, g.last, n);
@@ -238,7 +300,7 @@ module _ (s : List ℕ) (t : Terms) (stops₀ ends₀ vehicles₀ trial₀ : Lis
     left_seed = rw left_part inside
 
     pub left_room : length (part stops at end) ≤ length trial
-    left_room = rw left_part (omega (arith, g.wide, g.tried, g.all, g.last))
+    left_room = rw left_part (omega (arith, g.wide, g.tried, g.all, g.last, g.here))
 
     module _ (n : ℕ) (q : n ≡ length (route_in (round_from s t (get_or (part stops at end) seed 0) (without seed (part stops at end))))) where
       abbrev grown : Growth
@@ -256,7 +318,7 @@ module _ (s : List ℕ) (t : Terms) (stops₀ ends₀ vehicles₀ trial₀ : Lis
       pub grown_within : at + n ≤ end
       grown_within = omega (arith, n_told, both_long, g.last)
 
-      pub close_room : ((f.rounds < length ends) × (f.rounds < length vehicles)) × (f₀.routed + (at + n) ≤ 101)
+      pub close_room : ((f.rounds < length ends) × (f.rounds < length vehicles)) × (at + n ≤ 101)
       close_room = (
         (
           omega (arith, rounds_room, ends_kept, g.room.ended, grown_some, grown_within, g.all),
@@ -270,25 +332,27 @@ module _ (s : List ℕ) (t : Terms) (stops₀ ends₀ vehicles₀ trial₀ : Lis
         round = record { vehicle = t.vehicle; stops = route_in grown }
 
         grown_so : (stops' new : List ℕ) → new ≡ growth_stops (round_from s t (get_or (part stops at end) seed 0) (without seed (part stops at end))) → stops' ≡ take at stops ++ (new ++ drop (end - at) (drop at stops))
-            → stops' ≡ chains (g.done ++ (round ∷ [])) [] ++ (left_in grown ++ g.aside)
+            → stops' ≡ (before ++ chains (g.done ++ (round ∷ [])) []) ++ (left_in grown ++ (g.aside ++ behind))
         unfolding chains
         grown_so stops' new p r =
             let k : length g.left ≡ end - at = omega (arith, g.last) in
             r
             ∙ ap (λ (l : List ℕ). take at l ++ (new ++ drop (end - at) (drop at l))) g.laid
-            ∙ between routed g.left g.aside new at (end - at) routed_long k
-            ∙ ap (λ (l : List ℕ). routed ++ (l ++ g.aside)) (p ∙ ap (λ (l : List ℕ). growth_stops (round_from s t (get_or l seed 0) (without seed l))) left_part)
-            ∙ sym (ap (λ (l : List ℕ). l ++ (left_in grown ++ g.aside)) (chains_append g.done (round ∷ []) [] ∙ chains_aside g.done (route_in grown ++ [])) ∙ simp (append_assoc, append-nil))
+            ∙ between routed g.left (g.aside ++ behind) new at (end - at) routed_long k
+            ∙ ap (λ (l : List ℕ). routed ++ (l ++ (g.aside ++ behind))) (p ∙ ap (λ (l : List ℕ). growth_stops (round_from s t (get_or l seed 0) (without seed l))) left_part)
+            ∙ sym (ap (λ (l : List ℕ). (before ++ l) ++ (left_in grown ++ (g.aside ++ behind))) (chains_append g.done (round ∷ []) [] ∙ chains_aside g.done (route_in grown ++ [])) ∙ simp (append_assoc, append-nil))
 
         pub goes_round : (stops' new ends' vehicles' trial' : List ℕ) (f' : Filled) → new ≡ growth_stops (round_from s t (get_or (part stops at end) seed 0) (without seed (part stops at end)))
-            → stops' ≡ take at stops ++ (new ++ drop (end - at) (drop at stops)) → length trial' ≡ length trial → f' ≡ record { rounds = f.rounds + 1; routed = f₀.routed + (at + n) }
-            → ends' ≡ write ends f.rounds ((f₀.routed + (at + n)) ∷ []) → vehicles' ≡ write vehicles f.rounds (t.vehicle ∷ [])
-            → Laying s t stops₀ ends₀ vehicles₀ trial₀ f₀ stops' ends' vehicles' trial' f' (at + n) end
+            → stops' ≡ take at stops ++ (new ++ drop (end - at) (drop at stops)) → length trial' ≡ length trial → f' ≡ record { rounds = f.rounds + 1; routed = at + n }
+            → ends' ≡ write ends f.rounds ((at + n) ∷ []) → vehicles' ≡ write vehicles f.rounds (t.vehicle ∷ [])
+            → Laying s t stops₀ ends₀ vehicles₀ trial₀ f₀ total stops' ends' vehicles' trial' f' (at + n) end
         unfolding routed_in
         goes_round stops' new ends' vehicles' trial' f' p r v w x y =
             let more : routed_in (g.done ++ (round ∷ [])) ≡ routed_in g.done + length (route_in grown) = routed_append g.done (round ∷ []) ∙ omega arith in
             record {
               few = g.few;
+              from = g.from;
+              inside = g.inside;
               wide = g.wide;
               room = g.room;
               tried = v ∙ g.tried;
@@ -297,7 +361,7 @@ module _ (s : List ℕ) (t : Terms) (stops₀ ends₀ vehicles₀ trial₀ : Lis
               aside = g.aside;
               laid = grown_so stops' new p r;
               entered =
-                  enters_one _ _ _ _ _ _ _ g.entered round ends' vehicles' f' (f₀.routed + (at + n)) (omega (arith, close_room.0.0, ends_kept)) (omega (arith, close_room.0.1, vehicles_kept))
+                  enters_one _ _ _ _ _ _ _ g.entered round ends' vehicles' f' (at + n) (omega (arith, close_room.0.0, ends_kept)) (omega (arith, close_room.0.1, vehicles_kept))
                   (omega (arith, routed_at _ _ _ _ _ _ _ g.entered, n_told, g.here)) w x y;
               here = omega (arith, g.here, n_told, more);
               last = omega (arith, g.last, n_told, both_long);
@@ -314,7 +378,7 @@ module _ (s : List ℕ) (t : Terms) (stops₀ ends₀ vehicles₀ trial₀ : Lis
             }
 
   -- ---- no stop is left
-  pub ends_all : end ≤ at → plan_on s t (length stops₀) stops₀ ≡ record { rounds = g.done; aside = g.aside }
+  pub ends_all : end ≤ at → plan_on s t (length members) members ≡ record { rounds = g.done; aside = g.aside }
   unfolding plan_on
   ends_all h =
       let n : length g.left ≡ 0 = omega (arith, g.last) in
@@ -327,8 +391,17 @@ module _ (s : List ℕ) (t : Terms) (stops₀ ends₀ vehicles₀ trial₀ : Lis
       go [] z = refl
       go (x ∷ xs) z = absurd (omega arith)
 
-  pub ends_entered : end ≤ at → Entered ends₀ vehicles₀ f₀ (plan_on s t (length stops₀) stops₀).rounds ends vehicles f
+  pub ends_entered : end ≤ at → Entered ends₀ vehicles₀ f₀ (plan_on s t (length members) members).rounds ends vehicles f
   ends_entered h = rw (ends_all h) g.entered
 
-  pub ends_laid : end ≤ at → stops ≡ stops_of (plan_on s t (length stops₀) stops₀)
-  ends_laid h = rw (ends_all h) (g.laid ∙ ap (λ (l : List ℕ). routed ++ (l ++ g.aside)) (none_left h) ∙ sym (chains_aside g.done g.aside))
+  all_long : end ≤ at → f₀.routed + length (chains g.done g.aside) ≡ total
+  all_long h = omega (arith, length_chains g.done g.aside, g.here, g.last, g.all)
+
+  pub ends_laid : end ≤ at → stops ≡ write stops₀ f₀.routed (stops_of (plan_on s t (length members) members))
+  unfolding write
+  ends_laid h =
+      rw (ends_all h, all_long h)
+      (g.laid
+      ∙ ap (λ (l : List ℕ). routed ++ (l ++ (g.aside ++ behind))) (none_left h)
+      ∙ append_assoc before (chains g.done []) (g.aside ++ behind)
+      ∙ ap (◌++◌ before) (sym (append_assoc (chains g.done []) g.aside behind) ∙ ap (λ (l : List ℕ). l ++ behind) (sym (chains_aside g.done g.aside))))

@@ -1,11 +1,10 @@
 -- The members as the stops left at first, and the tables at the end. Assumes nothing.
-use mathlib.Core.Path.{◌≡◌, ap, ◌∙◌}
-use Prim.Native.Nat.{ℕ, ◌+◌, ◌-◌, ◌≤◌}
+use mathlib.Core.Path.{◌≡◌}
+use Prim.Native.Nat.{ℕ, ◌-◌, ◌≤◌}
 use native.Mathlib.Nat.{not-suc-le-zero}
 use native.Mathlib.Omega.{arith}
-use mathlib.Core.List.{List, [], ◌++◌}
-use lib.ListN.{length, take, drop, length-drop}
-use lib.Seq.{length-take-le, drop-drop}
+use mathlib.Core.List.{List, []}
+use lib.ListN.{length}
 use Rattle.wire.specs.Bytes.{write}
 use Rattle.evaluation.specs.Limits.{limits_at}
 use Rattle.evaluation.specs.Routed.{Routed}
@@ -15,7 +14,7 @@ use Rattle.constructive.specs.Outcome.{stops_of}
 use Rattle.constructive.specs.Members.{part, Members}
 use Rattle.constructive.specs.Laws.Unchecked.{unchecked_free, unchecked_windowless}
 use Rattle.constructive.specs.Terms.{terms_of}
-use Rattle.constructive.specs.Stored.{filled_by, Stored, Room}
+use Rattle.constructive.specs.Stored.{filled_by, Stored}
 use Rattle.constructive.specs.Entered.{Entered}
 use Rattle.insertion.specs.Trial.{Joinable}
 use Rattle.solomon_i1.specs.Insertion.{plan_on, solomon_i1}
@@ -40,29 +39,14 @@ module _ (s : List ℕ) (depot v : ℕ) (stops ends vehicles : List ℕ) (f : Fi
   abbrev members : List ℕ
   members = part stops f.routed total
 
-  long : length members ≡ total - f.routed
-  long = length-take-le (total - f.routed) (drop f.routed stops) (omega (arith, length-drop f.routed stops, ok.within, ok.from))
-
-  pub starts : Room ends vehicles f total → Joinable s t [] members × (((f.routed + length members ≤ 101) × (length members ≤ 101)) × Room ends vehicles f (f.routed + length members))
-  starts room =
-      let n : f.routed + length members ≡ total = omega (arith, long, ok.from) in
-      (rw e (members_joinable s depot v members ok.routed), ((omega (arith, n, ok.most), omega (arith, n, ok.most)), rw n room))
+  pub starts : Joinable s t [] members × (((total ≤ 101) × (f.routed ≤ total)) × ((total ≤ length stops) × (total - f.routed ≤ 101)))
+  starts = (rw e (members_joinable s depot v members ok.routed), ((ok.most, ok.from), (ok.within, omega (arith, ok.most))))
 
   module _ (ends' vehicles' : List ℕ) (f' : Filled) (entered : Entered ends vehicles f (plan_on s t (length members) members).rounds ends' vehicles' f') where
     pub ends_filled : f' ≡ filled_by f (solomon_i1 s depot v members).rounds
     unfolding solomon_i1
     ends_filled = rw (← e) entered.count
 
-    pub ends_laid : (new : List ℕ) → new ≡ stops_of (plan_on s t (length members) members) → length new ≡ length members
-        → Stored stops ends vehicles f (solomon_i1 s depot v members) (take f.routed stops ++ (new ++ drop (total - f.routed) (drop f.routed stops))) ends' vehicles'
-    unfolding solomon_i1 write
-    ends_laid new p k =
-        let n : total - f.routed ≡ length new = omega (arith, long, k) in
-        rw (← e) (record {
-          stopped =
-              ap (λ (m : ℕ). take f.routed stops ++ (new ++ drop m (drop f.routed stops))) n
-              ∙ ap (λ (l : List ℕ). take f.routed stops ++ (new ++ l)) (drop-drop (length new) f.routed stops)
-              ∙ ap (write stops f.routed) p;
-          ended = entered.ended;
-          driven = entered.driven;
-        })
+    pub ends_laid : (stops' : List ℕ) → stops' ≡ write stops f.routed (stops_of (plan_on s t (length members) members)) → Stored stops ends vehicles f (solomon_i1 s depot v members) stops' ends' vehicles'
+    unfolding solomon_i1
+    ends_laid stops' p = rw (← e) (record { stopped = p; ended = entered.ended; driven = entered.driven })

@@ -1,7 +1,9 @@
 // Rounds that grow from their seeds.
-ghost use Rattle.std.specs.Prelude.{◌≡◌, [], ◌+◌, ◌≤◌, ◌<◌, length, get_or, take, drop};
+ghost use Rattle.std.specs.Prelude.{◌≡◌, [], ◌+◌, ◌-◌, ◌≤◌, ◌<◌, length, get_or, take, drop};
 ghost use Rattle.sheet.specs.Fields.{most_rows};
 ghost use Rattle.lists.specs.Moved.{without};
+ghost use Rattle.wire.specs.Bytes.{write};
+ghost use Rattle.constructive.specs.Members.{part};
 ghost use Rattle.constructive.specs.Outcome.{stops_of};
 ghost use Rattle.constructive.specs.Stored.{Room};
 ghost use Rattle.constructive.specs.Entered.{Entered};
@@ -12,7 +14,7 @@ ghost use Rattle.solomon_i1.specs.Tabled.{growth_stops};
 
 use crate::seed;
 use constructive::tables;
-use constructive::tables::Filled;
+use constructive::tables::{Filled, RouteTables};
 use constructive::terms::Terms;
 use insertion::choice::Choice;
 use sheet::Sheet;
@@ -68,36 +70,37 @@ fn open_round(
     grow_round(sheet, terms, left, trial)
 }
 
-// Lays down the rounds of the members, which are all of `stops`: the rounds then stand first, and the stops set aside after
-// them, in the order met.
-pub fn lay_rounds(
+// Lays down the rounds of the members, which stand in the table of stops from where the tables are filled up to `total`: the
+// rounds then stand first, and the stops set aside after them, in the order met.
+pub fn lay_rounds<const N: usize>(
     sheet: &Sheet,
     terms: Terms,
-    stops: &mut [u16],
-    ends: &mut [u16],
-    vehicles: &mut [u16],
-    trial: &mut [u16],
+    tables: &mut RouteTables<N>,
     filled: Filled,
+    total: usize,
+    trial: &mut [u16],
 ) -> Filled
-    requires joinable { Joinable sheet.now terms [] stops.old }
-    requires stops_bound { (filled.routed + length stops.old ≤ most_rows) × (length stops.old ≤ length trial.old) }
-    requires room { Room ends.old vehicles.old filled (filled.routed + length stops.old) }
-    ensures entered { Entered ends.old vehicles.old filled (plan_on sheet.now terms (length stops.old) stops.old).rounds ends.new vehicles.new result }
-    ensures stops_after { stops.new ≡ stops_of (plan_on sheet.now terms (length stops.old) stops.old) }
+    requires joinable { Joinable sheet.now terms [] (part tables.old.stops filled.routed total) }
+    requires total_bound { (total ≤ most_rows) × (filled.routed ≤ total) }
+    requires total_in_bounds { (total ≤ length tables.old.stops) × (total - filled.routed ≤ length trial.old) }
+    requires room { Room tables.old.ends tables.old.vehicles filled total }
+    ensures entered { Entered tables.old.ends tables.old.vehicles filled (plan_on sheet.now terms (length (part tables.old.stops filled.routed total)) (part tables.old.stops filled.routed total)).rounds tables.new.ends tables.new.vehicles result }
+    ensures stops_after { tables.new.stops ≡ write tables.old.stops filled.routed (stops_of (plan_on sheet.now terms (length (part tables.old.stops filled.routed total)) (part tables.old.stops filled.routed total))) }
 {
-    let base = filled.routed;
     let mut done = filled;
-    let mut at = 0;
-    let mut end = stops.len();
+    let mut at = filled.routed;
+    let mut end = total;
     while at < end {
+        let stops = &tables.stops[..];
         let seed = seed::farthest(sheet, terms.depot, &stops[at..end]);
         if !seed::goes_alone(sheet, terms, stops[at + seed]) {
-            tables::send_last(stops, at + seed);
+            tables::send_last(&mut tables.stops[..total], at + seed);
             end = end - 1;
             continue;
         }
-        at = at + open_round(sheet, terms, &mut stops[at..end], seed, trial);
-        done = tables::close_round(ends, vehicles, done, terms.vehicle, base + at);
+        let left = &mut tables.stops[..];
+        at = at + open_round(sheet, terms, &mut left[at..end], seed, trial);
+        done = tables.close_round(done, terms.vehicle, at);
     }
     done
 }

@@ -11,38 +11,29 @@ ghost use Rattle.constructive.specs.Stored.{Stored, Room, filled_by};
 ghost use Rattle.constructive.specs.Members.{part, Members};
 ghost use Rattle.solomon_i1.specs.Insertion.{solomon_i1};
 
-use constructive::tables::Filled;
+use constructive::tables::{Filled, RouteTables};
 use constructive::terms;
 use sheet::Sheet;
 
 // The members stand in `stops` from where the tables are filled up to `total`, ascending; the vehicle, by its index, makes
 // all rounds. Answers how far the tables are filled with the rounds; the stops set aside stand after them, up to `total`.
-pub fn solomon_i1(
+pub fn solomon_i1<const N: usize>(
     sheet: &Sheet,
     depot: usize,
     vehicle: u16,
-    stops: &mut [u16],
-    ends: &mut [u16],
-    vehicles: &mut [u16],
+    tables: &mut RouteTables<N>,
     filled: Filled,
     total: usize,
 ) -> Filled
-    requires members { Members sheet.now depot stops.old filled.routed total }
-    requires room { Room ends.old vehicles.old filled total }
+    requires members { Members sheet.now depot tables.old.stops filled.routed total }
+    requires room { Room tables.old.ends tables.old.vehicles filled total }
     requires vehicle_bound { vehicle < vehicles_of sheet.now }
-    ensures value { result ≡ filled_by filled (solomon_i1 sheet.now depot vehicle (part stops.old filled.routed total)).rounds }
-    ensures stored { Stored stops.old ends.old vehicles.old filled (solomon_i1 sheet.now depot vehicle (part stops.old filled.routed total)) stops.new ends.new vehicles.new }
+    ensures value { result ≡ filled_by filled (solomon_i1 sheet.now depot vehicle (part tables.old.stops filled.routed total)).rounds }
+    ensures stored { Stored tables.old.stops tables.old.ends tables.old.vehicles filled (solomon_i1 sheet.now depot vehicle (part tables.old.stops filled.routed total)) tables.new.stops tables.new.ends tables.new.vehicles }
 {
     let start = filled.routed;
+    let stops = &tables.stops[..];
     let terms = terms::terms_of(sheet, depot, vehicle, &stops[start..total]);
     let mut trial = [0u16; sheet::MOST_ROWS];
-    growing::lay_rounds(
-        sheet,
-        terms,
-        &mut stops[start..total],
-        ends,
-        vehicles,
-        &mut trial,
-        filled,
-    )
+    growing::lay_rounds(sheet, terms, tables, filled, total, &mut trial)
 }

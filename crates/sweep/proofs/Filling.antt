@@ -300,9 +300,6 @@ falls s t total stops ends vehicles p stops' ends' vehicles' p' l m =
     go false false d = omega arith
 
 module _ (s : List ℕ) (t : Terms) (stops₀ ends₀ vehicles₀ : List ℕ) (f₀ : Filled) (total : ℕ) (stops ends vehicles : List ℕ) (p : Packing) (g : Filling s t stops₀ ends₀ vehicles₀ f₀ total stops ends vehicles p) where
-  pub stops_long : length stops ≡ length stops₀
-  stops_long = long_stops s t stops₀ ends₀ vehicles₀ f₀ total stops ends vehicles p g.members g.room g.so g.left g.stands
-
   pub ends_long : length ends ≡ length ends₀
   ends_long = long_ends s t stops₀ ends₀ vehicles₀ f₀ total stops ends vehicles p g.members g.room g.so g.left g.stands
 

@@ -12,33 +12,32 @@ ghost use Rattle.constructive.specs.Stored.{Stored, Room, filled_by};
 ghost use Rattle.constructive.specs.Members.{part, Members};
 ghost use Rattle.sweep.specs.Sweep.{sweep};
 
-use constructive::tables::Filled;
+use constructive::tables::{Filled, RouteTables};
 use constructive::terms;
 use evaluation::limits;
 use sheet::Sheet;
 
 // The members stand in `stops` from where the tables are filled up to `total`, ascending; the vehicle is the depot's first, by
 // its index. Answers how far the tables are filled with the rounds; the stops set aside stand after them, up to `total`.
-pub fn sweep(
+pub fn sweep<const N: usize>(
     sheet: &Sheet,
     depot: usize,
     vehicle: u16,
-    stops: &mut [u16],
-    ends: &mut [u16],
-    vehicles: &mut [u16],
+    tables: &mut RouteTables<N>,
     filled: Filled,
     total: usize,
 ) -> Filled
-    requires members { Members sheet.now depot stops.old filled.routed total }
-    requires room { Room ends.old vehicles.old filled total }
+    requires members { Members sheet.now depot tables.old.stops filled.routed total }
+    requires room { Room tables.old.ends tables.old.vehicles filled total }
     requires vehicle_bound { vehicle < vehicles_of sheet.now }
-    ensures value { result ≡ filled_by filled (sweep sheet.now depot vehicle (part stops.old filled.routed total)).rounds }
-    ensures stored { Stored stops.old ends.old vehicles.old filled (sweep sheet.now depot vehicle (part stops.old filled.routed total)) stops.new ends.new vehicles.new }
+    ensures value { result ≡ filled_by filled (sweep sheet.now depot vehicle (part tables.old.stops filled.routed total)).rounds }
+    ensures stored { Stored tables.old.stops tables.old.ends tables.old.vehicles filled (sweep sheet.now depot vehicle (part tables.old.stops filled.routed total)) tables.new.stops tables.new.ends tables.new.vehicles }
 {
     let start = filled.routed;
     let limits = limits::limits_at(sheet, vehicle as usize);
+    let stops = &mut tables.stops[..];
     let terms = terms::terms_with(sheet, depot, vehicle, &stops[start..total], limits);
     let mut scratch = [0u16; sheet::MOST_ROWS];
     by_angle::sort_by_angle(sheet, depot, &mut stops[start..total], &mut scratch);
-    rounds::pack(sheet, terms, stops, ends, vehicles, filled, total)
+    rounds::pack(sheet, terms, tables, filled, total)
 }

@@ -11,7 +11,7 @@ ghost use Rattle.sweep.specs.Sweep.{unservable, closes, swept_by};
 ghost use Rattle.sweep.specs.Met.{Midway, Met};
 
 use constructive::tables;
-use constructive::tables::Filled;
+use constructive::tables::{Filled, RouteTables};
 use constructive::terms::Terms;
 use sheet::Sheet;
 
@@ -73,25 +73,23 @@ fn set_aside(stops: &mut [u16], at: usize, total: usize)
 }
 
 // The next stop is set aside, begins a round, or joins the one that is being filled.
-fn meet(
+fn meet<const N: usize>(
     sheet: &Sheet,
     terms: Terms,
-    stops: &mut [u16],
-    ends: &mut [u16],
-    vehicles: &mut [u16],
+    tables: &mut RouteTables<N>,
     packing: Packing,
     total: usize,
 ) -> Packing
-    requires members { Members sheet.now terms.depot stops.old packing.filled.routed total }
-    requires room { Room ends.old vehicles.old packing.filled total }
-    requires midway { Midway sheet.now stops.old packing total }
-    ensures { Met sheet.now terms total stops.old ends.old vehicles.old packing stops.new ends.new vehicles.new result }
+    requires members { Members sheet.now terms.depot tables.old.stops packing.filled.routed total }
+    requires room { Room tables.old.ends tables.old.vehicles packing.filled total }
+    requires midway { Midway sheet.now tables.old.stops packing total }
+    ensures { Met sheet.now terms total tables.old.stops tables.old.ends tables.old.vehicles packing tables.new.stops tables.new.ends tables.new.vehicles result }
 {
     let filled = packing.filled;
     let end = packing.end;
-    let demand = sheet.demand(stops[end] as usize);
-    if is_unservable(sheet, terms, stops, end, demand) {
-        set_aside(stops, end, total);
+    let demand = sheet.demand(tables.stops[end] as usize);
+    if is_unservable(sheet, terms, &tables.stops, end, demand) {
+        set_aside(&mut tables.stops, end, total);
         return Packing {
             filled,
             end,
@@ -100,8 +98,8 @@ fn meet(
         };
     }
     let load = packing.load + demand;
-    if is_closing(sheet, terms, stops, filled.routed, end, load) {
-        let closed = tables::close_round(ends, vehicles, filled, terms.vehicle, end);
+    if is_closing(sheet, terms, &tables.stops, filled.routed, end, load) {
+        let closed = tables.close_round(filled, terms.vehicle, end);
         return Packing {
             filled: closed,
             end: end + 1,
@@ -118,19 +116,17 @@ fn meet(
 }
 
 // Packs the stops from where the tables are filled up to `total`.
-pub fn pack(
+pub fn pack<const N: usize>(
     sheet: &Sheet,
     terms: Terms,
-    stops: &mut [u16],
-    ends: &mut [u16],
-    vehicles: &mut [u16],
+    tables: &mut RouteTables<N>,
     filled: Filled,
     total: usize,
 ) -> Filled
-    requires members { Members sheet.now terms.depot stops.old filled.routed total }
-    requires room { Room ends.old vehicles.old filled total }
-    ensures value { result ≡ filled_by filled (swept_by sheet.now terms (part stops.old filled.routed total)).rounds }
-    ensures stored { Stored stops.old ends.old vehicles.old filled (swept_by sheet.now terms (part stops.old filled.routed total)) stops.new ends.new vehicles.new }
+    requires members { Members sheet.now terms.depot tables.old.stops filled.routed total }
+    requires room { Room tables.old.ends tables.old.vehicles filled total }
+    ensures value { result ≡ filled_by filled (swept_by sheet.now terms (part tables.old.stops filled.routed total)).rounds }
+    ensures stored { Stored tables.old.stops tables.old.ends tables.old.vehicles filled (swept_by sheet.now terms (part tables.old.stops filled.routed total)) tables.new.stops tables.new.ends tables.new.vehicles }
 {
     let mut packing = Packing {
         filled,
@@ -139,12 +135,12 @@ pub fn pack(
         mid: total,
     };
     while packing.end < packing.mid {
-        packing = meet(sheet, terms, stops, ends, vehicles, packing, total);
+        packing = meet(sheet, terms, tables, packing, total);
     }
     let closed = packing.filled;
     let end = packing.end;
     if closed.routed == end {
         return closed;
     }
-    tables::close_round(ends, vehicles, closed, terms.vehicle, end)
+    tables.close_round(closed, terms.vehicle, end)
 }

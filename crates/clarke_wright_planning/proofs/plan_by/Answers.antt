@@ -17,15 +17,6 @@ slice_bounds-lay-end g c = aside_within c.requires.members c.requires.room c.dir
 pub slice_bounds-lay-end-2 : goal.slice_bounds-lay-end-2
 slice_bounds-lay-end-2 g c = sym (length-take-le c.merge_members-left.result c.merge_members-left.new.aside (aside_within c.requires.members c.requires.room c.directed_of-terms.result c.merge_members-left.ensures.slotted c.merge_members-left.ensures.lens_after c.merge_members-left.ensures.value (omega (arith, c.merge_members-left.auto.aside, c.requires.most_rows_in_bounds.1))))
 
-pub shape_of-stops : goal.shape_of-stops
-shape_of-stops g c = c.lay.auto.stops
-
-pub shape_of-ends : goal.shape_of-ends
-shape_of-ends g c = c.lay.auto.ends
-
-pub shape_of-vehicles : goal.shape_of-vehicles
-shape_of-vehicles g c = c.lay.auto.vehicles
-
 pub shape_of-trial : goal.shape_of-trial
 shape_of-trial g c = c.merge_members-left.auto.trial
 
@@ -40,7 +31,7 @@ returns-clause-stored g c = planned_laid c.requires.members c.requires.room c.di
 
 pub merge_members-left-requires : goal.merge_members-left-requires
 unfolding directed_of terms_of
-merge_members-left-requires g c = (search rules, (search rules, (subst (λ (t : Directed). Routed c.args.sheet.now t.common.depot (part c.args.stops.now c.args.filled.routed c.args.total)) (sym c.directed_of-terms.ensures) c.requires.members.routed, (c.requires.by_index, (rw (members_long c.requires.members) c.requires.members_in_bounds, (rw (members_long c.requires.members) c.requires.roomy, c.requires.most_rows_in_bounds))))))
+merge_members-left-requires g c = (search rules, (search rules, (subst (λ (t : Directed). Routed c.args.sheet.now t.common.depot (part c.args.tables.now.stops c.args.filled.routed c.args.total)) (sym c.directed_of-terms.ensures) c.requires.members.routed, (c.requires.by_index, (rw (members_long c.requires.members) c.requires.members_in_bounds, (rw (members_long c.requires.members) c.requires.roomy, c.requires.most_rows_in_bounds))))))
 
 pub lay-requires : goal.lay-requires
-lay-requires g c = (search rules, (laying c.requires.members c.requires.room c.directed_of-terms.result c.merge_members-left.ensures.slotted c.merge_members-left.ensures.lens_after, aside_fits c.requires.members c.requires.room c.directed_of-terms.result c.merge_members-left.ensures.slotted c.merge_members-left.ensures.lens_after c.merge_members-left.ensures.aside_after))
+lay-requires g c = (search rules, (search rules, (laying c.requires.members c.requires.room c.directed_of-terms.result c.merge_members-left.ensures.slotted c.merge_members-left.ensures.lens_after, aside_fits c.requires.members c.requires.room c.directed_of-terms.result c.merge_members-left.ensures.slotted c.merge_members-left.ensures.lens_after c.merge_members-left.ensures.aside_after)))

@@ -5,7 +5,7 @@ use Rattle.fleet_limiter.proofs.Refitting.{Refitting}
 use Rattle.fleet_limiter.proofs.refit.Given as goal
 
 abbrev pub invariant-loop-j : goal.invariant-loop-j
-invariant-loop-j l = Refitting l.sheet l.windows.soft l.initial.stops l.initial.ends l.vehicles l.initial.trial l.n l.stops l.ends l.trial
+invariant-loop-j g l = Refitting l.sheet l.windows.soft l.initial.tables.stops l.initial.tables.ends l.initial.tables.vehicles l.initial.trial l.n l.total l.tables.stops l.tables.ends l.tables.vehicles l.trial
 
 abbrev pub decreases-loop-j : goal.decreases-loop-j
-decreases-loop-j l = length (outcome_in l.stops l.ends l.vehicles l.n (length l.stops)).aside
+decreases-loop-j g l = length (outcome_in l.tables.stops l.tables.ends l.tables.vehicles l.n l.total).aside

@@ -2,24 +2,19 @@
 use mathlib.Core.Path.{sym}
 use Rattle.sheet.specs.declared.method.Method.TheVariants.{Savings, Insertion}
 use Rattle.multi_depot_methods.proofs.Fleets.{savings_so, insertion_so, sweep_so, another}
+use Rattle.std.proofs.Common.{rules}
 use Rattle.multi_depot_methods.proofs.with_vehicle.Goals as goal
 
 pub clarke_wright_few-requires : goal.clarke_wright_few-requires
-clarke_wright_few-requires c = let p = c.requires in
-    record {
-      members = p.members;
-      room = p.room;
-      vehicle_bound = p.vehicle_bound;
-      by_index = p.by_index;
-      routed_bound = p.routed_bound (sym (rw c.in-Savings.is at c.method.ensures));
-    }
+clarke_wright_few-requires g c = let p = c.requires in
+    (search rules, (p.members, (p.room, (p.vehicle_bound, (p.by_index, p.routed_bound (sym (rw c.in-Savings.is at c.method.ensures)))))))
 
 pub returns-in-Savings : goal.returns-in-Savings
-returns-in-Savings c = let e = sym (rw c.in-Savings.is at c.method.ensures) in record { value = rw (savings_so _ _ _ _ e) c.clarke_wright_few.ensures.value; stored = rw (savings_so _ _ _ _ e) c.clarke_wright_few.ensures.stored }
+returns-in-Savings g c = let e = sym (rw c.in-Savings.is at c.method.ensures) in record { value = rw (savings_so _ _ _ _ e) c.clarke_wright_few.ensures.value; stored = rw (savings_so _ _ _ _ e) c.clarke_wright_few.ensures.stored }
 
 pub returns-in-Insertion : goal.returns-in-Insertion
-returns-in-Insertion c = let e = sym (rw c.in-Insertion.is at c.method.ensures) in record { value = rw (insertion_so _ _ _ _ e) c.solomon_i1.ensures.value; stored = rw (insertion_so _ _ _ _ e) c.solomon_i1.ensures.stored }
+returns-in-Insertion g c = let e = sym (rw c.in-Insertion.is at c.method.ensures) in record { value = rw (insertion_so _ _ _ _ e) c.solomon_i1.ensures.value; stored = rw (insertion_so _ _ _ _ e) c.solomon_i1.ensures.stored }
 
 pub returns-in_default : goal.returns-in_default
-returns-in_default c = let m = c.method.ensures in
+returns-in_default g c = let m = c.method.ensures in
     rw (sweep_so _ _ _ _ (another _ Savings m c.in_default.not-Savings) (another _ Insertion m c.in_default.not-Insertion)) record { value = c.sweep.ensures.value; stored = c.sweep.ensures.stored }

@@ -1,41 +1,36 @@
 -- `multi_depot_planning::lay_depot` meets its contract. Assumes nothing.
 use mathlib.Core.Path.{◌∙◌, sym}
 use Rattle.multi_depot_planning.proofs.Sharing.{members_fit, none_shared, ready, shares}
+use Rattle.std.proofs.Common.{rules}
 use Rattle.multi_depot_planning.proofs.lay_depot.Goals as goal
 
 pub members_of-total-requires : goal.members_of-total-requires
-members_of-total-requires c = let p = c.requires in
+members_of-total-requires g c = let p = c.requires in
     let both = members_fit p.planning_tables p.next in record { gathers = both.0; depot_in_bounds = both.1 }
 
 pub returns-then-total-from : goal.returns-then-total-from
-returns-then-total-from c = let p = c.requires in
+returns-then-total-from g c = let p = c.requires in
     let m = c.members_of-total.ensures in
     none_shared p.planning_tables p.next m.value m.stops_after c.if-total-from.true
 
 pub by_savings-saved-requires : goal.by_savings-saved-requires
-by_savings-saved-requires c = let p = c.requires in
+by_savings-saved-requires g c = let p = c.requires in
     let m = c.members_of-total.ensures in
-    record {
-      ready = ready p.planning_tables p.next m.value m.stops_after c.if-total-from.false;
-      sheet_value = sym c.method.ensures ∙ c.saves_many.ensures.method_value c.if-saves_many.true;
-    }
+    (search rules, (ready p.planning_tables p.next m.value m.stops_after c.if-total-from.false, sym c.method.ensures ∙ c.saves_many.ensures.method_value c.if-saves_many.true))
 
 pub returns-then-saves_many : goal.returns-then-saves_many
-returns-then-saves_many c = let p = c.requires in
+returns-then-saves_many g c = let p = c.requires in
     let m = c.members_of-total.ensures in
     let d = c.by_savings-saved.ensures in
     shares p.planning_tables p.next m.value m.stops_after c.if-total-from.false d.value d.stored
 
 pub construct-done-requires : goal.construct-done-requires
-construct-done-requires c = let p = c.requires in
+construct-done-requires g c = let p = c.requires in
     let m = c.members_of-total.ensures in
-    record {
-      ready = ready p.planning_tables p.next m.value m.stops_after c.if-total-from.false;
-      routed_bound = λ q. c.saves_many.ensures.members_bound c.if-saves_many.false (c.method.ensures ∙ q);
-    }
+    (search rules, (ready p.planning_tables p.next m.value m.stops_after c.if-total-from.false, λ q. c.saves_many.ensures.members_bound c.if-saves_many.false (c.method.ensures ∙ q)))
 
 pub returns : goal.returns
-returns c = let p = c.requires in
+returns g c = let p = c.requires in
     let m = c.members_of-total.ensures in
     let d = c.construct-done.ensures in
     shares p.planning_tables p.next m.value m.stops_after c.if-total-from.false d.value d.stored

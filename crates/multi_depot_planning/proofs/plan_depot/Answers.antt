@@ -3,7 +3,7 @@ use Rattle.multi_depot_planning.proofs.Plans.{turned_known, adds}
 use Rattle.multi_depot_planning.proofs.plan_depot.Goals as goal
 
 pub mark-requires : goal.mark-requires
-mark-requires c = let a = c.args in
+mark-requires g c = let a = c.args in
     let share = c.lay_depot-total.ensures in
     record {
       total_in_bounds = share.within;
@@ -11,4 +11,4 @@ mark-requires c = let a = c.args in
     }
 
 pub returns : goal.returns
-returns c = let a = c.args in adds a.sheet.now a.at.now a.marks.now a.depot c.requires.next.1 c.lay_depot-total.ensures c.mark.ensures
+returns g c = let a = c.args in record { added = adds a.sheet.now a.at.now a.marks.now a.depot c.requires.next.1 c.lay_depot-total.ensures c.mark.ensures; as_long = c.lay_depot-total.ensures.long }

@@ -6,7 +6,7 @@ use Rattle.multi_depot_planning.proofs.Plans.{Kept}
 use Rattle.multi_depot_planning.proofs.plan_depots.Given as goal
 
 abbrev pub invariant-loop-depot : goal.invariant-loop-depot
-invariant-loop-depot l = (l.depot ≤ l.depots) × (Kept l.initial.marks l.initial.fleet l.initial.stops l.initial.ends l.initial.vehicles l.marks l.fleet l.stops l.ends l.vehicles × Planned l.sheet l.marks l.stops l.ends l.vehicles l.filled (planned_upto l.sheet l.at l.depot))
+invariant-loop-depot g l = (l.depot ≤ l.depots) × (Kept l.initial.marks l.initial.fleet l.initial.tables.stops l.initial.tables.ends l.initial.tables.vehicles l.marks l.fleet l.tables.stops l.tables.ends l.tables.vehicles × Planned l.sheet l.marks l.tables.stops l.tables.ends l.tables.vehicles l.filled (planned_upto l.sheet l.at l.depot))
 
 abbrev pub decreases-loop-depot : goal.decreases-loop-depot
-decreases-loop-depot l = l.depots - l.depot
+decreases-loop-depot g l = l.depots - l.depot

@@ -8,11 +8,11 @@ use Rattle.multi_depot_offers.specs.ByDepot.{planned_at}
 use Rattle.multi_depot_offers.specs.Laws.Settled.{attempts_left}
 use Rattle.multi_depot_planning.proofs.Plans.{Kept}
 use Rattle.multi_depot_settling.specs.Promises.{Untouched}
-use Rattle.multi_depot_settling.proofs.Settling.{Settling, ends}
+use Rattle.multi_depot_settling.proofs.Settling.{Settling}
 use Rattle.multi_depot_settling.proofs.settle.Given as goal
 
 abbrev pub invariant-offers : goal.invariant-offers
-invariant-offers l = Kept l.initial.marks l.initial.fleet l.initial.stops l.initial.ends l.initial.vehicles l.marks l.fleet l.stops l.ends l.vehicles × (Settling l.sheet l.at × (Marks l.sheet l.marks (planned_at l.sheet l.at).aside × ((length l.before ≡ rows_of l.sheet) × (l.any ≡ false → Untouched l.initial.at l.initial.marks l.initial.stops l.initial.ends l.initial.vehicles l.at l.marks l.stops l.ends l.vehicles))))
+invariant-offers g l = Kept l.initial.marks l.initial.fleet l.initial.tables.stops l.initial.tables.ends l.initial.tables.vehicles l.marks l.fleet l.tables.stops l.tables.ends l.tables.vehicles × (Settling l.sheet l.at × (Marks l.sheet l.marks (planned_at l.sheet l.at).aside × ((length l.before ≡ rows_of l.sheet) × (l.any ≡ false → Untouched l.initial.at l.initial.marks l.initial.tables.stops l.initial.tables.ends l.initial.tables.vehicles l.at l.marks l.tables.stops l.tables.ends l.tables.vehicles))))
 
 abbrev pub decreases-offers : goal.decreases-offers
-decreases-offers l = attempts_left l.sheet l.at
+decreases-offers g l = attempts_left l.sheet l.at

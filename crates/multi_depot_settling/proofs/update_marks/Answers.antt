@@ -1,14 +1,12 @@
 -- `multi_depot_settling::update_marks` meets its contract. Assumes nothing.
 use native.Mathlib.Omega.{arith}
 use Rattle.multi_depot_settling.proofs.UpdatingMarks.{remarked, next_alone}
+use Rattle.std.proofs.Common.{rules}
 use Rattle.multi_depot_settling.proofs.update_marks.Goals as goal
 
 pub plan_depot-requires : goal.plan_depot-requires
-plan_depot-requires c = let p = c.requires in record {
-  planning_tables = p.planning_tables;
-  next = (next_alone _ _ _ p.depot_bound.0, omega (arith, p.depot_bound.1, c.clear.auto.marks));
-}
+plan_depot-requires g c = let p = c.requires in (search rules, (p.planning_tables, (next_alone _ _ _ p.depot_bound.0, omega (arith, p.depot_bound.1, c.clear.auto.marks))))
 
 pub returns : goal.returns
-returns c = let p = c.requires in
-    remarked c.args.depot p.planning_tables.rows (omega (arith, p.depot_bound.1, c.clear.auto.marks)) p.depot_bound.0 c.clear.ensures c.plan_depot.ensures.turned
+returns g c = let p = c.requires in
+    record { marks_updated = remarked c.args.depot p.planning_tables.rows (omega (arith, p.depot_bound.1, c.clear.auto.marks)) p.depot_bound.0 c.clear.ensures c.plan_depot.ensures.added.turned; as_long = c.plan_depot.ensures.as_long }

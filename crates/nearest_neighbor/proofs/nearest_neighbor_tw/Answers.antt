@@ -5,4 +5,4 @@ use Rattle.nearest_neighbor.proofs.nearest_neighbor_tw.Goals as goal
 
 pub returns : goal.returns
 unfolding nearest_neighbor_tw rule_of
-returns c = record { value = rw (← c.has_soft_windows-soft.ensures) c.lay_rounds.ensures.value; stored = rw (← c.has_soft_windows-soft.ensures) c.lay_rounds.ensures.stored }
+returns g c = record { value = rw (← c.has_soft_windows-soft.ensures) c.lay_rounds.ensures.value; stored = rw (← c.has_soft_windows-soft.ensures) c.lay_rounds.ensures.stored }

@@ -1,4 +1,5 @@
 -- `plan_figures::walk_plan` meets its contract. Assumes nothing.
+use Rattle.std.proofs.Common.{rules}
 use Rattle.std.proofs.lemmas.Result.{err_from_is_err_and}
 use Rattle.plan_figures.proofs.Entering.{walked}
 use Rattle.plan_figures.proofs.walk_plan.Goals as goal
@@ -6,11 +7,8 @@ use Rattle.plan_figures.proofs.walk_plan.Goals as goal
 pub new-requires : goal.new-requires
 new-requires c = c.in_ok-rounds.ensures.read.tables.sheet
 
-pub walk_rounds-requires-clause-round_tables : goal.walk_rounds-requires-clause-round_tables
-walk_rounds-requires-clause-round_tables c = rw c.new.ensures (_, c.in_ok-rounds.ensures.read.tables)
-
-pub walk_rounds-requires-clause-figure_tables : goal.walk_rounds-requires-clause-figure_tables
-walk_rounds-requires-clause-figure_tables c = c.requires
+pub walk_rounds-requires : goal.walk_rounds-requires
+walk_rounds-requires c = (search rules, rw c.new.ensures ((_, c.in_ok-rounds.ensures.read.tables), c.requires))
 
 pub returns-in_err-rounds : goal.returns-in_err-rounds
 returns-in_err-rounds c = let p = err_from_is_err_and c.from_residual.result c.from_residual.ensures.1 in rw (p.1, p.2) c.in_err-rounds.ensures

@@ -1,5 +1,6 @@
 -- `planner_limiting::limit` meets its contract. Assumes nothing.
 use native.Mathlib.Omega.{arith}
+use Rattle.std.proofs.Common.{rules}
 use Rattle.std.proofs.lemmas.Result.{err_from_is_err_and}
 use Rattle.sheet.specs.Laws.Told.{number_positive}
 use Rattle.planner_limiting.proofs.PlanOut.{limit_refused, limit_may, limit_fits, limit_done}
@@ -11,11 +12,8 @@ returns-in_err-rounds c = let p = err_from_is_err_and c.from_residual.result c.f
 pub new-requires : goal.new-requires
 new-requires c = c.in_ok-rounds.ensures.read.tables.sheet
 
-pub limit_read-requires-clause-limitable : goal.limit_read-requires-clause-limitable
-limit_read-requires-clause-limitable c = rw c.new.ensures (limit_may _ _ c.args.plan_out.now _ _ _ _ c.in_ok-rounds.ensures _ _ (omega arith) (omega arith))
-
-pub limit_read-requires-clause-plan_out_len : goal.limit_read-requires-clause-plan_out_len
-limit_read-requires-clause-plan_out_len c = rw c.new.ensures (limit_fits _ _ c.args.plan_out.now _ _ _ _ c.in_ok-rounds.ensures)
+pub limit_read-requires : goal.limit_read-requires
+limit_read-requires c = (search rules, rw c.new.ensures (limit_may _ _ c.args.plan_out.now _ _ _ _ c.in_ok-rounds.ensures _ _ (omega arith) (omega arith), limit_fits _ _ c.args.plan_out.now _ _ _ _ c.in_ok-rounds.ensures))
 
 pub returns : goal.returns
 returns c = limit_done _ _ _ _ _ _ _ c.in_ok-rounds.ensures _ _ (rw c.new.ensures at c.limit_read.ensures)

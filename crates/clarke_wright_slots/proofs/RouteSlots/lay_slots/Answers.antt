@@ -1,13 +1,14 @@
 -- `clarke_wright_slots::RouteSlots::lay_slots` meets its contract. Assumes nothing.
 use native.Mathlib.Omega.{arith}
-use Rattle.clarke_wright_slots.proofs.Rounds.{begins, fits, copy_room, passes_on, close_room, closes, stops_long, ends_long, vehicles_long, ends_count, ends_laid}
+use Rattle.std.proofs.Common.{rules}
+use Rattle.clarke_wright_slots.proofs.Rounds.{begins, fits, copy_room, passes_on, close_room, closes, ends_count, ends_laid}
 use Rattle.clarke_wright_slots.proofs.RouteSlots.lay_slots.Goals as goal
 
 pub overflow_cast-n : goal.overflow_cast-n
 overflow_cast-n g c = omega (arith, c.loop-k.invariant.room.long c.loop-k.k c.loop-k-test.true)
 
 pub loop-k-init : goal.loop-k-init
-loop-k-init g c = begins c.args.count c.args.self.now.cells c.args.self.now.lens c.args.vehicle c.args.stops.now c.args.ends.now c.args.vehicles.now c.args.filled c.requires
+loop-k-init g c = begins c.args.count c.args.self.now.cells c.args.self.now.lens c.args.vehicle c.args.tables.now.stops c.args.tables.now.ends c.args.tables.now.vehicles c.args.filled c.requires
 
 pub loop-k-preserved-then-n-eq0 : goal.loop-k-preserved-then-n-eq0
 loop-k-preserved-then-n-eq0 g c = passes_on c.loop-k.invariant c.loop-k-test.true c.if-n-eq0.true
@@ -31,19 +32,10 @@ pub overflow_add-start : goal.overflow_add-start
 overflow_add-start g c = omega (arith, (fits c.loop-k.invariant c.loop-k-test.true).0)
 
 pub close_round-done-requires : goal.close_round-done-requires
-close_round-done-requires g c = let both = close_room c.loop-k.invariant c.loop-k-test.true c.if-n-eq0.false in record { rounds_in_bounds = both.0; end_le_most_rows = both.1 }
+close_round-done-requires g c = let both = close_room c.loop-k.invariant c.loop-k-test.true c.if-n-eq0.false in (search rules, both)
 
 pub loop-k-preserved : goal.loop-k-preserved
-loop-k-preserved g c = closes c.loop-k.invariant c.loop-k-test.true c.if-n-eq0.false c.copy_from_slice.new.self _ _ _ c.copy_from_slice.ensures.after c.close_round-done.ensures.value c.close_round-done.ensures.ends_after.0 c.close_round-done.ensures.ends_after.1
-
-pub shape_of-stops : goal.shape_of-stops
-shape_of-stops g c = stops_long c.loop-k.invariant
-
-pub shape_of-ends : goal.shape_of-ends
-shape_of-ends g c = ends_long c.loop-k.invariant
-
-pub shape_of-vehicles : goal.shape_of-vehicles
-shape_of-vehicles g c = vehicles_long c.loop-k.invariant
+loop-k-preserved g c = rw c.close_round-done.ensures.stops_kept (closes c.loop-k.invariant c.loop-k-test.true c.if-n-eq0.false c.copy_from_slice.new.self _ _ _ c.copy_from_slice.ensures.after c.close_round-done.ensures.value c.close_round-done.ensures.ends_after.0 c.close_round-done.ensures.ends_after.1)
 
 pub returns-clause-value : goal.returns-clause-value
 returns-clause-value g c = ends_count c.loop-k.invariant c.loop-k-test.false

@@ -4,4 +4,4 @@ use Rattle.nearest_neighbor.proofs.Laying.{Laying}
 use Rattle.nearest_neighbor.proofs.greedy.lay_rounds.Given as goal
 
 abbrev pub invariant-loop-index : goal.invariant-loop-index
-invariant-loop-index g l = Laying l.sheet l.depot (g.R.Rule.which l.rule) l.fleet l.initial.stops l.initial.ends l.initial.vehicles l.initial.done l.total l.stops l.ends l.vehicles l.done l.index-index (length l.fleet)
+invariant-loop-index g l = Laying l.sheet l.depot (g.R.Rule.which l.rule) l.fleet l.initial.tables.stops l.initial.tables.ends l.initial.tables.vehicles l.initial.done l.total l.tables.stops l.tables.ends l.tables.vehicles l.done l.index-index (length l.fleet)
