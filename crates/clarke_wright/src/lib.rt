@@ -36,8 +36,6 @@ fn by_tables<const PAIRS: usize, const CELLS: usize, const N: usize>(
 {
     let mut savings = Savings::<PAIRS>::new();
     let mut slots = RouteSlots::<CELLS>::new();
-    let mut trial = [0u16; sheet::MOST_ROWS];
-    let mut aside = [0u16; sheet::MOST_ROWS];
     clarke_wright_planning::plan_by(
         sheet,
         depot,
@@ -47,8 +45,6 @@ fn by_tables<const PAIRS: usize, const CELLS: usize, const N: usize>(
         total,
         &mut savings,
         &mut slots,
-        &mut trial,
-        &mut aside,
     )
 }
 

@@ -1,5 +1,5 @@
 -- The join of two slots. Assumes nothing.
-use Rattle.std.specs.Prelude.{Some, None}
+use Rattle.std.specs.Prelude.{Some}
 use mathlib.Core.Path.{◌≡◌, refl, sym, ap, ◌∙◌, subst}
 use Prim.Native.Nat.{ℕ, zero, suc, ◌+◌, ◌*◌, ◌≤◌, ◌<◌, zero-le}
 use native.Mathlib.Omega.{arith}
@@ -101,75 +101,74 @@ module _ {s : List ℕ} {n : ℕ} {cells lens loads slots : List ℕ} (g : Slott
     pub fitting : Fitting cells lens loads into from
     fitting = fit into from into_in from_in
 
-    pub few_stops : length (slot_at cells lens into) + length (slot_at cells lens from) ≤ 101
-    few_stops = rw (slot_route into into_in, slot_route from from_in) (stops_fit into from two.differ)
+    -- what taking over asks of the slots
+    from_row : (m : ℕ) → m < get_or lens from 0 → get_or (slot_at cells lens from) m 0 < 101
+    from_row m h =
+        let l = every_at (λ (i : ℕ). i < rows_of s) 0 (route_at routes from) m (omega (arith, h, g.long from from_in)) (rows_at from from_in) in
+        let q = ap (λ (r : List ℕ). get_or r m 0) (slots_at n cells lens from from_in) in
+        omega (arith, l, q, g.routes.sheet.sized.rows)
 
-    -- the rounds joined
-    module _ (t : Terms) (home : t.depot < rows_of s) (stops : List ℕ) (e : stops ≡ end_to_end back forth (slot_at cells lens into) (slot_at cells lens from)) where
-      joined_stops : stops ≡ end_to_end back forth (route_at routes into) (route_at routes from)
-      joined_stops =
-          e
-          ∙ ap (λ (r : List ℕ). end_to_end back forth r (slot_at cells lens from)) (slot_route into into_in)
-          ∙ ap (λ (r : List ℕ). end_to_end back forth (route_at routes into) r) (slot_route from from_in)
+    load_fits : get_or loads into 0 + get_or loads from 0 < 0x1_0000_0000
+    load_fits = loads_fit into from two.differ into_in from_in
 
-      same_stops : JoinedStops s (λ (i : ℕ). i < rows_of s) (route_at routes into) (route_at routes from) stops
-      same_stops = rw joined_stops (turned_stops s (λ (i : ℕ). i < rows_of s) back forth (route_at routes into) (route_at routes from))
+    -- the stops that are read there
+    module _ {ri rj : List ℕ} (p : ri ≡ slot_at cells lens into) (q : rj ≡ slot_at cells lens from) where
+      into_so : ri ≡ route_at routes into
+      into_so = p ∙ slot_route into into_in
 
-      stops_few : length stops ≤ 101
-      stops_few = omega (arith, ap length e, (turned_stops s (λ (i : ℕ). Unit) back forth (slot_at cells lens into) (slot_at cells lens from)).long, few_stops)
+      from_so : rj ≡ route_at routes from
+      from_so = q ∙ slot_route from from_in
 
-      routed_of : (route : List ℕ) → length route ≤ 101 → Every (λ (i : ℕ). i < rows_of s) route → Routed s t.depot route
-      routed_of route l r = record {
-        sheet = g.routes.sheet;
-        home = home;
-        few = l;
-        row = λ m h. every_at (λ (i : ℕ). i < rows_of s) 0 route m h r;
-      }
+      pub few_stops : length ri + length rj ≤ 101
+      few_stops = rw (into_so, from_so) (stops_fit into from two.differ)
 
-      -- what the checks ask
-      pub all_routed : Routed s t.depot (slot_at cells lens into) × (Routed s t.depot (slot_at cells lens from) × Routed s t.depot stops)
-      all_routed = (
-        routed_of (slot_at cells lens into) (omega (arith, few_stops)) (rw (slot_route into into_in) (rows_at into into_in)),
-        (
-          routed_of (slot_at cells lens from) (omega (arith, few_stops)) (rw (slot_route from from_in) (rows_at from from_in)),
-          routed_of stops stops_few (same_stops.every (rows_at into into_in) (rows_at from from_in)),
-        ),
-      )
+      -- the rounds joined
+      module _ (t : Terms) (home : t.depot < rows_of s) {stops : List ℕ} (e : stops ≡ end_to_end back forth ri rj) where
+        joined_stops : stops ≡ end_to_end back forth (route_at routes into) (route_at routes from)
+        joined_stops = rw (into_so, from_so) at e
 
-      -- what taking over asks
-      from_row : (m : ℕ) → m < get_or lens from 0 → get_or (slot_at cells lens from) m 0 < 101
-      from_row m h =
-          let l = every_at (λ (i : ℕ). i < rows_of s) 0 (route_at routes from) m (omega (arith, h, g.long from from_in)) (rows_at from from_in) in
-          let q = ap (λ (r : List ℕ). get_or r m 0) (slots_at n cells lens from from_in) in
-          omega (arith, l, q, g.routes.sheet.sized.rows)
+        same_stops : JoinedStops s (λ (i : ℕ). i < rows_of s) (route_at routes into) (route_at routes from) stops
+        same_stops = rw joined_stops (turned_stops s (λ (i : ℕ). i < rows_of s) back forth (route_at routes into) (route_at routes from))
 
-      load_fits : get_or loads into 0 + get_or loads from 0 < 0x1_0000_0000
-      load_fits = loads_fit into from two.differ into_in from_in
+        stops_few : length stops ≤ 101
+        stops_few = omega (arith, same_stops.long, stops_fit into from two.differ)
 
-      pub takes_over : Roomy (into + 1) cells lens loads slots × (Roomy (from + 1) cells lens loads slots × ((length stops ≤ 101) × ((get_or lens from 0 ≤ 101) × (((m : ℕ) → m < get_or lens from 0 → get_or (slot_at cells lens from) m 0 < 101) × (get_or loads into 0 + get_or loads from 0 < 0x1_0000_0000)))))
-      takes_over = (roomy_within (omega (arith, into_in)) g.room, (roomy_within (omega (arith, from_in)) g.room, (stops_few, (fitting.from_long, (from_row, load_fits)))))
+        routed_of : (route : List ℕ) → length route ≤ 101 → Every (λ (i : ℕ). i < rows_of s) route → Routed s t.depot route
+        routed_of route l r = record {
+          sheet = g.routes.sheet;
+          home = home;
+          few = l;
+          row = λ m h. every_at (λ (i : ℕ). i < rows_of s) 0 route m h r;
+        }
 
-      -- ---- whether it passes
-      module _ (passed : Bool) (v : passed ≡ joined_passes s t (slot_at cells lens into) (slot_at cells lens from) stops) where
-        passing_so : passing s t routes (meant routes way) ≡ only_if passed (joined into from stops)
-        unfolding merge_passes
-        passing_so =
-            ap (λ (x : Way). passing s t routes (meant routes x)) w
-            ∙ ap (λ (r : List ℕ). passing s t routes (joined into from r)) (sym joined_stops)
-            ∙ ap (λ (x : Bool). only_if x (joined into from stops))
-            (ap (λ (r : List ℕ). joined_passes s t r (route_at routes from) stops) (sym (slot_route into into_in))
-            ∙ ap (λ (r : List ℕ). joined_passes s t (slot_at cells lens into) r stops) (sym (slot_route from from_in))
-            ∙ sym v)
+        -- what the checks ask
+        pub all_routed : Routed s t.depot ri × (Routed s t.depot rj × Routed s t.depot stops)
+        all_routed = (
+          routed_of ri (omega (arith, few_stops)) (rw into_so (rows_at into into_in)),
+          (
+            routed_of rj (omega (arith, few_stops)) (rw from_so (rows_at from from_in)),
+            routed_of stops stops_few (same_stops.every (rows_at into into_in) (rows_at from from_in)),
+          ),
+        )
 
-        pub not_passed : passed ≡ false → routes ≡ after_merge routes (passing s t routes (meant routes way))
-        not_passed u = sym (ap (after_merge routes) (passing_so ∙ ap (λ (x : Bool). only_if x (joined into from stops)) u))
+        -- what taking over asks
+        pub takes_over : Roomy (into + 1) cells lens loads slots × (Roomy (from + 1) cells lens loads slots × ((length stops ≤ 101) × ((get_or lens from 0 ≤ 101) × (((m : ℕ) → m < get_or lens from 0 → get_or (slot_at cells lens from) m 0 < 101) × (get_or loads into 0 + get_or loads from 0 < 0x1_0000_0000)))))
+        takes_over = (roomy_within (omega (arith, into_in)) g.room, (roomy_within (omega (arith, from_in)) g.room, (stops_few, (fitting.from_long, (from_row, load_fits)))))
 
-        pub taken : passed ≡ true → (cells' lens' loads' slots' : List ℕ) → length slots' ≡ length slots → SlotTaken cells lens loads slots into from stops cells' lens' loads' slots'
-            → Slotted s n cells' lens' loads' slots' × (slots_in n cells' lens' ≡ after_merge routes (passing s t routes (meant routes way)))
-        taken u cells' lens' loads' slots' l d =
-            let r = took_over s n cells lens loads slots g into from stops two same_stops cells' lens' loads' slots' l d in
-            (r.0, r.1 ∙ sym (ap (after_merge routes) (passing_so ∙ ap (λ (x : Bool). only_if x (joined into from stops)) u)))
+        -- ---- whether it passes
+        module _ {passed : Bool} (v : passed ≡ joined_passes s t ri rj stops) where
+          abbrev after : List (List ℕ)
+          after = after_merge routes (passing s t routes (meant routes way))
 
--- a way that joins nothing
-pub way_apart : (s : List ℕ) (t : Terms) (routes : List (List ℕ)) (way : Way) → way ≡ None → routes ≡ after_merge routes (passing s t routes (meant routes way))
-way_apart s t routes way e = sym (ap (after_merge routes) (ap (λ (w : Way). passing s t routes (meant routes w)) e ∙ apart_stays s t routes))
+          after_so : {b : Bool} → passed ≡ b → after ≡ after_merge routes (only_if b (joined into from stops))
+          unfolding merge_passes
+          after_so u = rw (w, ← joined_stops, ← into_so, ← from_so, ← v, u)
+
+          pub not_passed : passed ≡ false → routes ≡ after
+          not_passed u = sym (after_so u)
+
+          pub taken : passed ≡ true → {cells' lens' loads' slots' : List ℕ} → length slots' ≡ length slots → SlotTaken cells lens loads slots into from stops cells' lens' loads' slots'
+              → Slotted s n cells' lens' loads' slots' × (slots_in n cells' lens' ≡ after)
+          taken u {cells'} {lens'} {loads'} {slots'} l d =
+              let r = took_over s n cells lens loads slots g into from stops two same_stops cells' lens' loads' slots' l d in
+              (r.0, r.1 ∙ sym (after_so u))

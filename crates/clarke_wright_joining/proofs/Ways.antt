@@ -3,8 +3,7 @@ use Rattle.std.specs.Prelude.{Some, None}
 use mathlib.Core.Path.{◌≡◌, refl, sym, ap, ◌∙◌}
 use Prim.Native.Nat.{ℕ, ◌-◌, ◌<◌}
 use native.Mathlib.Omega.{arith}
-use mathlib.Core.Bool.{Bool, true, false, ◌&&◌, and-false, cond}
-use mathlib.Core.Logic.{◌⊎◌, inl, inr}
+use mathlib.Core.Bool.{Bool, true, false, ◌&&◌, cond}
 use mathlib.Core.List.{List, [], ◌∷◌, ◌++◌, reverse}
 use lib.Dec.{eqb}
 use lib.ListN.{length, get_or, length-append, length-reverse}
@@ -35,11 +34,6 @@ pub last_at : (x : ℕ) (route : List ℕ) → 0 < length route → eqb (get_or 
 last_at x [] h = absurd (omega arith)
 last_at x (row ∷ rows) h = let e : length (row ∷ rows) - 1 ≡ length rows = omega arith in
     ap (λ (n : ℕ). eqb (get_or (row ∷ rows) n 0) x) e ∙ ap (λ (n : ℕ). eqb n x) (last_of_lem row rows)
-
--- ---- one of two tests fails
-pub one_fails : {P Q : Type 0} (a b : Bool) → (P → b ≡ false) → (Q → a ≡ false) → P ⊎ Q → (a && b) ≡ false
-one_fails a b f g (inl p) = rw (f p) (and-false a)
-one_fails a b f g (inr q) = rw (g q)
 
 -- ---- what a way means
 module _ (routes : List (List ℕ)) (a b : ℕ) where

@@ -22,7 +22,7 @@ use Rattle.clarke_wright_joining.specs.Way.{Way}
 use Rattle.clarke_wright_joining.specs.Ways.{meant, way_of, WaySlots}
 use Rattle.clarke_wright_joining.proofs.Ways.{joining_meant, way_slots}
 use Rattle.clarke_wright_joining.proofs.Joining.{only_apart, apart_stays, Fitting, slot_route, loads_fit, fit}
-use Rattle.clarke_wright_merging.specs.Legs.{Legs, merged_in}
+use Rattle.clarke_wright_merging.specs.Legs.{merged_in}
 
 -- ---- the slot of a row
 slot_most : (x : ℕ) (routes : List (List ℕ)) → slot_of x routes ≤ length routes
@@ -109,27 +109,24 @@ module _ {s : List ℕ} {n : ℕ} {cells lens loads slots : List ℕ} (g : Slott
   routes = slots_in n cells lens
 
   -- ---- the slots of two rows
-  module _ (t : Directed) {i j : ℕ} (hi : i < rows_of s) (hj : j < rows_of s) where
+  module _ (t : Directed) {i j : ℕ} (rows : (i < rows_of s) × (j < rows_of s)) where
     abbrev at : ℕ → ℕ
     at x = get_or slots x 0
 
     slot_at : (x : ℕ) → x < rows_of s → at x ≡ slot_of x routes
     slot_at x h = g.slot x (omega (arith, h, g.routes.sheet.sized.rows))
 
-    pub slot_low : (x : ℕ) → x < rows_of s → at x ≤ 101
-    slot_low x h = omega (arith, slot_at x h, slot_most x routes, length_slots n cells lens, g.room.most)
-
     stays : merge_of s t routes i j ≡ apart → routes ≡ after_merge routes (merge_of s t routes i j)
     stays e = sym (ap (after_merge routes) e)
 
     pub same_slot : at i ≡ at j → routes ≡ after_merge routes (merge_of s t routes i j)
-    same_slot e = stays (same_apart s t routes i j (sym (slot_at i hi) ∙ e ∙ slot_at j hj))
+    same_slot e = stays (same_apart s t routes i j (sym (slot_at i rows.0) ∙ e ∙ slot_at j rows.1))
 
     pub none_from : at i ≡ n → routes ≡ after_merge routes (merge_of s t routes i j)
-    none_from e = stays (none_apart s t routes i j (slots_past n cells lens (slot_of i routes) (omega (arith, e, slot_at i hi))))
+    none_from e = stays (none_apart s t routes i j (slots_past n cells lens (slot_of i routes) (omega (arith, e, slot_at i rows.0))))
 
     pub none_to : at j ≡ n → routes ≡ after_merge routes (merge_of s t routes i j)
-    none_to e = stays (onto_none_apart s t routes i j (slots_past n cells lens (slot_of j routes) (omega (arith, e, slot_at j hj))))
+    none_to e = stays (onto_none_apart s t routes i j (slots_past n cells lens (slot_of j routes) (omega (arith, e, slot_at j rows.1))))
 
     -- they are two, and both rows have one
     module _ (differ : at i ≡ at j → ⊥) (p : at i ≡ n → ⊥) (q : at j ≡ n → ⊥) where
@@ -137,24 +134,16 @@ module _ {s : List ℕ} {n : ℕ} {cells lens loads slots : List ℕ} (g : Slott
       slot_in x h p = omega (arith, slot_at x h, slot_most x routes, length_slots n cells lens, p)
 
       below_i : at i < n
-      below_i = slot_in i hi p
+      below_i = slot_in i rows.0 p
 
       below_j : at j < n
-      below_j = slot_in j hj q
+      below_j = slot_in j rows.1 q
 
       pub two_fit : Fitting cells lens loads (at i) (at j)
       two_fit = fit g (at i) (at j) below_i below_j
 
       two_slots : Slots routes (at i) (at j)
       two_slots = record { differ = differ; into = omega (arith, below_i, length_slots n cells lens); from = omega (arith, below_j, length_slots n cells lens) }
-
-      some_at : (x : ℕ) → x < rows_of s → (at x ≡ n → ⊥) → 0 < length (slot_stops cells lens (at x))
-      some_at x h p =
-          let below = slot_in x h p in
-          rw (slot_route g (at x) below, slot_at x h) (slot_some x routes (omega (arith, below, slot_at x h, length_slots n cells lens)))
-
-      pub both_some : (0 < length (slot_stops cells lens (at i))) × (0 < length (slot_stops cells lens (at j)))
-      both_some = (some_at i hi p, some_at j hj q)
 
       load_at : (x : ℕ) → x < rows_of s → (at x ≡ n → ⊥) → get_or loads (at x) 0 ≡ load_of s (route_at routes (slot_of x routes))
       load_at x h p = g.load (at x) (slot_in x h p) ∙ ap (λ (k : ℕ). load_of s (route_at routes k)) (slot_at x h)
@@ -163,77 +152,50 @@ module _ {s : List ℕ} {n : ℕ} {cells lens loads slots : List ℕ} (g : Slott
       load_sum = loads_fit g (at i) (at j) differ below_i below_j
 
       pub too_much : t.common.capacity < get_or loads (at i) 0 + get_or loads (at j) 0 → routes ≡ after_merge routes (merge_of s t routes i j)
-      too_much h = stays (over_apart s t routes i j (omega (arith, h, load_at i hi p, load_at j hj q)))
+      too_much h = stays (over_apart s t routes i j (omega (arith, h, load_at i rows.0 p, load_at j rows.1 q)))
 
-      -- the way that the code finds
-      abbrev way_at : List ℕ → List ℕ → ℕ → ℕ → Way
-      way_at ri rj a b = way_of t.directed (first_is i ri) (last_is i ri) (first_is j rj) (last_is j rj) a b
+      -- the stops that are read there
+      module _ {ri rj : List ℕ} (u : ri ≡ slot_stops cells lens (at i)) (v : rj ≡ slot_stops cells lens (at j)) where
+        from_so : ri ≡ route_at routes (slot_of i routes)
+        from_so = u ∙ slot_route g (at i) below_i ∙ ap (route_at routes) (slot_at i rows.0)
 
-      module _ (way : Way) (e : way ≡ way_at (slot_stops cells lens (at i)) (slot_stops cells lens (at j)) (at i) (at j)) where
-        pub ways : WaySlots routes way
-        ways =
-            rw e
-            (way_slots routes (at i) (at j) t.directed (first_is i (slot_stops cells lens (at i))) (last_is i (slot_stops cells lens (at i))) (first_is j (slot_stops cells lens (at j))) (last_is j (slot_stops cells lens (at j))) two_slots)
+        to_so : rj ≡ route_at routes (slot_of j routes)
+        to_so = v ∙ slot_route g (at j) below_j ∙ ap (route_at routes) (slot_at j rows.1)
 
-        found : way ≡ way_at (route_at routes (slot_of i routes)) (route_at routes (slot_of j routes)) (slot_of i routes) (slot_of j routes)
-        found =
-            e
-            ∙ ap (λ (r : List ℕ). way_at r (slot_stops cells lens (at j)) (at i) (at j)) (slot_route g (at i) below_i)
-            ∙ ap (λ (r : List ℕ). way_at (route_at routes (at i)) r (at i) (at j)) (slot_route g (at j) below_j)
-            ∙ ap (λ (k : ℕ). way_at (route_at routes k) (route_at routes (at j)) k (at j)) (slot_at i hi)
-            ∙ ap (λ (k : ℕ). way_at (route_at routes (slot_of i routes)) (route_at routes k) (slot_of i routes) k) (slot_at j hj)
+        pub both_some : (0 < length ri) × (0 < length rj)
+        both_some = rw (from_so, to_so) (
+          slot_some i routes (omega (arith, below_i, slot_at i rows.0, length_slots n cells lens)),
+          slot_some j routes (omega (arith, below_j, slot_at j rows.1, length_slots n cells lens)),
+        )
 
-        pub merges : get_or loads (at i) 0 + get_or loads (at j) 0 ≤ t.common.capacity → merge_of s t routes i j ≡ passing s t.common routes (meant routes way)
-        merges h =
-            both_join s t routes i j (λ k. differ (slot_at i hi ∙ k ∙ sym (slot_at j hj))) (omega (arith, h, load_at i hi p, load_at j hj q))
-            ∙ ap (λ (w : Way). passing s t.common routes (meant routes w)) (sym found)
+        -- the way that the code finds
+        module _ {way : Way} (e : way ≡ way_of t.directed (first_is i ri) (last_is i ri) (first_is j rj) (last_is j rj) (at i) (at j)) where
+          pub ways : WaySlots routes way
+          ways = rw e (way_slots routes (at i) (at j) t.directed (first_is i ri) (last_is i ri) (first_is j rj) (last_is j rj) two_slots)
+
+          pub merges : get_or loads (at i) 0 + get_or loads (at j) 0 ≤ t.common.capacity → merge_of s t routes i j ≡ passing s t.common routes (meant routes way)
+          merges h =
+              both_join s t routes i j (λ k. differ (slot_at i rows.0 ∙ k ∙ sym (slot_at j rows.1))) (omega (arith, h, load_at i rows.0 p, load_at j rows.1 q))
+              ∙ ap (λ (w : Way). passing s t.common routes (meant routes w)) (sym (rw (from_so, to_so, slot_at i rows.0, slot_at j rows.1) at e))
 
 -- ---- one saving after another
-pub record Merging (s : List ℕ) (t : Directed) (n pairs : ℕ) (from to entries cells₀ lens₀ trial₀ cells lens loads slots trial : List ℕ) (k : ℕ) : Type 0 where
+pub record Merging (s : List ℕ) (t : Directed) (n : ℕ) (from to entries cells₀ lens₀ cells lens loads slots : List ℕ) (k : ℕ) : Type 0 where
   pub slotted : Slotted s n cells lens loads slots
-  pub home : t.common.depot < rows_of s
-  pub legs : Legs s pairs from to entries
-  pub room : 101 ≤ length trial
   pub within : k ≤ length entries
-  pub tried : length trial ≡ length trial₀
   pub same : merged_in s t from to (drop k entries) (slots_in n cells lens) ≡ merged_in s t from to entries (slots_in n cells₀ lens₀)
 
-pub begins : (s : List ℕ) (t : Directed) (n pairs : ℕ) (from to entries cells lens loads slots trial : List ℕ) → Slotted s n cells lens loads slots → t.common.depot < rows_of s → Legs s pairs from to entries → 101 ≤ length trial
-    → Merging s t n pairs from to entries cells lens trial cells lens loads slots trial 0
-begins s t n pairs from to entries cells lens loads slots trial g h l r = record {
-  slotted = g;
-  home = h;
-  legs = l;
-  room = r;
-  within = zero-le;
-  tried = refl;
-  same = refl;
-}
-
-module _ {s : List ℕ} {t : Directed} {n pairs : ℕ} {from to entries cells₀ lens₀ trial₀ cells lens loads slots trial : List ℕ} {k : ℕ}
-    (g : Merging s t n pairs from to entries cells₀ lens₀ trial₀ cells lens loads slots trial k) where
+module _ {s : List ℕ} {t : Directed} {n : ℕ} {from to entries cells₀ lens₀ cells lens loads slots : List ℕ} {k : ℕ} (g : Merging s t n from to entries cells₀ lens₀ cells lens loads slots k) where
   module _ (inside : k < length entries) where
     abbrev e : ℕ
     e = get_or entries k 0
 
-    pub leg_in : e < pairs
-    leg_in = g.legs.inside k inside
-
-    pub leg_rows : (get_or from e 0 < rows_of s) × (get_or to e 0 < rows_of s)
-    leg_rows = (g.legs.from_row k inside, g.legs.to_row k inside)
-
-    pub goes_on : (cells' lens' loads' slots' trial' : List ℕ) → Slotted s n cells' lens' loads' slots'
+    pub goes_on : {cells' lens' loads' slots' : List ℕ} → Slotted s n cells' lens' loads' slots'
         → slots_in n cells' lens' ≡ after_merge (slots_in n cells lens) (merge_of s t (slots_in n cells lens) (get_or from e 0) (get_or to e 0))
-        → length trial' ≡ length trial
-        → Merging s t n pairs from to entries cells₀ lens₀ trial₀ cells' lens' loads' slots' trial' (k + 1)
+        → Merging s t n from to entries cells₀ lens₀ cells' lens' loads' slots' (k + 1)
     unfolding merged_in
-    goes_on cells' lens' loads' slots' trial' m q f = record {
+    goes_on m q = record {
       slotted = m;
-      home = g.home;
-      legs = g.legs;
-      room = omega (arith, f, g.room);
       within = omega (arith, inside);
-      tried = f ∙ g.tried;
       same =
           ap (merged_in s t from to (drop (k + 1) entries)) q
           ∙ ap (λ (es : List ℕ). merged_in s t from to es (slots_in n cells lens)) (sym (drop-cons entries k 0 inside ∙ ap (λ (x : ℕ). e ∷ drop x entries) (sym (add-one k))))

@@ -12,7 +12,8 @@ use clarke_wright_savings::terms::Directed;
 use clarke_wright_slots::RouteSlots;
 use sheet::Sheet;
 
-// What the saving of the leg from a stop to another makes of the rounds.
+// What the saving of the leg from a stop to another makes of the rounds. `trial` is a slice with room for the longest round, as
+// every scratch table here: an array would ask for the very length.
 fn merge<const CELLS: usize>(
     sheet: &Sheet,
     terms: Directed,
@@ -51,16 +52,15 @@ pub fn merge_all<const PAIRS: usize, const CELLS: usize>(
     savings: &Savings<PAIRS>,
     n: usize,
     slots: &mut RouteSlots<CELLS>,
-    trial: &mut [u16],
 )
     requires slotted { Slotted sheet.now count slots.old.cells slots.old.lens slots.old.loads slots.old.slots }
     requires depot_bound { terms.common.depot < rows_of sheet.now }
     requires n_in_bounds { n ≤ PAIRS }
     requires legs { Legs sheet.now PAIRS savings.now.from savings.now.to (take n savings.now.entries) }
-    requires most_rows_in_bounds { most_rows ≤ length trial.old }
     ensures slotted_2 { Slotted sheet.now count slots.new.cells slots.new.lens slots.new.loads slots.new.slots }
     ensures lens_after { slots_in count slots.new.cells slots.new.lens ≡ merged_in sheet.now terms savings.now.from savings.now.to (take n savings.now.entries) (slots_in count slots.old.cells slots.old.lens) }
 {
+    let mut trial = [0u16; sheet::MOST_ROWS];
     for &entry in &savings.entries[..n] {
         let e = entry as usize;
         merge(
@@ -70,7 +70,7 @@ pub fn merge_all<const PAIRS: usize, const CELLS: usize>(
             savings.from[e],
             savings.to[e],
             slots,
-            trial,
+            &mut trial,
         );
     }
 }

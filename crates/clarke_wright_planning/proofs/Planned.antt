@@ -12,7 +12,7 @@ use Rattle.constructive.specs.Members.{part, Members}
 use Rattle.constructive.specs.Stored.{Room, filled_by, Stored}
 use Rattle.clarke_wright_savings.specs.declared.terms.Directed.{Directed}
 use Rattle.clarke_wright_savings.specs.Savings.{directed_of, rounds_of, aside_of, routes_of, planned_by, clarke_wright}
-use Rattle.clarke_wright_slots.specs.Laws.HowMany.{routes_many, aside_few}
+use Rattle.clarke_wright_slots.specs.Laws.HowMany.{routes_many}
 use Rattle.clarke_wright_slots.specs.Slots.{slots_in, routed_stops, Slotted, Laying}
 use Rattle.clarke_wright_slots.specs.Laws.Slots.{route_few}
 use Rattle.clarke_wright_slots.proofs.Rounds.{laid_so}
@@ -45,10 +45,6 @@ module _ {s : List ℕ} {depot : ℕ} {stops ends vehicles : List ℕ} {f : Fill
     ended = omega (arith, many, room.ended);
     driven = omega (arith, many, room.driven);
   }
-
-  -- no more stops are set aside than the table for them has room for
-  pub aside_within : {left room : ℕ} → left ≡ length (aside_of s t.common members) → 101 ≤ room → left ≤ room
-  aside_within e h = omega (arith, aside_few s t.common members, ok.routed.few)
 
   module _ {aside : List ℕ} (left : aside ≡ aside_of s t.common members) where
     pub aside_fits : f.routed + routed_stops (slots_in (total - f.routed) cells lens) + length aside ≤ length stops

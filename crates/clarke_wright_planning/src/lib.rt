@@ -23,14 +23,13 @@ fn merge_members<const PAIRS: usize, const CELLS: usize>(
     members: &[u16],
     savings: &mut Savings<PAIRS>,
     slots: &mut RouteSlots<CELLS>,
-    trial: &mut [u16],
     aside: &mut [u16],
 ) -> usize
     requires routed { Routed sheet.now terms.common.depot members.now }
     requires by_index { (x : ℕ) → count x members.now ≤ 1 }
     requires members_in_bounds { length members.now * length members.now ≤ PAIRS }
     requires roomy { Roomy (length members.now) slots.old.cells slots.old.lens slots.old.loads slots.old.slots }
-    requires most_rows_in_bounds { (most_rows ≤ length trial.old) × (most_rows ≤ length aside.old) }
+    requires most_rows_in_bounds { most_rows ≤ length aside.old }
     ensures value { result ≡ length (aside_of sheet.now terms.common members.now) }
     ensures aside_after { take result aside.new ≡ aside_of sheet.now terms.common members.now }
     ensures slotted { Slotted sheet.now (length members.now) slots.new.cells slots.new.lens slots.new.loads slots.new.slots }
@@ -39,7 +38,7 @@ fn merge_members<const PAIRS: usize, const CELLS: usize>(
     // The stops of the rounds, none of which has started, lend their room to the sort.
     let n = savings.rank(sheet, terms, members, &mut slots.cells);
     let left = slots.start(sheet, terms.common, members, aside);
-    clarke_wright_merging::merge_all(sheet, terms, members.len(), savings, n, slots, trial);
+    clarke_wright_merging::merge_all(sheet, terms, members.len(), savings, n, slots);
     left
 }
 
@@ -53,8 +52,6 @@ pub fn plan_by<const PAIRS: usize, const CELLS: usize, const N: usize>(
     total: usize,
     savings: &mut Savings<PAIRS>,
     slots: &mut RouteSlots<CELLS>,
-    trial: &mut [u16],
-    aside: &mut [u16],
 ) -> Filled
     requires members { Members sheet.now depot tables.old.stops filled.routed total }
     requires room { Room tables.old.ends tables.old.vehicles filled total }
@@ -62,7 +59,6 @@ pub fn plan_by<const PAIRS: usize, const CELLS: usize, const N: usize>(
     requires by_index { (x : ℕ) → count x (part tables.old.stops filled.routed total) ≤ 1 }
     requires members_in_bounds { (total - filled.routed) * (total - filled.routed) ≤ PAIRS }
     requires roomy { Roomy (total - filled.routed) slots.old.cells slots.old.lens slots.old.loads slots.old.slots }
-    requires most_rows_in_bounds { (most_rows ≤ length trial.old) × (most_rows ≤ length aside.old) }
     ensures value { result ≡ filled_by filled (clarke_wright sheet.now depot vehicle (part tables.old.stops filled.routed total)).rounds }
     ensures stored { Stored tables.old.stops tables.old.ends tables.old.vehicles filled (clarke_wright sheet.now depot vehicle (part tables.old.stops filled.routed total)) tables.new.stops tables.new.ends tables.new.vehicles }
 {
@@ -70,6 +66,7 @@ pub fn plan_by<const PAIRS: usize, const CELLS: usize, const N: usize>(
     let stops = &tables.stops[..];
     let members = &stops[start..total];
     let terms = terms::directed_of(sheet, depot, vehicle, members);
-    let left = merge_members(sheet, terms, members, savings, slots, trial, aside);
+    let mut aside = [0u16; sheet::MOST_ROWS];
+    let left = merge_members(sheet, terms, members, savings, slots, &mut aside);
     slots.lay(total - start, &aside[..left], vehicle, tables, filled)
 }

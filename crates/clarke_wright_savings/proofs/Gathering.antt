@@ -1,14 +1,14 @@
 -- Loops that gather savings member by member into the tables. Assumes nothing.
 use mathlib.Core.Path.{◌≡◌, refl, sym, ap, ◌∙◌}
 use Prim.Native.Nat.{ℕ, suc, ◌+◌, ◌*◌, ◌≤◌, ◌<◌, zero-le}
-use native.Mathlib.Numerals.{add-one}
 use native.Mathlib.Nat.{add-zero, suc-mul, mul-le-mul_right}
 use native.Mathlib.Omega.{arith}
 use mathlib.Core.Bool.{Bool, true, false}
 use mathlib.Core.List.{List, [], ◌∷◌, ◌++◌, append_assoc, append-nil}
 use lib.ListN.{length, get_or, take, length-append}
-use lib.Seq.{take-suc, take_all, length-take-le}
+use lib.Seq.{take_all, length-take-le}
 use lib.Ieee.{Float}
+use Rattle.std.proofs.lemmas.List.{take_more}
 use Rattle.sheet.proofs.Cells.{square}
 use Rattle.clarke_wright_savings.specs.declared.terms.Directed.{Directed}
 use Rattle.clarke_wright_savings.specs.Savings.{Saving, saving_of, saves, kept_if, savings_from, savings_of, numbered}
@@ -79,9 +79,6 @@ module _
         let e : take k members ≡ members = take_all k members (omega arith) in
         (g.full ∙ rw e, rw e at g.pushed)
 
-one_more : (members : List ℕ) (k : ℕ) → k < length members → take (k + 1) members ≡ take k members ++ (get_or members k 0 ∷ [])
-one_more members k h = rw add-one (take-suc members k 0 h)
-
 -- ---- of the legs from a member
 from_append : (s : List ℕ) (t : Directed) (i : ℕ) (xs ys : List ℕ) → savings_from s t i (xs ++ ys) ≡ savings_from s t i xs ++ savings_from s t i ys
 unfolding savings_from
@@ -110,7 +107,7 @@ module _
     (h : k < length members)
   where
     grown : savings_from s t i (take (k + 1) members) ≡ savings_from s t i (take k members) ++ savings_from s t i (get_or members k 0 ∷ [])
-    grown = ap (savings_from s t i) (one_more members k h) ∙ from_append s t i (take k members) (get_or members k 0 ∷ [])
+    grown = ap (savings_from s t i) (take_more members k 0 h) ∙ from_append s t i (take k members) (get_or members k 0 ∷ [])
 
     pub from_fits : (most : ℕ) → at + length members ≤ most → end + 1 ≤ most
     from_fits most r = omega (arith, from_few s t i (take k members), length-take-le k members (omega (arith, h)), h, g.full, r)
@@ -154,7 +151,7 @@ module _
     added : savings_of s t members (take (k + 1) members) ≡ savings_of s t members (take k members) ++ savings_from s t (get_or members k 0) members
     unfolding savings_of
     added =
-        ap (savings_of s t members) (one_more members k h)
+        ap (savings_of s t members) (take_more members k 0 h)
         ∙ of_append s t members (take k members) (get_or members k 0 ∷ [])
         ∙ ap (λ (l : List Saving). savings_of s t members (take k members) ++ l) (append-nil (savings_from s t (get_or members k 0) members))
 

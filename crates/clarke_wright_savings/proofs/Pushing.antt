@@ -1,35 +1,27 @@
 -- The tables of savings as they fill. Assumes nothing.
-use mathlib.Core.Path.{◌≡◌, refl, sym, ap, ◌∙◌}
-use Prim.Native.Nat.{ℕ, zero, suc, ◌+◌, ◌≤◌, ◌<◌}
-use native.Mathlib.Numerals.{add-one}
+use mathlib.Core.Path.{◌≡◌, sym, ap, ◌∙◌}
+use Prim.Native.Nat.{ℕ, zero, suc, ◌+◌, ◌<◌}
 use native.Mathlib.Nat.{zero-add, add-zero, suc-add, add_assoc}
 use native.Mathlib.Omega.{arith}
-use mathlib.Core.List.{List, [], ◌∷◌, ◌++◌, map, append_assoc}
+use mathlib.Core.List.{List, [], ◌∷◌, ◌++◌, append_assoc}
 use lib.ListN.{length, take, set, length-append}
-use lib.Seq.{take-suc-set}
 use lib.Ieee.{Float}
+use Rattle.std.proofs.lemmas.List.{take_more_set, map-append}
 use Rattle.clarke_wright_savings.specs.Savings.{Saving, values_of, numbered}
 use Rattle.clarke_wright_savings.specs.Listed.{froms_of, tos_of, SavingsPushed}
 
 -- ---- one saving
-front_set : {A : Type 0} (xs : List A) (i : ℕ) (x : A) → i + 1 ≤ length xs → take (i + 1) (set xs i x) ≡ take i xs ++ (x ∷ [])
-front_set xs i x h = rw add-one (take-suc-set xs i x (omega (arith, h)))
-
 module _ (n : ℕ) (from to : List ℕ) (values : List Float) (entries : List ℕ) (at : ℕ) (h : at < n) where
   pub pushes : length from ≡ n → length to ≡ n → length values ≡ n → length entries ≡ n → (x : Saving) → SavingsPushed from to values entries at (x ∷ []) (set from at x.from) (set to at x.to) (set values at x.value) (set entries at at)
   unfolding numbered
   pushes starts ends saved placed x = record {
-    starts = front_set from at x.from (omega (arith, starts, h));
-    ends = front_set to at x.to (omega (arith, ends, h));
-    saved = front_set values at x.value (omega (arith, saved, h));
-    placed = front_set entries at at (omega (arith, placed, h));
+    starts = take_more_set from at x.from (omega (arith, starts, h));
+    ends = take_more_set to at x.to (omega (arith, ends, h));
+    saved = take_more_set values at x.value (omega (arith, saved, h));
+    placed = take_more_set entries at at (omega (arith, placed, h));
   }
 
 -- ---- savings after savings
-map_append : {A B : Type 0} (f : A → B) (xs ys : List A) → map f (xs ++ ys) ≡ map f xs ++ map f ys
-map_append f [] ys = refl
-map_append f (x ∷ xs) ys = ap (◌∷◌ (f x)) (map_append f xs ys)
-
 numbered_append : (m n k : ℕ) → numbered (m + n) k ≡ numbered m k ++ numbered n (k + m)
 unfolding numbered
 numbered_append zero n k = rw (zero-add n, add-zero k)
@@ -63,8 +55,8 @@ module _
 
     pub pushes_on : SavingsPushed from to values entries at (xs ++ ys) from'' to'' values'' entries''
     pushes_on = record {
-      starts = rw (many, map_append (λ (x : Saving). x.from) xs ys) (fronts from from' from'' (froms_of xs) (froms_of ys) at (length xs) (length ys) g.starts h.starts);
-      ends = rw (many, map_append (λ (x : Saving). x.to) xs ys) (fronts to to' to'' (tos_of xs) (tos_of ys) at (length xs) (length ys) g.ends h.ends);
-      saved = rw (many, map_append (λ (x : Saving). x.value) xs ys) (fronts values values' values'' (values_of xs) (values_of ys) at (length xs) (length ys) g.saved h.saved);
+      starts = rw (many, map-append (λ (x : Saving). x.from) xs ys) (fronts from from' from'' (froms_of xs) (froms_of ys) at (length xs) (length ys) g.starts h.starts);
+      ends = rw (many, map-append (λ (x : Saving). x.to) xs ys) (fronts to to' to'' (tos_of xs) (tos_of ys) at (length xs) (length ys) g.ends h.ends);
+      saved = rw (many, map-append (λ (x : Saving). x.value) xs ys) (fronts values values' values'' (values_of xs) (values_of ys) at (length xs) (length ys) g.saved h.saved);
       placed = rw (many, numbered_append (length xs) (length ys) at) (fronts entries entries' entries'' (numbered (length xs) at) (numbered (length ys) (at + length xs)) at (length xs) (length ys) g.placed h.placed);
     }

@@ -1,12 +1,13 @@
 -- The savings in the tables: what the sort asks of them and leaves. Assumes nothing.
-use mathlib.Core.Path.{◌≡◌, sym, ap, ◌∙◌}
+use mathlib.Core.Path.{◌≡◌, sym, ◌∙◌}
 use Prim.Native.Nat.{ℕ, ◌*◌, ◌≤◌}
 use native.Mathlib.Nat.{zero-add}
 use native.Mathlib.Omega.{arith}
 use mathlib.Core.List.{List, ◌++◌}
-use lib.ListN.{length, take, length-take, length-map}
+use lib.ListN.{length, take, length-map}
 use lib.Seq.{take_at}
 use lib.Ieee.{Float}
+use Rattle.constructive.specs.Laws.TableContents.{long_enough}
 use Rattle.sorting.specs.Stable.{sorted}
 use Rattle.sorting.specs.Descending.{greater, Numbers, Entries}
 use Rattle.clarke_wright_savings.specs.declared.terms.Directed.{Directed}
@@ -14,10 +15,6 @@ use Rattle.clarke_wright_savings.specs.Savings.{Saving, savings_of, values_of, n
 use Rattle.clarke_wright_savings.specs.Laws.Ranked.{savings_numbers, savings_entries, savings_few}
 use Rattle.clarke_wright_savings.specs.Laws.Choice.{numbered_length}
 use Rattle.clarke_wright_savings.specs.Listed.{SavingsPushed, Listed}
-
--- a front that is there whole lies within its table
-pub within : {A : Type 0} (n : ℕ) (xs ys : List A) → take n xs ≡ ys → length ys ≡ n → n ≤ length xs
-within n xs ys e l = omega (arith, ap length e, length-take n xs, l)
 
 -- ---- the sort
 module _
@@ -50,10 +47,10 @@ module _
     places = rw n (rw (zero-add (length savings)) at p.placed)
 
     pub values_hold : count ≤ length values
-    values_hold = within count values (values_of savings) keys (length-map savings (λ (x : Saving). x.value) ∙ sym n)
+    values_hold = long_enough values (values_of savings) count keys (length-map savings (λ (x : Saving). x.value) ∙ sym n)
 
     pub entries_hold : count ≤ length entries
-    entries_hold = within count entries (numbered (length savings) 0) places (numbered_length (length savings) 0 ∙ sym n)
+    entries_hold = long_enough entries (numbered (length savings) 0) count places (numbered_length (length savings) 0 ∙ sym n)
 
     pub numbers : Numbers (take count values)
     numbers = rw keys (savings_numbers s t members members)

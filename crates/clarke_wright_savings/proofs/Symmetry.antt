@@ -1,14 +1,12 @@
 -- One turn of a search for what fails a test, over the rows left: it goes on, finds one, or ends. And the rows behind one. Assumes nothing.
 use mathlib.Core.Path.{◌≡◌, ◌∙◌}
 use Prim.Native.Nat.{ℕ, suc, ◌+◌, ◌-◌, ◌≤◌, ◌<◌}
-use native.Mathlib.Nat.{le_of_eq}
 use native.Mathlib.Numerals.{add-one}
 use native.Mathlib.Omega.{arith}
 use mathlib.Core.Bool.{Bool, true, false, ◌&&◌}
 use mathlib.Core.List.{List, [], ◌∷◌}
-use lib.ListN.{length, take, drop, get_or, length-drop}
-use lib.Seq.{drop-cons, drop-length, take_all, get_or-drop}
-use Rattle.evaluation.specs.Routed.{Routed}
+use lib.ListN.{length, drop, get_or}
+use lib.Seq.{drop-cons, drop-length}
 
 -- what holds at the head of the loop: all is answered by the rows from i on
 pub record Comparing (all : List ℕ → Bool) (answer : Bool) (rows : List ℕ) (i end : ℕ) : Type 0 where
@@ -38,19 +36,3 @@ module _
 
     pub ends : end ≤ i → answer ≡ true
     ends h = let e : i ≡ length rows = omega (arith, g.last, g.within) in g.same ∙ rw (e, drop-length rows) none
-
--- ---- the rows behind one
-pub behind : (rows : List ℕ) (k : ℕ) → take (length rows - k) (drop k rows) ≡ drop k rows
-behind rows k = take_all (length rows - k) (drop k rows) (le_of_eq (length-drop k rows))
-
-pub behind_routed : (s : List ℕ) (depot : ℕ) (rows : List ℕ) → Routed s depot rows → (i : ℕ) → i < length rows
-    → Routed s (get_or rows i 0) (take (length rows - (i + 1)) (drop (i + 1) rows))
-behind_routed s depot rows r i h =
-    let l = length-drop (i + 1) rows in
-    rw (behind rows (i + 1))
-    record {
-      sheet = r.sheet;
-      home = r.row i h;
-      few = omega (arith, l, r.few);
-      row = λ k q. rw (get_or-drop (i + 1) rows k 0) (r.row (i + 1 + k) (omega (arith, l)));
-    }

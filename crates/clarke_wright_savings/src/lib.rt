@@ -16,7 +16,8 @@ use constructive::terms::Terms;
 use sheet::Sheet;
 use terms::Directed;
 
-// The savings: from where, to where, what each saves, and the places in which they are tried.
+// The savings: from where, to where, what each saves, and the places in which they are tried. How many there are is what `rank`
+// answers: a Vec would know it, and takes a heap. The values stand by themselves, as the keys that are sorted by.
 #[derive(Drop)]
 pub struct Savings<const N: usize> {
     pub from: [u16; N],

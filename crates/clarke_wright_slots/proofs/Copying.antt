@@ -1,21 +1,16 @@
 -- A round copied over the front of a table, last stop first, and two rounds end to end. Assumes nothing.
 use mathlib.Core.Path.{◌≡◌, refl, sym, ap, ◌∙◌}
 use Prim.Native.Nat.{ℕ, suc, ◌+◌, ◌-◌, ◌≤◌, ◌<◌}
-use native.Mathlib.Nat.{add-zero}
 use native.Mathlib.Numerals.{add-one}
 use native.Mathlib.Omega.{arith}
 use mathlib.Core.Bool.{Bool, true, false}
-use mathlib.Core.List.{List, [], ◌∷◌, ◌++◌, reverse, reverse_aux, append_assoc, append-nil}
-use lib.ListN.{length, get_or, set, take, drop, length-append, length-drop, length-reverse, take-append-drop, drop_of_length-le}
+use mathlib.Core.List.{List, [], ◌∷◌, ◌++◌, reverse, append_assoc, append-nil}
+use lib.ListN.{length, get_or, set, take, drop, length-append, length-drop, length-reverse, drop_of_length-le}
 use lib.Seq.{length-take-le, take_all, take-suc, take-length, drop-drop, set_at}
+use Rattle.std.proofs.lemmas.List.{reverse-append}
 use Rattle.wire.specs.Bytes.{write}
-use Rattle.wire.specs.Laws.Bytes.{length_write, take_write, write_write}
+use Rattle.wire.specs.Laws.Bytes.{length_write, take_write, write_write, write_none}
 use Rattle.clarke_wright_slots.specs.Slots.{or_reversed, end_to_end}
-
--- to write no number changes nothing
-write_none : (s : List ℕ) (at : ℕ) → s ≡ write s at []
-unfolding write
-write_none s at = sym (ap (λ (n : ℕ). take at s ++ drop n s) (add-zero at) ∙ take-append-drop at s)
 
 -- ---- last stop first
 -- a write that begins one place earlier
@@ -29,10 +24,6 @@ write_before s at x xs room =
     ∙ ap (λ (l : List ℕ). set l at x) (append_assoc (take at s) (get_or s at 0 ∷ []) rest)
     ∙ set_at (take at s) (get_or s at 0) rest x at (length-take-le at s (omega arith))
     ∙ ap (λ (n : ℕ). take at s ++ (x ∷ (xs ++ drop n s))) e
-
-reverse_more : (xs ys : List ℕ) (x : ℕ) → reverse_aux (xs ++ (x ∷ [])) ys ≡ x ∷ reverse_aux xs ys
-reverse_more [] ys x = refl
-reverse_more (z ∷ xs) ys x = reverse_more xs (z ∷ ys) x
 
 pub record CopyingBack (route to₀ : List ℕ) (n : ℕ) (to : List ℕ) (i : ℕ) : Type 0 where
   pub room : length route ≤ length to₀
@@ -63,7 +54,7 @@ module _ (route to₀ : List ℕ) (n : ℕ) (to : List ℕ) (i : ℕ) (g : Copyi
         laid =
             ap (λ (l : List ℕ). set l at x) (g.laid ∙ ap (λ (m : ℕ). write to₀ m (reverse (take i route))) e)
             ∙ write_before to₀ at x (reverse (take i route)) (omega (arith, back_front, g.room, g.last))
-            ∙ ap (write to₀ at) (sym (ap reverse (ap (λ (m : ℕ). take m route) (add-one i) ∙ take-suc route i 0 (omega (arith, g.last))) ∙ reverse_more (take i route) [] x))
+            ∙ ap (write to₀ at) (sym (ap reverse (ap (λ (m : ℕ). take m route) (add-one i) ∙ take-suc route i 0 (omega (arith, g.last))) ∙ reverse-append (take i route) (x ∷ [])))
             ∙ ap (λ (m : ℕ). write to₀ m (reverse (take (i + 1) route))) f;
       }
 

@@ -13,8 +13,7 @@ use borrow.Author.Tests.{le-ltb, ltb-true, ltb-false, eq-eqb, ne_eqb, eqb-true, 
 use Rattle.lists.specs.Count.{one, count}
 use Rattle.lists.specs.Laws.Once.{count_append}
 use Rattle.lists.specs.Every.{Every}
-use Rattle.lists.specs.Laws.Every.{every_at, every_of}
-use Rattle.sheet.specs.Accepted.{Accepted}
+use Rattle.lists.specs.Laws.Every.{every_of}
 use Rattle.sheet.specs.Fields.{rows_of}
 use Rattle.sheet.specs.Values.{demand_of}
 use Rattle.evaluation.specs.Routed.{Routed}
@@ -26,10 +25,6 @@ use Rattle.clarke_wright_savings.specs.Laws.Permutation.{starts_keep}
 use Rattle.clarke_wright_slots.specs.Laws.HowMany.{starts_many, aside_few}
 use Rattle.clarke_wright_slots.specs.Slots.{slot_at, slots_from, slots_in, Roomy, Slotted, RouteStarted}
 use Rattle.clarke_wright_slots.specs.Laws.Slots.{slots_alike, slots_more, route_few}
-
--- ---- a round of one stop
-pub lone_routed : {s : List ℕ} {depot row : ℕ} → Accepted s → depot < rows_of s → row < rows_of s → Routed s depot (row ∷ [])
-lone_routed {s} {depot} {row} a h l = record { sheet = a; home = h; few = omega arith; row = λ k m. every_at (λ (i : ℕ). i < rows_of s) 0 (row ∷ []) k m (l, tt) }
 
 -- ---- the rounds of members of two parts
 module _ (s : List ℕ) (t : Terms) where

@@ -5,7 +5,7 @@ use native.Mathlib.Omega.{arith}
 use mathlib.Core.Bool.{cond}
 use mathlib.Core.List.{List, ◌++◌}
 use lib.Dec.{ltb}
-use lib.ListN.{length, get_or, set, take, drop, length-take}
+use lib.ListN.{length, get_or, set, take, drop}
 use Rattle.lists.specs.Count.{count}
 use Rattle.wire.specs.Laws.Overwrite.{put_part}
 use Rattle.clarke_wright_slots.specs.Slots.{slot_at, SlotTaken}
@@ -16,11 +16,6 @@ slot_to cells lens k = take (k * 101 + get_or lens k 0 - k * 101) (drop (k * 101
 
 to_slot : (cells lens : List ℕ) (k : ℕ) → slot_to cells lens k ≡ slot_at cells lens k
 to_slot cells lens k = ap (λ (n : ℕ). take n (drop (k * 101) cells)) (let e : k * 101 + get_or lens k 0 - k * 101 ≡ get_or lens k 0 = omega arith in e)
-
-pub rows_known : (cells lens slots : List ℕ) (from : ℕ) → 101 ≤ length slots → ((k : ℕ) → k < get_or lens from 0 → get_or (slot_at cells lens from) k 0 < 101)
-    → (k : ℕ) → k < length (slot_to cells lens from) → get_or (slot_to cells lens from) k 0 < length slots
-rows_known cells lens slots from room f k h = rw (to_slot cells lens from)
-    (let l : k < get_or lens from 0 = omega (arith, ap length (to_slot cells lens from), length-take (get_or lens from 0) (drop (from * 101) cells), h) in omega (arith, f k l))
 
 pub taken : (cells lens loads slots : List ℕ) (into from : ℕ) (stops slots' : List ℕ) → into * 101 + length stops ≤ length cells
     → ((x : ℕ) → x < length slots → get_or slots' x 0 ≡ cond (ltb 0 (count x (slot_to cells lens from))) into (get_or slots x 0))

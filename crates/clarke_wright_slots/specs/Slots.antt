@@ -44,6 +44,7 @@ pub record Roomy (n : ℕ) (cells lens loads slots : List ℕ) : Type 0 where
   pub known : most_rows ≤ length slots
 
 -- n slots: how long each is, what it carries, and the slot of each row; n is that of a row which has no round
+-- (a clause, not an invariant: it is a fact of the slots, the sheet and n, and it does not hold while a slot is written)
 pub record Slotted (s : List ℕ) (n : ℕ) (cells lens loads slots : List ℕ) : Type 0 where
   pub room : Roomy n cells lens loads slots
   pub routes : Routes s (slots_in n cells lens)

@@ -12,6 +12,7 @@ ghost use Rattle.clarke_wright_slots.specs.Slots.{slot_at, Roomy, or_reversed, e
 
 // The stops of slot k stand in `cells` from 101 times k on, `lens` says how many they are, `loads` what they ask of a vehicle,
 // and `slots` has the slot of each row. A row with no round has the number of slots there: a u16 for each row is all it takes.
+// That number goes beside them, as the number of members; without a heap there is no Vec of rounds.
 #[derive(Drop)]
 pub struct RouteSlots<const CELLS: usize> {
     pub cells: [u16; CELLS],

@@ -57,8 +57,3 @@ module _ (s stops ends vehicles : List ℕ) (n total : ℕ) (ok : Tables s stops
 
   pub rounds_of_lem : RoundsOf s (rounds_in stops ends vehicles n 0 0)
   rounds_of_lem = rounds_from_lem n 0 0 refl (omega arith)
-
--- where the round after the first n starts, as the code reads it
-pub start_after_lem : (ends : List ℕ) (n : ℕ) → (n ≡ 0 → ⊥) → get_or ends (n - 1) 0 ≡ start_in ends n
-start_after_lem ends zero h = absurd (h refl)
-start_after_lem ends (suc n) h = let e : suc n - 1 ≡ n = omega arith in rw e

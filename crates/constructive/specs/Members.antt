@@ -10,13 +10,14 @@ abbrev pub part : List ℕ → ℕ → ℕ → List ℕ
 part table start end = take (end - start) (drop start table)
 
 -- members of a depot on an accepted sheet: they stand in the table of stops, from `start` to `total`
+-- (a clause, as `Room`: a Vec would know how far it is filled, and there is no heap)
 pub record Members (s : List ℕ) (depot : ℕ) (stops : List ℕ) (start total : ℕ) : Type 0 where
   pub routed : Routed s depot (part stops start total)
   pub from : start ≤ total
   pub most : total ≤ most_rows
   pub within : total ≤ length stops
 
--- vehicles of the sheet, by their index
+-- vehicles of the sheet, by their index (a clause, as the bound of one: see `Sheet`)
 abbrev pub Fleet : List ℕ → List ℕ → Type 0
 Fleet s fleet = (k : ℕ) → k < length fleet → get_or fleet k 0 < vehicles_of s
 

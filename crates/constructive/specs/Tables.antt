@@ -6,7 +6,8 @@ use Rattle.sheet.specs.Values.{vehicle_of}
 use Rattle.evaluation.specs.Routed.{Routed}
 use Rattle.constructive.specs.Outcome.{start_in, Round}
 
--- n rounds, `total` stops with those set aside
+-- n rounds, `total` stops with those set aside (a clause, not an invariant: of the sheet, the tables and two numbers that move while
+-- rounds are laid down)
 pub record Tables (s stops ends vehicles : List ℕ) (n total : ℕ) : Type 0 where
   pub sheet : Accepted s
   pub few : n ≤ rows_of s

@@ -4,7 +4,9 @@ ghost use Rattle.sheet.specs.Fields.{most_rows};
 ghost use Rattle.wire.specs.Bytes.{write};
 ghost use Rattle.constructive.specs.Outcome.{start_in};
 
-// How far the tables are filled: so many rounds, with so many stops in all.
+// How far the tables are filled: so many rounds, with so many stops in all. It goes beside them, since a Vec, which would know how
+// long it is, takes a heap; and it is what each constructor answers. That there are no more rounds than stops is a clause of who
+// adds rounds (`Room`): as an invariant it would have `close_round` ask for a stop in each round, which it does not.
 #[derive(Clone, Copy)]
 pub struct Filled {
     pub rounds: usize,

@@ -2,7 +2,6 @@
 use Rattle.std.specs.Prelude.{Option, Some, None}
 use mathlib.Core.Path.{◌≡◌, refl, sym, ap, ◌∙◌}
 use Prim.Native.Nat.{ℕ, ◌+◌, ◌≤◌, ◌<◌}
-use native.Mathlib.Nat.{add-zero}
 use native.Mathlib.Omega.{arith}
 use mathlib.Core.Bool.{Bool, true, false, cond}
 use mathlib.Core.List.{List}
@@ -68,15 +67,6 @@ pub record Walking (s rows : List ℕ) (l₀ : Label) (d₀ : Float) (p₀ : ℕ
   pub from : prev < rows_of s
   pub unrested : l.rest ≡ None
   pub same : (place : ℕ) → walked_over s (plain_at (Some l₀) d₀ p₀ place) rows ≡ walked_over s (plain_at (Some l) distance prev (place + i)) (drop i rows)
-
-pub walking : (s rows : List ℕ) (l : Label) (distance : Float) (prev : ℕ) → Routed s prev rows → l.rest ≡ None → Walking s rows l distance prev l distance prev 0
-walking s rows l distance prev ok e = record {
-  routed = ok;
-  within = omega arith;
-  from = ok.home;
-  unrested = e;
-  same = λ place. ap (λ (k : ℕ). walked_over s (plain_at (Some l) distance prev k) rows) (sym (add-zero place));
-}
 
 module _ (s rows : List ℕ) (l₀ : Label) (d₀ : Float) (p₀ : ℕ) (l : Label) (distance : Float) (prev i : ℕ) (g : Walking s rows l₀ d₀ p₀ l distance prev i) where
   abbrev row : ℕ

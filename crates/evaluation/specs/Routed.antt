@@ -4,6 +4,7 @@ use Rattle.sheet.specs.Fields.{rows_of, most_rows}
 use Rattle.sheet.specs.Accepted.{Accepted}
 
 -- a round of rows of an accepted sheet, from a row as its depot; the rows of a depot's members are one too
+-- (a clause, not a type: the rows are a slice of a table that the next trial writes over, and a type would be made anew for each)
 pub record Routed (s : List ℕ) (depot : ℕ) (route : List ℕ) : Type 0 where
   pub sheet : Accepted s
   pub home : depot < rows_of s

@@ -35,6 +35,7 @@ fn any_windowed(sheet: &Sheet, depot: usize, members: &[u16], soft: bool) -> boo
     false
 }
 
+// Two names of the Rust over one function: a call says what it asks.
 pub fn has_time_windows(sheet: &Sheet, depot: usize, members: &[u16]) -> bool
     requires { Routed sheet.now depot members.now }
     ensures { result ≡ has_time_windows sheet.now depot members.now }

@@ -1,4 +1,5 @@
-// What a round is worth: its times, its lateness and its rest, and whether its vehicle allows it.
+// What a round is worth: its times, its lateness and its rest, and whether its vehicle allows it. Sheet, round, depot and limits
+// are apart, as in the Rust and in the definitions: each caller has them of another place.
 #![tactic(auto)]
 
 pub mod checks;

@@ -12,7 +12,7 @@ pub trait Walker: Copy {
     // how many stops of a round are behind it
     ghost reach: { Self → ℕ };
 
-    // what it knows of them, on a sheet, for a depot and limits
+    // what it knows of them, on a sheet, for a depot and limits: a fact of all four, so each function has it as a clause
     ghost knows: { List ℕ → ℕ → Limits → List ℕ → Self → Type 0 };
 
     // Before the first stop.

@@ -154,7 +154,7 @@ pub fn serve_rested(
     visit(rested(label, place, start), start + rest.duration, stop)
 }
 
-// The same two from a label that may be gone.
+// The same two, likewise apart, from a label that may be gone.
 pub fn step(from: Option<Label>, travel: f64, stop: Stop) -> Option<Label>
     ensures { result ≡ step_of from travel stop }
 {

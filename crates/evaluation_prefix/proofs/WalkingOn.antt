@@ -6,35 +6,17 @@ use Prim.Native.Nat.{ℕ, ◌+◌, ◌-◌, ◌≤◌, ◌<◌}
 use native.Mathlib.Omega.{arith}
 use mathlib.Core.List.{List, ◌++◌, foldl-append}
 use lib.ListN.{length, take, drop, length-drop, take-append-drop}
-use lib.Seq.{get_or-take, get_or-drop, length-take-le, take-add, take_all}
+use lib.Seq.{length-take-le, take-add, take_all}
 use Rattle.sheet.specs.Fields.{rows_of}
 use Rattle.evaluation.specs.Laws.Walk.{dead_over, dead_home}
 use Rattle.sheet.specs.declared.vehicle.VehicleBreak.{VehicleBreak}
 use Rattle.evaluation.specs.declared.limits.RouteLimits.{RouteLimits}
 use Rattle.evaluation.specs.declared.schedule.Underway.{Underway}
 use Rattle.evaluation_prefix.specs.declared.Prefix.{Prefix}
-use Rattle.evaluation.specs.Routed.{Routed}
 use Rattle.evaluation.specs.Underway.{position_of, WalksTo}
 use Rattle.evaluation.specs.Walk.{Position, start_at, drive_to, walked_over, home_from, scheduled_of}
 use Rattle.evaluation_prefix.specs.Prefix.{WalkedBefore}
 use Rattle.evaluation_clock.specs.declared.clock.Schedule.{Schedule}
-
--- a part of a round is one from wherever the vehicle is
-pub part_routed : (s : List ℕ) (depot prev : ℕ) (round : List ℕ) (i n : ℕ) → Routed s depot round → prev < rows_of s → i + n ≤ length round → Routed s prev (take n (drop i round))
-part_routed s depot prev round i n ok h fits =
-    let e : length (take n (drop i round)) ≡ n = length-take-le n (drop i round) (rw length-drop (omega arith)) in
-    record {
-      sheet = ok.sheet;
-      home = h;
-      few = omega (arith, e, ok.few);
-      row = λ k l. let m : k < n = subst (λ (m : ℕ). k < m) e l in rw (get_or-take, get_or-drop) (ok.row (i + k) (omega arith));
-    }
-
--- also where none may be there
-pub left_routed : (s : List ℕ) (depot : ℕ) (round : List ℕ) (i : ℕ) (walk : Option Underway) → Routed s depot round → IfSome walk (λ w. w.prev < rows_of s) → i ≤ length round
-    → IfSome walk (λ w. Routed s w.prev (take (length round - i) (drop i round)))
-left_routed s depot round i None ok h fits = h
-left_routed s depot round i (Some w) ok h fits = part_routed s depot w.prev round i (length round - i) ok h (omega arith)
 
 -- nowhere, and so not home
 pub gone : (s : List ℕ) (depot : ℕ) (rows : List ℕ) (walk : Option Underway) → walk ≡ None → (place : ℕ) (p : Position) → WalksTo walk place p → None ≡ home_from s depot (walked_over s p rows)

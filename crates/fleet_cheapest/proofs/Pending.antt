@@ -1,6 +1,5 @@
 -- The loop over the stops pending: the pick so far, with the stops left, is that of all. Assumes nothing.
-use Rattle.std.specs.Prelude.{None}
-use mathlib.Core.Path.{◌≡◌, refl, ◌∙◌}
+use mathlib.Core.Path.{◌≡◌}
 use Prim.Native.Nat.{ℕ, ◌+◌, ◌≤◌, ◌<◌}
 use native.Mathlib.Numerals.{add-one}
 use native.Mathlib.Omega.{arith}
@@ -13,25 +12,20 @@ use Rattle.fleet.specs.Pick.{Pick}
 use Rattle.fleet.specs.Cheapest.{cheapest_insertion, pick_with, pick_from, pick_of}
 
 -- what holds after j of the stops pending
-pub record Picking (s : List ℕ) (soft : Bool) (rounds : List Round) (pending trial₀ trial : List ℕ) (best : Pick) (j end : ℕ) : Type 0 where
+pub record Picking (s : List ℕ) (soft : Bool) (rounds : List Round) (pending : List ℕ) (best : Pick) (j end : ℕ) : Type 0 where
   pub last : end ≡ length pending
   pub within : j ≤ end
-  pub long : length trial ≡ length trial₀
   pub same : pick_from s soft rounds best j (drop j pending) ≡ pick_of s soft rounds pending
 
-module _ (s : List ℕ) (soft : Bool) (rounds : List Round) (pending trial₀ : List ℕ) where
-  pub begins : Picking s soft rounds pending trial₀ trial₀ None 0 (length pending)
-  begins = record { last = refl; within = omega arith; long = refl; same = refl }
-
-  module _ (trial : List ℕ) (best : Pick) (j end : ℕ) (g : Picking s soft rounds pending trial₀ trial best j end) where
-    pub goes_on : (after : List ℕ) (next : Pick) → j < end → length after ≡ length trial → next ≡ pick_with best j (cheapest_insertion s soft rounds (get_or pending j 0)) → Picking s soft rounds pending trial₀ after next (j + 1) end
+module _ {s : List ℕ} {soft : Bool} {rounds : List Round} {pending : List ℕ} where
+  module _ {best : Pick} {j end : ℕ} (g : Picking s soft rounds pending best j end) where
+    pub goes_on : (next : Pick) → j < end → next ≡ pick_with best j (cheapest_insertion s soft rounds (get_or pending j 0)) → Picking s soft rounds pending next (j + 1) end
     unfolding pick_from
-    goes_on after next h l e =
+    goes_on next h e =
         let k : j < length pending = omega (arith, g.last) in
         record {
           last = g.last;
           within = omega arith;
-          long = l ∙ g.long;
           same = rw e (rw (drop-cons pending j 0 k, ← add-one j) at g.same);
         }
 

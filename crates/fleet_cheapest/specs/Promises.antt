@@ -1,5 +1,5 @@
 -- What the code that judges insertions is told of a sheet's windows, and the terms by which it judges the rounds of a vehicle.
-use Rattle.std.specs.Prelude.{◌≡◌, ℕ, ◌<◌, false, not, ◌||◌, List, length}
+use Rattle.std.specs.Prelude.{◌≡◌, ℕ, ◌<◌, false, not, ◌||◌, List}
 use Rattle.std.specs.Float.{inf}
 use Rattle.sheet.specs.Fields.{rows_of, most_rows}
 use Rattle.sheet.specs.Accepted.{Accepted}
@@ -13,6 +13,7 @@ use Rattle.insertion.specs.Place.{detour, wins}
 use Rattle.fleet_cheapest.specs.declared.Windows.{Windows}
 
 -- no window means no soft one, and that no row has any
+-- (a clause: of sheet and windows, which do not hold the sheet)
 pub record WindowsOf (s : List ℕ) (w : Windows) : Type 0 where
   pub sheet : Accepted s
   pub hard : w.any ≡ false → w.soft ≡ false
@@ -34,9 +35,8 @@ terms_at s w v = record {
 abbrev pub Unwon : List ℕ → List ℕ → ℕ → Choice → ℕ → Type 0
 Unwon s route row c n = (k : ℕ) → k < n → wins (detour s 0 route row k) c ≡ false
 
--- tables of n rounds, and room to try the longest with a stop more
-pub record RoomToTry (s stops ends vehicles : List ℕ) (n : ℕ) (trial : List ℕ) : Type 0 where
+-- tables of n rounds, none of them so long that a stop more is too many
+pub record RoomToTry (s stops ends vehicles : List ℕ) (n : ℕ) : Type 0 where
   pub total : ℕ
   pub tables : Tables s stops ends vehicles n total
   pub few : total < most_rows
-  pub wide : total < length trial

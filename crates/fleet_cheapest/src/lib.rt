@@ -1,7 +1,7 @@
 // The cheapest insertion of the stops pending, over every round and place.
 #![tactic(auto)]
 
-ghost use Rattle.std.specs.Prelude.{◌≡◌, false, ◌+◌, ◌<◌, length};
+ghost use Rattle.std.specs.Prelude.{◌≡◌, false, ◌+◌, ◌≤◌, ◌<◌, length};
 ghost use Rattle.sheet.specs.Fields.{rows_of, vehicles_of, most_rows};
 ghost use Rattle.evaluation.specs.Routed.{Routed};
 ghost use Rattle.constructive.specs.Outcome.{rounds_in};
@@ -143,8 +143,9 @@ fn cheapest_insertion<const N: usize>(
     trial: &mut [u16],
 ) -> Choice
     requires windows_of { WindowsOf sheet.now windows }
-    requires room { RoomToTry sheet.now tables.now.stops tables.now.ends tables.now.vehicles n trial.old }
+    requires room { RoomToTry sheet.now tables.now.stops tables.now.ends tables.now.vehicles n }
     requires row_bound { row < rows_of sheet.now }
+    requires most_rows_in_bounds { most_rows ≤ length trial.old }
     ensures { result ≡ cheapest_insertion sheet.now windows.soft (rounds_in tables.now.stops tables.now.ends tables.now.vehicles n 0 0) row }
 {
     let stops = &tables.stops[..];
@@ -177,16 +178,16 @@ pub fn cheapest<const N: usize>(
     tables: &RouteTables<N>,
     n: usize,
     pending: &[u16],
-    trial: &mut [u16],
 ) -> Pick
     requires windows_of { WindowsOf sheet.now windows }
-    requires room { RoomToTry sheet.now tables.now.stops tables.now.ends tables.now.vehicles n trial.old }
+    requires room { RoomToTry sheet.now tables.now.stops tables.now.ends tables.now.vehicles n }
     requires routed { Routed sheet.now 0 pending.now }
     ensures { result ≡ pick_of sheet.now windows.soft (rounds_in tables.now.stops tables.now.ends tables.now.vehicles n 0 0) pending.now }
 {
+    let mut trial = [0u16; sheet::MOST_ROWS];
     let mut best = None;
     for (j, &row) in pending.iter().enumerate() {
-        let choice = cheapest_insertion(sheet, windows, tables, n, row, trial);
+        let choice = cheapest_insertion(sheet, windows, tables, n, row, &mut trial);
         best = fleet::pick_with(best, j, choice);
     }
     best

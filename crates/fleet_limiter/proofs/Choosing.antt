@@ -1,13 +1,9 @@
 -- The rounds of the tables, apart from the stops behind them. Assumes nothing.
 use mathlib.Core.Path.{◌≡◌, sym, ◌∙◌}
-use Prim.Native.Nat.{ℕ, ◌+◌, ◌-◌, ◌≤◌, ◌<◌}
+use Prim.Native.Nat.{ℕ, ◌≤◌}
 use native.Mathlib.Omega.{arith}
 use mathlib.Core.Bool.{Bool}
 use mathlib.Core.List.{List, [], append-nil}
-use lib.ListN.{drop, length-drop}
-use lib.Seq.{length-take-le, get_or-take, get_or-drop}
-use Rattle.sheet.specs.Fields.{rows_of}
-use Rattle.evaluation.specs.Routed.{Routed}
 use Rattle.constructive.specs.Outcome.{Outcome, rounds_in, start_in, outcome_in, chains}
 use Rattle.constructive.specs.Members.{part}
 use Rattle.constructive.specs.Tables.{Tables}
@@ -17,27 +13,14 @@ use Rattle.fleet_tables.specs.Promises.{TablesOf}
 use Rattle.fleet_tables.specs.Laws.Standing.{tables_tabled, tables_sound, sound_tables, alone_sound}
 use Rattle.fleet_tables.specs.Laws.Places.{tabled}
 
-module _ (s stops ends vehicles : List ℕ) (n total : ℕ) (ok : Tables s stops ends vehicles n total) where
+module _ {s stops ends vehicles : List ℕ} {n total : ℕ} (ok : Tables s stops ends vehicles n total) where
   abbrev pub whole : Outcome
   whole = outcome_in stops ends vehicles n total
 
   pub held : TablesOf stops ends vehicles n total whole
   held = tables_tabled s stops ends vehicles n total ok
 
-  -- stops of the tables, to walk
-  pub walked : (from : ℕ) → 0 < rows_of s → Routed s 0 (part stops from total)
-  walked from some =
-      let l = length-take-le (total - from) (drop from stops) (omega (arith, length-drop from stops, ok.all)) in
-      record {
-        sheet = ok.sheet;
-        home = some;
-        few = omega (arith, l, ok.most);
-        row = λ k h.
-            let q = get_or-take (total - from) (drop from stops) k 0 (omega (arith, l)) ∙ get_or-drop from stops k 0 in
-            omega (arith, q, ok.row (from + k) (omega (arith, l)));
-      }
-
-  module _ (routed : ℕ) (e : routed ≡ start_in ends n) where
+  module _ {routed : ℕ} (e : routed ≡ start_in ends n) where
     pub routed_within : routed ≤ total
     routed_within = omega (arith, held.from)
 
@@ -51,6 +34,6 @@ module _ (s stops ends vehicles : List ℕ) (n total : ℕ) (ok : Tables s stops
     alone_tables =
         sound_tables s stops ends vehicles n routed (record { rounds = whole.rounds; aside = [] }) alone (alone_sound s whole (tables_sound s stops ends vehicles n total ok)) ok.sheet ok.few (omega (arith, routed_within, ok.most))
 
-    pub picked : (soft : Bool) (p : Pick) → p ≡ pick_of s soft (rounds_in stops ends vehicles n 0 0) (part stops routed total) → p ≡ pick_of s soft whole.rounds whole.aside
+    pub picked : (soft : Bool) {p : Pick} → p ≡ pick_of s soft (rounds_in stops ends vehicles n 0 0) (part stops routed total) → p ≡ pick_of s soft whole.rounds whole.aside
     unfolding outcome_in
-    picked soft p q = rw e at q
+    picked soft q = rw e at q

@@ -15,12 +15,12 @@ use Rattle.fleet_tables.specs.Laws.Standing.{tables_sound, sound_tables, out_sou
 use Rattle.fleet_limiter.specs.Promises.{TablesHold, pending_first, refit_outcome}
 use Rattle.fleet_limiter.proofs.Choosing.{whole, held}
 
-module _ (s stops ends vehicles : List ℕ) (n total : ℕ) (ok : Tables s stops ends vehicles n total) (some : 0 < n) (v : ℕ) (told : (vs : List ℕ) → v ≡ (victim_of s (rounds_in stops ends vs n 0 0)).round) where
+module _ {s stops ends vehicles : List ℕ} {n total : ℕ} (ok : Tables s stops ends vehicles n total) (some : 0 < n) {v : ℕ} (told : (vs : List ℕ) → v ≡ (victim_of s (rounds_in stops ends vs n 0 0)).round) where
   abbrev o : Outcome
-  o = whole s stops ends vehicles n total ok
+  o = whole ok
 
   tabled : TablesOf stops ends vehicles n total o
-  tabled = held s stops ends vehicles n total ok
+  tabled = held ok
 
   least : v ≡ (victim_of s o.rounds).round
   unfolding outcome_in
@@ -32,7 +32,7 @@ module _ (s stops ends vehicles : List ℕ) (n total : ℕ) (ok : Tables s stops
   pub leaves : Leaves stops ends vehicles n v
   leaves = record { total = total; outcome = o; held = tabled; few = ok.most; round = omega (arith, least, among.round, tabled.holds.count) }
 
-  module _ (full : start_in ends n ≡ total) (stops' ends' vehicles' : List ℕ) (out : (t : ℕ) (q : Outcome) → TablesOf stops ends vehicles n t q → TablesOf stops' ends' vehicles' (n - 1) t (taken_out v q)) where
+  module _ (full : start_in ends n ≡ total) {stops' ends' vehicles' : List ℕ} (out : (t : ℕ) (q : Outcome) → TablesOf stops ends vehicles n t q → TablesOf stops' ends' vehicles' (n - 1) t (taken_out v q)) where
     after : TablesOf stops' ends' vehicles' (n - 1) total (taken_out v o)
     after = out total o tabled
 
@@ -51,8 +51,8 @@ module _ (s stops ends vehicles : List ℕ) (n total : ℕ) (ok : Tables s stops
     left_so : pending_first (taken_out v o) ≡ dropped s o.rounds
     left_so = rw (none_aside, append-nil, least) (ap (λ (l : List ℕ). record { rounds = without_round (victim_of s o.rounds).round o.rounds; pending = l }) (sym among.stops))
 
-    pub drops : (soft : Bool) (stops'' ends'' vehicles'' : List ℕ) → TablesHold s stops'' ends'' vehicles'' (n - 1) total (refit_outcome s soft (pending_first (outcome_in stops' ends' vehicles' (n - 1) total))) → TablesHold s stops'' ends'' vehicles'' (n - 1) total (refit_outcome s soft (dropped s o.rounds))
-    drops soft stops'' ends'' vehicles'' g = record { tables = g.tables; outcome = g.outcome ∙ ap (λ (x : Refit). refit_outcome s soft x) (ap pending_first after_outcome ∙ left_so) }
+    pub drops : (soft : Bool) {stops'' ends'' vehicles'' : List ℕ} → TablesHold s stops'' ends'' vehicles'' (n - 1) total (refit_outcome s soft (pending_first (outcome_in stops' ends' vehicles' (n - 1) total))) → TablesHold s stops'' ends'' vehicles'' (n - 1) total (refit_outcome s soft (dropped s o.rounds))
+    drops soft g = record { tables = g.tables; outcome = g.outcome ∙ ap (λ (x : Refit). refit_outcome s soft x) (ap pending_first after_outcome ∙ left_so) }
 
     -- what stands behind them stays
     pub stays : (stops'' : List ℕ) → drop (start_in ends n) stops' ≡ drop (start_in ends n) stops → drop total stops'' ≡ drop total stops' → drop total stops'' ≡ drop total stops

@@ -29,32 +29,31 @@ limit_rests s soft greatest zero o h = refl
 limit_rests s soft greatest (suc m) o h = rw (le-ltb greatest (length o.rounds) h)
 
 -- ---- the loop
-pub record DroppingRounds (s : List ℕ) (soft : Bool) (greatest : ℕ) (stops₀ ends₀ vehicles₀ trial₀ : List ℕ) (rounds total : ℕ) (stops ends vehicles trial : List ℕ) (n : ℕ) : Type 0 where
+pub record DroppingRounds (s : List ℕ) (soft : Bool) (greatest : ℕ) (stops₀ ends₀ vehicles₀ : List ℕ) (rounds total : ℕ) (stops ends vehicles : List ℕ) (n : ℕ) : Type 0 where
   pub tables : Tables s stops ends vehicles n total
-  pub tried : length trial ≡ length trial₀
   pub same : limit_on s soft greatest n (outcome_in stops ends vehicles n total) ≡ limit_on s soft greatest rounds (outcome_in stops₀ ends₀ vehicles₀ rounds total)
 
-module _ (s : List ℕ) (soft : Bool) (greatest : ℕ) (stops₀ ends₀ vehicles₀ trial₀ : List ℕ) (rounds total : ℕ) (stops ends vehicles trial : List ℕ) (n : ℕ)
-    (g : DroppingRounds s soft greatest stops₀ ends₀ vehicles₀ trial₀ rounds total stops ends vehicles trial n) where
+module _ {s : List ℕ} {soft : Bool} {greatest : ℕ} {stops₀ ends₀ vehicles₀ : List ℕ} {rounds total : ℕ} {stops ends vehicles : List ℕ} {n : ℕ}
+    (g : DroppingRounds s soft greatest stops₀ ends₀ vehicles₀ rounds total stops ends vehicles n) where
   abbrev o : Outcome
-  o = whole s stops ends vehicles n total g.tables
+  o = whole g.tables
 
   tabled : TablesOf stops ends vehicles n total o
-  tabled = held s stops ends vehicles n total g.tables
+  tabled = held g.tables
 
   pub ends_so : n ≤ greatest → TablesHold s stops ends vehicles n total (limit_on s soft greatest rounds (outcome_in stops₀ ends₀ vehicles₀ rounds total))
   ends_so h = record { tables = g.tables; outcome = sym (limit_rests s soft greatest n o (omega (arith, tabled.holds.count))) ∙ g.same }
 
-  module _ (h : greatest < n) (routed : ℕ) (e : routed ≡ start_in ends n) where
+  module _ (h : greatest < n) {routed : ℕ} (e : routed ≡ start_in ends n) where
     -- ---- what the call asks
     pub few : routed ≤ total
-    few = routed_within s stops ends vehicles n total g.tables routed e
+    few = routed_within g.tables e
 
     pub alone : Tables s stops ends vehicles n routed
-    alone = alone_tables s stops ends vehicles n total g.tables routed e
+    alone = alone_tables g.tables e
 
     -- ---- what it leaves
-    module _ (stops' ends' vehicles' : List ℕ) (behind : drop routed stops' ≡ drop routed stops)
+    module _ {stops' ends' vehicles' : List ℕ} (behind : drop routed stops' ≡ drop routed stops)
         (d : TablesHold s stops' ends' vehicles' (n - 1) routed (refit_outcome s soft (dropped s (outcome_in stops ends vehicles n routed).rounds))) where
       abbrev x : Refit
       x = refit_on s soft (length (dropped s o.rounds).pending) (dropped s o.rounds)
@@ -107,12 +106,11 @@ module _ (s : List ℕ) (soft : Bool) (greatest : ℕ) (stops₀ ends₀ vehicle
       after_outcome : outcome_in stops' ends' vehicles' (n - 1) total ≡ drop_round s soft o
       after_outcome = held_outcome stops' ends' vehicles' (record { rounds = n - 1; routed = start_in ends' (n - 1) }) total (drop_round s soft o) after
 
-      pub goes_on : (trial' : List ℕ) → length trial' ≡ length trial → DroppingRounds s soft greatest stops₀ ends₀ vehicles₀ trial₀ rounds total stops' ends' vehicles' trial' (n - 1)
-      goes_on trial' tried =
+      pub goes_on : DroppingRounds s soft greatest stops₀ ends₀ vehicles₀ rounds total stops' ends' vehicles' (n - 1)
+      goes_on =
           let m : suc (n - 1) ≡ n = omega arith in
           record {
             tables = sound_tables s stops' ends' vehicles' (n - 1) total (drop_round s soft o) after sound g.tables.sheet (omega (arith, g.tables.few)) g.tables.most;
-            tried = tried ∙ g.tried;
             same =
                 ap (limit_on s soft greatest (n - 1)) after_outcome
                 ∙ sym (limit_drops s soft greatest (n - 1) o (omega (arith, tabled.holds.count)))

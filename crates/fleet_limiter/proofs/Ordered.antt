@@ -9,7 +9,6 @@ use lib.Seq.{length-take-le}
 use Rattle.lists.specs.Laws.Permutation.{same_length}
 use Rattle.wire.specs.Bytes.{write}
 use Rattle.wire.specs.Laws.Bytes.{length_write, take_write}
-use Rattle.sheet.specs.Fields.{rows_of}
 use Rattle.constructive.specs.Outcome.{Outcome, start_in, outcome_in, chains, stops_of}
 use Rattle.constructive.specs.Laws.Stored.{length_rounds, length_chains}
 use Rattle.constructive.specs.Stored.{routed_in}
@@ -26,7 +25,7 @@ use Rattle.fleet_tables.specs.Laws.Standing.{tables_tabled}
 use Rattle.fleet_limiter.specs.Limitable.{Limitable}
 use Rattle.fleet_limiter.specs.Promises.{TablesHold}
 
-module _ (s stops₀ ends₀ vehicles₀ marks₀ trial₀ : List ℕ) (rounds total : ℕ) (l : Limitable s stops₀ ends₀ vehicles₀ marks₀ trial₀ rounds total) (greatest : ℕ) where
+module _ {s stops₀ ends₀ vehicles₀ : List ℕ} {rounds total : ℕ} (l : Limitable s stops₀ ends₀ vehicles₀ rounds total) (greatest : ℕ) where
   abbrev o : Outcome
   o = outcome_in stops₀ ends₀ vehicles₀ rounds total
 
@@ -49,7 +48,7 @@ module _ (s stops₀ ends₀ vehicles₀ marks₀ trial₀ : List ℕ) (rounds t
       ∙ ap length (stops_in s stops₀ ends₀ vehicles₀ rounds total l.tables)
       ∙ length-take-le total stops₀ l.tables.all
 
-  module _ (stops ends vehicles : List ℕ) (n : ℕ) (g : TablesHold s stops ends vehicles n total limited) (from : ℕ) (e : from ≡ start_in ends n) where
+  module _ {stops ends vehicles : List ℕ} {n : ℕ} (g : TablesHold s stops ends vehicles n total limited) {from : ℕ} (e : from ≡ start_in ends n) where
     held : TablesOf stops ends vehicles n total limited
     held = subst (TablesOf stops ends vehicles n total) g.outcome (tables_tabled s stops ends vehicles n total g.tables)
 
@@ -60,10 +59,9 @@ module _ (s stops₀ ends₀ vehicles₀ marks₀ trial₀ : List ℕ) (rounds t
     start_so = e ∙ held.holds.routed
 
     -- what the call of `order_aside` asks
-    pub aside : (marks : List ℕ) → length marks ≡ rows_of s → Aside s stops marks from total
-    aside marks m = record {
+    pub aside : Aside s stops from total
+    aside = record {
       sheet = g.tables.sheet;
-      marked = m;
       order = omega (arith, e, held.from);
       within = g.tables.all;
       row = λ k h u. g.tables.row k u;
@@ -71,7 +69,7 @@ module _ (s stops₀ ends₀ vehicles₀ marks₀ trial₀ : List ℕ) (rounds t
     }
 
     -- what that call leaves
-    module _ (stops' : List ℕ) (ordered : stops' ≡ write stops from (ascending s (part stops from total))) where
+    module _ {stops' : List ℕ} (ordered : stops' ≡ write stops from (ascending s (part stops from total))) where
       written : stops' ≡ write stops from (ascending s limited.aside)
       written = rw aside_so at ordered
 

@@ -34,19 +34,18 @@ at_rest s soft x e zero = refl
 at_rest s soft x e (suc n) = ap (refit_on s soft n) (refit_by_lem s soft x None e) ∙ at_rest s soft x e n
 
 -- ---- the loop
-pub record Refitting (s : List ℕ) (soft : Bool) (stops₀ ends₀ vehicles₀ trial₀ : List ℕ) (n total : ℕ) (stops ends vehicles trial : List ℕ) : Type 0 where
+pub record Refitting (s : List ℕ) (soft : Bool) (stops₀ ends₀ vehicles₀ : List ℕ) (n total : ℕ) (stops ends vehicles : List ℕ) : Type 0 where
   pub tables : Tables s stops ends vehicles n total
   pub behind : drop total stops ≡ drop total stops₀
-  pub tried : length trial ≡ length trial₀
   pub same : refit_outcome s soft (pending_first (outcome_in stops ends vehicles n total)) ≡ refit_outcome s soft (pending_first (outcome_in stops₀ ends₀ vehicles₀ n total))
 
-module _ (s : List ℕ) (soft : Bool) (stops₀ ends₀ vehicles₀ trial₀ : List ℕ) (n total : ℕ) (stops ends vehicles trial : List ℕ) (g : Refitting s soft stops₀ ends₀ vehicles₀ trial₀ n total stops ends vehicles trial) (p : Pick)
+module _ {s : List ℕ} {soft : Bool} {stops₀ ends₀ vehicles₀ : List ℕ} {n total : ℕ} {stops ends vehicles : List ℕ} (g : Refitting s soft stops₀ ends₀ vehicles₀ n total stops ends vehicles) {p : Pick}
     (told : p ≡ pick_of s soft (outcome_in stops ends vehicles n total).rounds (outcome_in stops ends vehicles n total).aside) where
   abbrev o : Outcome
-  o = whole s stops ends vehicles n total g.tables
+  o = whole g.tables
 
   tabled : TablesOf stops ends vehicles n total o
-  tabled = held s stops ends vehicles n total g.tables
+  tabled = held g.tables
 
   -- no stop is picked: the outcome stays
   pub rests : p ≡ None → TablesHold s stops ends vehicles n total (refit_outcome s soft (pending_first (outcome_in stops₀ ends₀ vehicles₀ n total)))
@@ -55,7 +54,7 @@ module _ (s : List ℕ) (soft : Bool) (stops₀ ends₀ vehicles₀ trial₀ : L
       record { tables = g.tables; outcome = sym (ap set_down z) ∙ g.same }
 
   -- a stop is picked, and put in
-  module _ (j i k : ℕ) (cost : Float) (e : p ≡ Some (j, i, k, cost)) where
+  module _ {j i k : ℕ} {cost : Float} (e : p ≡ Some (j, i, k, cost)) where
     place : Picked s soft o.rounds o.aside (Some (j, i, k, cost))
     place = subst (Picked s soft o.rounds o.aside) (sym told ∙ e) (pick_picked s soft o.rounds o.aside)
 
@@ -75,7 +74,7 @@ module _ (s : List ℕ) (soft : Bool) (stops₀ ends₀ vehicles₀ trial₀ : L
     before_those : start_in ends n + j < total
     before_those = omega (arith, place.0, total_long stops ends vehicles n total o tabled, tabled.holds.routed)
 
-    module _ (stops' ends' vehicles' : List ℕ) (put : (v : List ℕ) (t : ℕ) (q : Outcome) → TablesOf stops ends v n t q → k ≤ length (round_at q.rounds i).stops → j < length q.aside → TablesOf stops' ends' v n t (taken_in j i k q))
+    module _ {stops' ends' vehicles' : List ℕ} (put : (v : List ℕ) (t : ℕ) (q : Outcome) → TablesOf stops ends v n t q → k ≤ length (round_at q.rounds i).stops → j < length q.aside → TablesOf stops' ends' v n t (taken_in j i k q))
         (driven : vehicles' ≡ vehicles) where
       after : TablesOf stops' ends' vehicles' n total (taken_in j i k o)
       after = rw driven (put vehicles total o tabled place.1.place place.0)
@@ -86,12 +85,11 @@ module _ (s : List ℕ) (soft : Bool) (stops₀ ends₀ vehicles₀ trial₀ : L
       pub fewer : length (outcome_in stops' ends' vehicles' n total).aside < length (outcome_in stops ends vehicles n total).aside
       fewer = rw after_outcome (omega (arith, without_length o.aside j place.0))
 
-      pub goes_on : (trial' : List ℕ) → ((m : ℕ) → start_in ends n + j < m → drop m stops' ≡ drop m stops) → length trial' ≡ length trial → Refitting s soft stops₀ ends₀ vehicles₀ trial₀ n total stops' ends' vehicles' trial'
+      pub goes_on : ((m : ℕ) → start_in ends n + j < m → drop m stops' ≡ drop m stops) → Refitting s soft stops₀ ends₀ vehicles₀ n total stops' ends' vehicles'
       unfolding refit_on
-      goes_on trial' kept tried = record {
+      goes_on kept = record {
         tables = sound_tables s stops' ends' vehicles' n total (taken_in j i k o) after (in_sound s o (tables_sound s stops ends vehicles n total g.tables) j i k place.0) g.tables.sheet g.tables.few g.tables.most;
         behind = kept total before_those ∙ g.behind;
-        tried = tried ∙ g.tried;
         same =
             ap (λ (q : Outcome). refit_outcome s soft (pending_first q)) after_outcome
             ∙ ap (λ (x : Refit). set_down (refit_on s soft (length (without j o.aside)) x)) (sym (refit_by_lem s soft (pending_first o) (Some (j, i, k, cost)) (sym e ∙ told)))

@@ -2,7 +2,6 @@
 use Rattle.std.specs.Prelude.{None}
 use mathlib.Core.Path.{◌≡◌, refl, sym, ap, ◌∙◌, subst}
 use Prim.Native.Nat.{ℕ, zero, suc, ◌≤◌, ◌<◌}
-use native.Mathlib.Nat.{sub-zero}
 use native.Mathlib.Omega.{arith}
 use mathlib.Core.Bool.{Bool, true, false, ◌||◌, true≢false}
 use mathlib.Core.List.{List, [], ◌∷◌}
@@ -19,7 +18,6 @@ use Rattle.sheet.specs.declared.customer.Gate.TheVariants.{Open, Hard, Soft}
 use Rattle.sheet.specs.Stops.{is_stop}
 use Rattle.evaluation.specs.declared.limits.RouteLimits.{RouteLimits}
 use Rattle.evaluation.specs.Limits.{is_unlimited}
-use Rattle.evaluation.specs.Routed.{Routed}
 use Rattle.evaluation.specs.Checks.{windowed, row_windowed, some_windowed, has_time_windows, has_soft_windows, route_checks_needed}
 use Rattle.constructive.specs.Outcome.{Outcome, outcome_in, stops_of}
 use Rattle.constructive.specs.Unchecked.{Windowless}
@@ -31,7 +29,7 @@ use Rattle.fleet_cheapest.specs.declared.Windows.{Windows}
 use Rattle.fleet_cheapest.specs.Promises.{WindowsOf}
 use Rattle.fleet_limiter.specs.Limitable.{Limitable}
 use Rattle.fleet_limiter.specs.Promises.{windows_in, TablesHold, Triable}
-use Rattle.fleet_limiter.proofs.Choosing.{held, walked}
+use Rattle.fleet_limiter.proofs.Choosing.{held}
 use Rattle.fleet_limiter.proofs.DroppingRounds.{limit_rests}
 
 neither : (a b : Bool) → (a || b) ≡ false → (a ≡ false) × (b ≡ false)
@@ -69,15 +67,12 @@ module _ (s rows : List ℕ) (e : has_time_windows s 0 rows ≡ false) where
   each = unchecked_windowless s 0 rows free (rw e)
 
 -- ---- the tables have every stop
-module _ (s stops ends vehicles marks trial : List ℕ) (rounds total : ℕ) (l : Limitable s stops ends vehicles marks trial rounds total) where
+module _ {s stops ends vehicles : List ℕ} {rounds total : ℕ} (l : Limitable s stops ends vehicles rounds total) where
   abbrev o : Outcome
   o = outcome_in stops ends vehicles rounds total
 
   all_stops_lem : stops_of o ≡ take total stops
   all_stops_lem = stops_in s stops ends vehicles rounds total l.tables
-
-  pub stops_walked : 0 < rounds → Routed s 0 (take total stops)
-  stops_walked h = rw sub-zero at (walked s stops ends vehicles rounds total l.tables 0 (omega (arith, l.tables.few)))
 
   every_row : has_time_windows s 0 (take total stops) ≡ false → (row : ℕ) → row < rows_of s → Windowless s row
   every_row e zero h = (parts s (take total stops) e).0
@@ -90,16 +85,17 @@ module _ (s stops ends vehicles marks trial : List ℕ) (rounds total : ℕ) (l 
   windows_of = record { sheet = l.tables.sheet; hard = hard s (take total stops); windowless = every_row }
 
   -- so the rounds can be dropped by what is read
-  module _ (w : Windows) (e : w ≡ windows_in s (take total stops)) where
-    pub triable : 0 < rounds → Triable s w trial
-    triable h = record { windows = rw e windows_of; some = omega (arith, l.tables.few); tried = l.tried }
+  module _ {w : Windows} (e : w ≡ windows_in s (take total stops)) where
+    pub triable : 0 < rounds → Triable s w total
+    triable h = record {
+      windows = rw e windows_of;
+      some = omega (arith, l.tables.few);
+      few = omega (arith, l.tables.few, l.tables.sheet.sized.rows, l.one, l.all);
+    }
 
-    pub read_so : (stops' ends' vehicles' : List ℕ) (n greatest : ℕ) → TablesHold s stops' ends' vehicles' n total (limit_on s w.soft greatest rounds o) → TablesHold s stops' ends' vehicles' n total (limit_on s (soft_in s o) greatest rounds o)
-    read_so stops' ends' vehicles' n greatest g = subst (λ (soft : Bool). TablesHold s stops' ends' vehicles' n total (limit_on s soft greatest rounds o)) (ap (λ (x : Windows). x.soft) e ∙ ap (has_soft_windows s 0) (sym all_stops_lem)) g
-
-  pub few_stops : 0 < rounds → total < 101
-  few_stops h = omega (arith, l.tables.few, l.tables.sheet.sized.rows, l.one, l.all)
+    pub read_so : {stops' ends' vehicles' : List ℕ} {n : ℕ} (greatest : ℕ) → TablesHold s stops' ends' vehicles' n total (limit_on s w.soft greatest rounds o) → TablesHold s stops' ends' vehicles' n total (limit_on s (soft_in s o) greatest rounds o)
+    read_so {stops'} {ends'} {vehicles'} {n} greatest g = subst (λ (soft : Bool). TablesHold s stops' ends' vehicles' n total (limit_on s soft greatest rounds o)) (ap (λ (x : Windows). x.soft) e ∙ ap (has_soft_windows s 0) (sym all_stops_lem)) g
 
   -- no round is dropped
-  pub stays : (greatest : ℕ) → rounds ≤ greatest → TablesHold s stops ends vehicles rounds total (limit_on s (soft_in s o) greatest rounds o)
-  stays greatest h = record { tables = l.tables; outcome = sym (limit_rests s (soft_in s o) greatest rounds o (omega (arith, (held s stops ends vehicles rounds total l.tables).holds.count))) }
+  pub stays : {greatest : ℕ} → rounds ≤ greatest → TablesHold s stops ends vehicles rounds total (limit_on s (soft_in s o) greatest rounds o)
+  stays {greatest} h = record { tables = l.tables; outcome = sym (limit_rests s (soft_in s o) greatest rounds o (omega (arith, (held l.tables).holds.count))) }

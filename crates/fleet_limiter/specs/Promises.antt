@@ -1,5 +1,5 @@
 -- What the limiter's functions ask of the tables, and what they leave in them.
-use Rattle.std.specs.Prelude.{◌≡◌, ℕ, ◌≤◌, ◌<◌, Bool, List, length}
+use Rattle.std.specs.Prelude.{◌≡◌, ℕ, ◌<◌, Bool, List, length}
 use Rattle.sheet.specs.Fields.{rows_of, most_rows}
 use Rattle.evaluation.specs.Checks.{has_time_windows, has_soft_windows}
 use Rattle.constructive.specs.Outcome.{Outcome, outcome_in}
@@ -16,11 +16,11 @@ pub record TablesHold (s stops ends vehicles : List ℕ) (n total : ℕ) (o : Ou
   pub tables : Tables s stops ends vehicles n total
   pub outcome : outcome_in stops ends vehicles n total ≡ o
 
--- and room to try a stop in a round
-pub record Triable (s : List ℕ) (w : Windows) (trial : List ℕ) : Type 0 where
+-- what is known of the windows, and that a round has room for a stop more, even one of all `total` stops (a clause, as `Tables`)
+pub record Triable (s : List ℕ) (w : Windows) (total : ℕ) : Type 0 where
   pub windows : WindowsOf s w
   pub some : 0 < rows_of s
-  pub tried : most_rows ≤ length trial
+  pub few : total < most_rows
 
 -- ---- the stops that a dropped round leaves: those that no round takes are set aside
 abbrev pub pending_first : Outcome → Refit

@@ -2,8 +2,7 @@
 // For each round of p stops dropped O(p^2 n) places; where windows or limits are asked, one that may win is walked.
 #![tactic(auto)]
 
-ghost use Rattle.std.specs.Prelude.{◌≡◌, List, ℕ, ◌-◌, ◌<◌, drop};
-ghost use Rattle.sheet.specs.Fields.{most_rows};
+ghost use Rattle.std.specs.Prelude.{◌≡◌, ◌-◌, ◌<◌, drop};
 ghost use Rattle.evaluation.specs.Routed.{Routed};
 ghost use Rattle.constructive.specs.Outcome.{start_in, outcome_in};
 ghost use Rattle.constructive.specs.Tables.{Tables};
@@ -35,16 +34,14 @@ fn choose<const N: usize>(
     tables: &RouteTables<N>,
     n: usize,
     total: usize,
-    trial: &mut [u16],
 ) -> Pick
     requires tables { Tables sheet.now tables.now.stops tables.now.ends tables.now.vehicles n total }
-    requires triable { Triable sheet.now windows trial.old }
-    requires total_lt_most_rows { total < most_rows }
+    requires triable { Triable sheet.now windows total }
     ensures { result ≡ pick_of sheet.now windows.soft (outcome_in tables.now.stops tables.now.ends tables.now.vehicles n total).rounds (outcome_in tables.now.stops tables.now.ends tables.now.vehicles n total).aside }
 {
     let routed = tables.start_of(n);
     let stops = &tables.stops[..];
-    fleet_cheapest::cheapest(sheet, windows, tables, n, &stops[routed..total], trial)
+    fleet_cheapest::cheapest(sheet, windows, tables, n, &stops[routed..total])
 }
 
 // The stops behind the n rounds, up to `total`, go into them, the cheapest first, until no round takes one.
@@ -54,16 +51,14 @@ fn refit<const N: usize>(
     tables: &mut RouteTables<N>,
     n: usize,
     total: usize,
-    trial: &mut [u16],
 )
     requires tables { Tables sheet.now tables.old.stops tables.old.ends tables.old.vehicles n total }
-    requires triable { Triable sheet.now windows trial.old }
-    requires total_lt_most_rows { total < most_rows }
+    requires triable { Triable sheet.now windows total }
     ensures held { TablesHold sheet.now tables.new.stops tables.new.ends tables.new.vehicles n total (refit_outcome sheet.now windows.soft (pending_first (outcome_in tables.old.stops tables.old.ends tables.old.vehicles n total))) }
     ensures behind_kept { drop total tables.new.stops ≡ drop total tables.old.stops }
 {
     loop {
-        let Some((j, round, place, _)) = choose(sheet, windows, tables, n, total, trial) else {
+        let Some((j, round, place, _)) = choose(sheet, windows, tables, n, total) else {
             return;
         };
         fleet_tables::put_in(tables, n, round, place, j);
@@ -77,17 +72,16 @@ fn drop_round<const N: usize>(
     tables: &mut RouteTables<N>,
     n: usize,
     total: usize,
-    trial: &mut [u16],
 )
     requires tables { Tables sheet.now tables.old.stops tables.old.ends tables.old.vehicles n total }
-    requires triable { Triable sheet.now windows trial.old }
-    requires n_nonzero { (0 < n) × (total < most_rows) × (start_in tables.old.ends n ≡ total) }
+    requires triable { Triable sheet.now windows total }
+    requires n_nonzero { (0 < n) × (start_in tables.old.ends n ≡ total) }
     ensures held { TablesHold sheet.now tables.new.stops tables.new.ends tables.new.vehicles (n - 1) total (refit_outcome sheet.now windows.soft (dropped sheet.now (outcome_in tables.old.stops tables.old.ends tables.old.vehicles n total).rounds)) }
     ensures behind_kept { drop total tables.new.stops ≡ drop total tables.old.stops }
 {
     let round = fleet_tables::victim(sheet, tables, n);
     fleet_tables::take_out(tables, n, round);
-    refit(sheet, windows, tables, n - 1, total, trial);
+    refit(sheet, windows, tables, n - 1, total);
 }
 
 // Drops rounds until there are no more than `greatest`; answers how many are left. What no round takes stands before the stops
@@ -97,19 +91,17 @@ fn drop_rounds<const N: usize>(
     windows: Windows,
     greatest: usize,
     tables: &mut RouteTables<N>,
-    trial: &mut [u16],
     rounds: usize,
     total: usize,
 ) -> usize
     requires tables { Tables sheet.now tables.old.stops tables.old.ends tables.old.vehicles rounds total }
-    requires triable { Triable sheet.now windows trial.old }
-    requires total_lt_most_rows { total < most_rows }
+    requires triable { Triable sheet.now windows total }
     ensures { TablesHold sheet.now tables.new.stops tables.new.ends tables.new.vehicles result total (limit_on sheet.now windows.soft greatest rounds (outcome_in tables.old.stops tables.old.ends tables.old.vehicles rounds total)) }
 {
     let mut n = rounds;
     while greatest < n {
         let routed = tables.start_of(n);
-        drop_round(sheet, windows, tables, n, routed, trial);
+        drop_round(sheet, windows, tables, n, routed);
         n = n - 1;
     }
     n
@@ -120,11 +112,10 @@ fn limit<const N: usize>(
     sheet: &Sheet,
     greatest: usize,
     tables: &mut RouteTables<N>,
-    trial: &mut [u16],
     rounds: usize,
     total: usize,
 ) -> usize
-    requires { (marks : List ℕ) × Limitable sheet.now tables.old.stops tables.old.ends tables.old.vehicles marks trial.old rounds total }
+    requires { Limitable sheet.now tables.old.stops tables.old.ends tables.old.vehicles rounds total }
     ensures { TablesHold sheet.now tables.new.stops tables.new.ends tables.new.vehicles result total (limit_on sheet.now (soft_in sheet.now (outcome_in tables.old.stops tables.old.ends tables.old.vehicles rounds total)) greatest rounds (outcome_in tables.old.stops tables.old.ends tables.old.vehicles rounds total)) }
 {
     if rounds <= greatest {
@@ -132,27 +123,24 @@ fn limit<const N: usize>(
     }
     let stops = &tables.stops[..];
     let windows = windows_in(sheet, &stops[..total]);
-    drop_rounds(sheet, windows, greatest, tables, trial, rounds, total)
+    drop_rounds(sheet, windows, greatest, tables, rounds, total)
 }
 
 // Brings the `rounds` rounds of the tables, which have every stop, down to `greatest`; answers how many are left. The stops set
-// aside come out ascending. `marks` has a number for each row, `trial` for the longest round.
+// aside come out ascending.
 pub fn limit_routes<const N: usize>(
     sheet: &Sheet,
     greatest: u32,
     tables: &mut RouteTables<N>,
-    marks: &mut [u16],
-    trial: &mut [u16],
     rounds: usize,
     total: usize,
 ) -> usize
-    requires { Limitable sheet.now tables.old.stops tables.old.ends tables.old.vehicles marks.old trial.old rounds total }
+    requires { Limitable sheet.now tables.old.stops tables.old.ends tables.old.vehicles rounds total }
     ensures total_after { outcome_in tables.new.stops tables.new.ends tables.new.vehicles result total ≡ limit_routes sheet.now greatest (outcome_in tables.old.stops tables.old.ends tables.old.vehicles rounds total) }
     ensures tables { Tables sheet.now tables.new.stops tables.new.ends tables.new.vehicles result total }
 {
-    let n = limit(sheet, greatest as usize, tables, trial, rounds, total);
+    let n = limit(sheet, greatest as usize, tables, rounds, total);
     let from = tables.start_of(n);
-    let rows = sheet.rows();
-    fleet_tables::order_aside(sheet, &mut tables.stops, &mut marks[..rows], from, total);
+    fleet_tables::order_aside(sheet, &mut tables.stops, from, total);
     n
 }

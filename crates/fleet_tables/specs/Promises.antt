@@ -1,5 +1,5 @@
 -- What the functions ask of the tables, and what they leave in them.
-use Rattle.std.specs.Prelude.{◌≡◌, ℕ, ◌+◌, ◌-◌, ◌≤◌, ◌<◌, Bool, ◌&&◌, ◌||◌, List, [], ◌∷◌, ◌++◌, ltb, eqb, length, get_or}
+use Rattle.std.specs.Prelude.{ℕ, ◌+◌, ◌-◌, ◌≤◌, ◌<◌, Bool, ◌&&◌, ◌||◌, List, [], ◌∷◌, ◌++◌, ltb, eqb, length, get_or}
 use Rattle.lists.specs.Moved.{without}
 use Rattle.sheet.specs.Accepted.{Accepted}
 use Rattle.sheet.specs.Fields.{rows_of, most_rows}
@@ -67,9 +67,8 @@ pub record ClosesUp (table : List ℕ) (at n less : ℕ) : Type 0 where
   pub least : (k : ℕ) → at < k → k < n → less ≤ get_or table k 0
 
 -- ---- the stops from `from` to `total`, each once: as many as they are in order
-pub record Aside (s stops marks : List ℕ) (from total : ℕ) : Type 0 where
+pub record Aside (s stops : List ℕ) (from total : ℕ) : Type 0 where
   pub sheet : Accepted s
-  pub marked : length marks ≡ rows_of s
   pub order : from ≤ total
   pub within : total ≤ length stops
   pub row : (k : ℕ) → from ≤ k → k < total → get_or stops k 0 < rows_of s

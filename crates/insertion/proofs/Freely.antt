@@ -1,5 +1,5 @@
 -- The loop over the places of a round of which no check is asked. Assumes nothing.
-use mathlib.Core.Path.{◌≡◌, refl, sym, ap, ◌∙◌}
+use mathlib.Core.Path.{◌≡◌, sym, ap, ◌∙◌}
 use Prim.Native.Nat.{ℕ, suc, ◌+◌, ◌-◌, ◌≤◌, ◌<◌}
 use native.Mathlib.Omega.{arith}
 use mathlib.Core.Bool.{Bool, false}
@@ -18,13 +18,6 @@ pub record Freely (s : List ℕ) (t : Terms) (route : List ℕ) (j row : ℕ) (c
   pub last : end ≡ length route + 1
   pub within : k ≤ end
   pub same : try_places s t route j row c₀ (suc (length route)) 0 ≡ try_places s t route j row c (end - k) k
-
-pub freely : (s : List ℕ) (t : Terms) (route : List ℕ) (j row : ℕ) (c : Choice) → Freely s t route j row c c 0 (length route + 1)
-freely s t route j row c = record {
-  last = refl;
-  within = omega arith;
-  same = ap (λ (n : ℕ). try_places s t route j row c n 0) (let e : suc (length route) ≡ length route + 1 - 0 = omega arith in e);
-}
 
 module _ (s : List ℕ) (t : Terms) (route : List ℕ) (j row : ℕ) (c₀ c : Choice) (k end : ℕ) (g : Freely s t route j row c₀ c k end) where
   -- each place costs its detour

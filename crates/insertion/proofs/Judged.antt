@@ -5,10 +5,11 @@ use Prim.Native.Nat.{ℕ, zero, suc, ◌-◌, ◌≤◌, ◌<◌}
 use native.Mathlib.Omega.{arith}
 use mathlib.Core.Bool.{Bool, true, false, not, cond}
 use mathlib.Core.List.{List, [], ◌∷◌}
-use lib.Dec.{T, eqb}
+use lib.Dec.{eqb}
 use lib.ListN.{length, get_or}
 use lib.Ieee.{Float, le}
 use borrow.Author.Tests.{eqb-false}
+use lib.Ieee.Bits.{is_true}
 use Rattle.lists.specs.Moved.{inserted}
 use Rattle.lists.specs.Laws.Moved.{inserted_every}
 use Rattle.sheet.specs.Fields.{rows_of}
@@ -25,11 +26,6 @@ use Rattle.insertion.specs.declared.place.Prices.{Prices}
 use Rattle.insertion.specs.Place.{feasible_in, row_before, row_after, detour, costs, judged, judge, wins, better_place}
 use Rattle.insertion.specs.Laws.Judging.{hard_judge, dear_skipped, cheap_walked}
 use Rattle.insertion.specs.Trial.{Joinable, prices_of, judge_trial}
-
--- ---- the rows before and after a place
-pub before_told : (depot : ℕ) (route : List ℕ) (k : ℕ) → (k ≡ 0 → ⊥) → get_or route (k - 1) 0 ≡ row_before depot route k
-before_told depot route zero h = absurd (h refl)
-before_told depot route (suc k) h = ap (λ (n : ℕ). get_or route n 0) (let e : suc k - 1 ≡ k = omega arith in e)
 
 module _ (s : List ℕ) (depot : ℕ) (route : List ℕ) (ok : Routed s depot route) where
   pub before_row : (k : ℕ) → k ≤ length route → row_before depot route k < rows_of s
@@ -63,11 +59,7 @@ module _ (s : List ℕ) (t : Terms) (route : List ℕ) (row k : ℕ) (hard : t.s
 pub free_passes : (s : List ℕ) (t : Terms) (route : List ℕ) (row k : ℕ) → Joinable s t route (row ∷ []) → t.constrained ≡ false → true ≡ feasible_in s t (inserted k row route)
 free_passes s t route row k ok e =
     let free = ok.unwalked in
-    holds _ (free_feasible s t.depot t.limits (free.free e) (inserted k row route) (inserted_every k row route (Windowless s) (free.unrouted e).0 (free.round e)))
-  where
-    holds : (b : Bool) → T b → true ≡ b
-    holds true h = refl
-    holds false h = absurd h
+    sym (is_true _ (free_feasible s t.depot t.limits (free.free e) (inserted k row route) (inserted_every k row route (Windowless s) (free.unrouted e).0 (free.round e))))
 
 -- ---- with soft windows
 pub soft_told : (s : List ℕ) (t : Terms) (route : List ℕ) (row k : ℕ) (p : Prices) (trial : List ℕ) → t.soft ≡ true → p ≡ prices_of s t route row → trial ≡ inserted k row route → judge_trial s t p trial ≡ judge s t route row k

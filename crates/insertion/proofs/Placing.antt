@@ -1,5 +1,5 @@
 -- The loop over the places of a round. Assumes nothing.
-use mathlib.Core.Path.{◌≡◌, refl, sym, ap, ◌∙◌}
+use mathlib.Core.Path.{◌≡◌, sym, ap, ◌∙◌}
 use Prim.Native.Nat.{ℕ, suc, ◌+◌, ◌-◌, ◌≤◌, ◌<◌}
 use native.Mathlib.Omega.{arith}
 use mathlib.Core.List.{List}
@@ -15,14 +15,6 @@ pub record Placing (s : List ℕ) (t : Terms) (route : List ℕ) (j row : ℕ) (
   pub within : k ≤ end
   pub holds : Trial route row tried.at trial
   pub same : try_places s t route j row tried₀.choice (suc (length route)) 0 ≡ try_places s t route j row tried.choice (end - k) k
-
-pub placing : (s : List ℕ) (t : Terms) (route : List ℕ) (j row : ℕ) (tried : Tried) (trial : List ℕ) → Trial route row tried.at trial → Placing s t route j row tried tried trial 0 (length route + 1)
-placing s t route j row tried trial g = record {
-  last = refl;
-  within = omega arith;
-  holds = g;
-  same = ap (λ (n : ℕ). try_places s t route j row tried.choice n 0) (let e : suc (length route) ≡ length route + 1 - 0 = omega arith in e);
-}
 
 module _ (s : List ℕ) (t : Terms) (route : List ℕ) (j row : ℕ) (tried₀ tried : Tried) (trial : List ℕ) (k end : ℕ) (g : Placing s t route j row tried₀ tried trial k end) where
   pub places : (tried' : Tried) (trial' : List ℕ) → k < end → tried'.choice ≡ better_place tried.choice j k (judge s t route row k) → Trial route row tried'.at trial'

@@ -14,6 +14,7 @@ use Rattle.insertion.specs.declared.place.Prices.{Prices}
 use Rattle.insertion.specs.Place.{feasible_in, cost_in, Judged, judged}
 
 -- the round with a stop in it, at a place
+-- (a clause: of the lent table, the round, its row and place at once)
 pub record Trial (route : List ℕ) (row at : ℕ) (trial : List ℕ) : Type 0 where
   pub place : at ≤ length route
   pub holds : trial ≡ inserted at row route
@@ -26,6 +27,7 @@ pub record Unwalked (s : List ℕ) (t : Terms) (route left : List ℕ) : Type 0 
   pub unrouted : t.constrained ≡ false → Every (Windowless s) left
 
 -- a round with room for one more, and the stops that may join it
+-- (a clause: of sheet, terms, round and stops at once)
 pub record Joinable (s : List ℕ) (t : Terms) (route left : List ℕ) : Type 0 where
   pub round : Routed s t.depot route
   pub unrouted : Routed s t.depot left

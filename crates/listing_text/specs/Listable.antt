@@ -6,6 +6,7 @@ use Rattle.sheet.specs.Accepted.{Sized}
 use Rattle.plan.specs.Read.{plan_right}
 
 -- a sheet of "up to 48 rows", and a right plan for it
+-- (a clause, not a type: it is a fact of two buffers, of which each is lent as bytes)
 pub record Listable (s plan : List ℕ) : Type 0 where
   pub sized : Sized s
   pub rows : rows_of s ≤ listing_rows

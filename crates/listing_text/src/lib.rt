@@ -16,7 +16,7 @@ mod text;
 
 use sheet::refusal::Refusal;
 
-// No listing is longer.
+// No listing is longer. A function asks for a slice that is as long or longer, since an array would ask for the very length.
 pub const LISTING_BYTES: usize = 8192;
 
 // The most rows that it lists.

@@ -72,6 +72,7 @@ pub fn put_stop_line(out: &mut [u8], at: usize, sheet: &[u8], plan: &[u8], row: 
     put_figures(out, load, plan, place + 8)
 }
 
+// The number is what the text shows.
 pub fn put_refused(out: &mut [u8], at: usize, number: u32) -> usize
     requires { TextRoom out.old at (refused_text number) }
     ensures { Put out.old out.new at (refused_text number) result }

@@ -1,5 +1,5 @@
-// Words and numbers put into a buffer as text. Each function answers where its text ends. `write!` into a slice may fail, and its
-// contract does not tell the text.
+// Words and numbers put into a buffer as text. Each function answers where its text ends: a String takes a heap. `write!` into a
+// slice may fail, and its contract does not tell the text.
 ghost use Rattle.std.specs.Prelude.{◌≡◌, ◌<◌, [], ◌∷◌};
 ghost use Rattle.listing_text.specs.Text.{digit_of, decimal, hex_in};
 ghost use Rattle.listing_text.specs.Put.{TextRoom, Put};

@@ -5,8 +5,7 @@ use native.Mathlib.Omega.{arith}
 use mathlib.Core.Bool.{Bool, ◌||◌}
 use mathlib.Core.List.{List}
 use lib.Dec.{eqb}
-use lib.ListN.{length, get_or, take}
-use lib.Seq.{length-take-le}
+use lib.ListN.{length, get_or}
 use borrow.Author.Tests.{eq-eqb, ne_eqb}
 use Rattle.lists.specs.Laws.Permutation.{same_length}
 use Rattle.lists.specs.Laws.Filter.{those_all, those_alike}
@@ -28,10 +27,10 @@ use Rattle.constructive.specs.Laws.Marks.{marked_aside}
 use Rattle.multi_depot_offers.specs.ByDepot.{is_no_depot, planned_of, planned_at, left_out, gathered, by_depot, outcome_of}
 use Rattle.multi_depot_offers.specs.Laws.Once.{gathered_once}
 use Rattle.multi_depot_offers.specs.Laws.Rounds.{outcome_right_lem, rounds_few}
-use Rattle.multi_depot_offers.specs.Promises.{aside_by_marks, PlanningTables, Planned}
+use Rattle.multi_depot_offers.specs.Promises.{aside_by_marks, Planned}
 use Rattle.multi_depot_planning.proofs.Sharing.{part_there}
 use Rattle.multi_depot_settling.specs.Promises.{Untouched}
-use Rattle.multi_depot.specs.Promises.{OutcomeTables, OutcomeStored}
+use Rattle.multi_depot.specs.Promises.{OutcomeStored}
 
 -- ---- the stops set aside
 aside_is : (s at marks aside : List ℕ) → Marks s marks aside → aside_by_marks s at marks ≡ stops_with s (left_out s at aside)
@@ -72,17 +71,6 @@ module _ {s : List ℕ} (at : List ℕ) {marks stops ends vehicles : List ℕ} {
   })
 
 -- ---- either
--- the part of the offers' table that is used
-pub desk_lent : {s at marks fleet stops ends vehicles : List ℕ} (n : ℕ) → OutcomeTables s at marks fleet stops ends vehicles → n ≡ rows_of s → PlanningTables s (take (n - 0) at) fleet stops ends vehicles
-desk_lent {at = at} n d e = record {
-  sheet = d.sheet;
-  rows = length-take-le (n - 0) at (omega (arith, d.offered)) ∙ omega arith;
-  fleet_long = d.fleet_long;
-  stopped = d.stopped;
-  ended = d.ended;
-  driven = d.driven;
-}
-
 pub told : (s stops ends vehicles : List ℕ) (f : Filled) (o : Outcome) → Accepted s → outcome_of s ≡ o → HoldsOutcome stops ends vehicles f (rows_of s - depots_of s) o → OutcomeStored s stops ends vehicles f (outcome_of s)
 told s stops ends vehicles f o a e h =
     let k : HoldsOutcome stops ends vehicles f (rows_of s - depots_of s) (outcome_of s) = rw e h in

@@ -20,50 +20,39 @@ fn by_depot<const N: usize>(
     sheet: &Sheet,
     at: &mut [u16],
     marks: &mut [u16],
-    fleet: &mut [u16],
     tables: &mut RouteTables<N>,
 ) -> Filled
-    requires planning_tables { PlanningTables sheet.now at.old fleet.old tables.old.stops tables.old.ends tables.old.vehicles }
+    requires planning_tables { PlanningTables sheet.now at.old tables.old.stops tables.old.ends tables.old.vehicles }
     requires sheet_in_bounds { rows_of sheet.now ≤ length marks.old }
     ensures { HoldsOutcome tables.new.stops tables.new.ends tables.new.vehicles result (rows_of sheet.now - depots_of sheet.now) (by_depot sheet.now) }
 {
-    let depots = sheet.depots();
     let rows = at.len();
     let mut before = [0u16; sheet::MOST_ROWS];
-    multi_depot_offers::first_at(sheet, depots, at);
-    let filled = multi_depot_planning::plan_depots(sheet, depots, at, marks, fleet, tables);
-    if !multi_depot_settling::settle(
-        sheet,
-        depots,
-        &mut before[0..rows],
-        at,
-        marks,
-        fleet,
-        tables,
-    ) {
+    multi_depot_offers::first_at(sheet, at);
+    let filled = multi_depot_planning::plan_depots(sheet, at, marks, tables);
+    if !multi_depot_settling::settle(sheet, &mut before[0..rows], at, marks, tables) {
         members::lay_aside(sheet, at, marks, &mut tables.stops, filled.routed);
         return filled;
     }
-    let last = multi_depot_planning::plan_depots(sheet, depots, at, marks, fleet, tables);
+    let last = multi_depot_planning::plan_depots(sheet, at, marks, tables);
     members::lay_aside(sheet, at, marks, &mut tables.stops, last.routed);
     last
 }
 
 // The sheet's outcome in the tables that are lent: its rounds, and behind them the stops set aside. `at` and `marks` are for
-// the offers, `fleet` for a depot's vehicles.
+// the offers.
 pub fn outcome<const N: usize>(
     sheet: &Sheet,
     at: &mut [u16],
     marks: &mut [u16],
-    fleet: &mut [u16],
     tables: &mut RouteTables<N>,
 ) -> Filled
-    requires { OutcomeTables sheet.now at.old marks.old fleet.old tables.old.stops tables.old.ends tables.old.vehicles }
+    requires { OutcomeTables sheet.now at.old marks.old tables.old.stops tables.old.ends tables.old.vehicles }
     ensures { OutcomeStored sheet.now tables.new.stops tables.new.ends tables.new.vehicles result (outcome_of sheet.now) }
 {
     let rows = sheet.rows();
     if sheet.depots() == 1 {
-        return multi_depot_planning::one_depot(sheet, &mut at[0..rows], fleet, tables);
+        return multi_depot_planning::one_depot(sheet, &mut at[0..rows], tables);
     }
-    by_depot(sheet, &mut at[0..rows], marks, fleet, tables)
+    by_depot(sheet, &mut at[0..rows], marks, tables)
 }

@@ -5,14 +5,14 @@ use native.Mathlib.Nat.{add-zero}
 use native.Mathlib.Omega.{arith}
 use mathlib.Core.List.{List, [], ◌∷◌}
 use lib.Dec.{eqb}
-use lib.ListN.{length, get_or, take}
+use lib.ListN.{length, get_or, take, replicate, length-replicate}
 use lib.Seq.{get_or-take}
 use borrow.Author.Tests.{eq-eqb, ne_eqb}
 use Rattle.lists.specs.Laws.Filter.{those_at, those_few}
 use Rattle.wire.specs.Bytes.{write}
 use Rattle.wire.specs.Laws.Bytes.{length_write, take_write}
 use Rattle.wire.specs.Laws.Overwrite.{write_same}
-use Rattle.sheet.specs.Fields.{vehicles_of, method_of}
+use Rattle.sheet.specs.Fields.{vehicles_of, method_of, most_vehicles}
 use Rattle.sheet.specs.declared.method.Method.{Method}
 use Rattle.sheet.specs.declared.method.Method.TheVariants.{Savings, Insertion, NearestNeighbor, NearestNeighborTw, Sweep}
 use Rattle.sheet.specs.Method.{code_of}
@@ -79,26 +79,26 @@ module _ (s : List ℕ) (d : ℕ) (members : List ℕ) (v : ℕ) where
   sweep_so g h = rw (ne_eqb (method_of s) 0 g, ne_eqb (method_of s) 1 h)
 
 -- ---- their table
-module _ {s : List ℕ} {depot : ℕ} {fleet stops ends vehicles : List ℕ} {f : Filled} {total : ℕ} (ready : Ready s depot fleet stops ends vehicles f total)
-    {fleet' : List ℕ} {n : ℕ} (counted : n ≡ length (fleet_of s depot)) (written : fleet' ≡ write fleet 0 (fleet_of s depot)) where
-  fits : 0 + length (fleet_of s depot) ≤ length fleet
-  fits = omega (arith, fleet_few s depot, ready.fleet_long, ready.members.routed.sheet.sized.vehicles)
+module _ {s : List ℕ} {depot : ℕ} {stops ends vehicles : List ℕ} {f : Filled} {total : ℕ} (ready : Ready s depot stops ends vehicles f total)
+    {fleet : List ℕ} {n : ℕ} (counted : n ≡ length (fleet_of s depot)) (written : fleet ≡ write (replicate most_vehicles 0) 0 (fleet_of s depot)) where
+  fits : 0 + length (fleet_of s depot) ≤ length (replicate {A = ℕ} most_vehicles 0)
+  fits = omega (arith, fleet_few s depot, ready.members.routed.sheet.sized.vehicles, length-replicate {A = ℕ} most_vehicles 0)
 
-  pub few : n ≤ length fleet'
-  few = omega (arith, fits, ap length written, length_write fleet 0 (fleet_of s depot) fits)
+  pub few : n ≤ length fleet
+  few = omega (arith, fits, ap length written, length_write (replicate most_vehicles 0) 0 (fleet_of s depot) fits)
 
-  hers : take (n - 0) fleet' ≡ fleet_of s depot
+  hers : take (n - 0) fleet ≡ fleet_of s depot
   hers =
       let m : n - 0 ≡ 0 + length (fleet_of s depot) = omega arith in
-      rw (m, written) (take_write fleet 0 (fleet_of s depot) fits)
+      rw (m, written) (take_write (replicate most_vehicles 0) 0 (fleet_of s depot) fits)
 
-  pub known : Fleet s (take (n - 0) fleet')
+  pub known : Fleet s (take (n - 0) fleet)
   known = subst (Fleet s) (sym hers) (fleet_at s depot)
 
-  front : (n ≡ 0 → ⊥) → get_or fleet' 0 0 ≡ get_or (fleet_of s depot) 0 0
-  front some = sym (get_or-take (n - 0) fleet' 0 0 (omega (arith, some))) ∙ ap (λ (l : List ℕ). get_or l 0 0) hers
+  front : (n ≡ 0 → ⊥) → get_or fleet 0 0 ≡ get_or (fleet_of s depot) 0 0
+  front some = sym (get_or-take (n - 0) fleet 0 0 (omega (arith, some))) ∙ ap (λ (l : List ℕ). get_or l 0 0) hers
 
-  pub first_known : (n ≡ 0 → ⊥) → get_or fleet' 0 0 < vehicles_of s
+  pub first_known : (n ≡ 0 → ⊥) → get_or fleet 0 0 < vehicles_of s
   first_known some = rw (front some) (fleet_at s depot 0 (omega (arith, some, counted)))
 
   -- ---- the methods
@@ -106,11 +106,11 @@ module _ {s : List ℕ} {depot : ℕ} {fleet stops ends vehicles : List ℕ} {f 
   members = part stops f.routed total
 
   module _ {method : ℕ} (told : method ≡ method_of s) where
-    pub nearest_so : method ≡ 2 → construct_at s depot members ≡ nearest_neighbor s depot members (take (n - 0) fleet')
+    pub nearest_so : method ≡ 2 → construct_at s depot members ≡ nearest_neighbor s depot members (take (n - 0) fleet)
     unfolding construct_of
     nearest_so e = rw (hers, eq-eqb (method_of s) 2 (sym told ∙ e))
 
-    pub window_so : method ≡ 3 → construct_at s depot members ≡ nearest_neighbor_tw s depot members (take (n - 0) fleet')
+    pub window_so : method ≡ 3 → construct_at s depot members ≡ nearest_neighbor_tw s depot members (take (n - 0) fleet)
     unfolding construct_of
     window_so e = rw (hers, ne_eqb (method_of s) 2 (λ q. omega (arith, told, e, q)), eq-eqb (method_of s) 3 (sym told ∙ e))
 
@@ -142,5 +142,5 @@ module _ {s : List ℕ} {depot : ℕ} {fleet stops ends vehicles : List ℕ} {f 
         pub none_so : (f ≡ filled_by f (construct_at s depot members).rounds) × Stored stops ends vehicles f (construct_at s depot members) stops ends vehicles
         none_so = (none_filled, none_laid)
 
-      pub with_some : (n ≡ 0 → ⊥) → construct_at s depot members ≡ with_vehicle s depot members (get_or fleet' 0 0)
+      pub with_some : (n ≡ 0 → ⊥) → construct_at s depot members ≡ with_vehicle s depot members (get_or fleet 0 0)
       with_some some = first ∙ first_of s depot members (fleet_of s depot) (λ e. some (counted ∙ e)) ∙ ap (with_vehicle s depot members) (sym (front some))

@@ -21,17 +21,17 @@ use sheet::method::Method;
 pub fn by_savings<const N: usize>(
     sheet: &Sheet,
     depot: usize,
-    fleet: &mut [u16],
     tables: &mut RouteTables<N>,
     filled: Filled,
     total: usize,
 ) -> Filled
-    requires ready { Ready sheet.now depot fleet.old tables.old.stops tables.old.ends tables.old.vehicles filled total }
+    requires ready { Ready sheet.now depot tables.old.stops tables.old.ends tables.old.vehicles filled total }
     requires sheet_value { method_of sheet.now ≡ 0 }
     ensures value { result ≡ filled_by filled (construct_at sheet.now depot (part tables.old.stops filled.routed total)).rounds }
     ensures stored { Stored tables.old.stops tables.old.ends tables.old.vehicles filled (construct_at sheet.now depot (part tables.old.stops filled.routed total)) tables.new.stops tables.new.ends tables.new.vehicles }
 {
-    if members::fleet_of(sheet, depot, fleet) == 0 {
+    let mut fleet = [0u16; sheet::MOST_VEHICLES];
+    if members::fleet_of(sheet, depot, &mut fleet) == 0 {
         return filled;
     }
     clarke_wright::clarke_wright_savings(sheet, depot, fleet[0], tables, filled, total)
@@ -70,17 +70,17 @@ fn with_vehicle<const N: usize>(
 pub fn construct<const N: usize>(
     sheet: &Sheet,
     depot: usize,
-    fleet: &mut [u16],
     tables: &mut RouteTables<N>,
     filled: Filled,
     total: usize,
 ) -> Filled
-    requires ready { Ready sheet.now depot fleet.old tables.old.stops tables.old.ends tables.old.vehicles filled total }
+    requires ready { Ready sheet.now depot tables.old.stops tables.old.ends tables.old.vehicles filled total }
     requires routed_bound { method_of sheet.now ≡ 0 → total - filled.routed ≤ 24 }
     ensures value { result ≡ filled_by filled (construct_at sheet.now depot (part tables.old.stops filled.routed total)).rounds }
     ensures stored { Stored tables.old.stops tables.old.ends tables.old.vehicles filled (construct_at sheet.now depot (part tables.old.stops filled.routed total)) tables.new.stops tables.new.ends tables.new.vehicles }
 {
-    let n = members::fleet_of(sheet, depot, fleet);
+    let mut fleet = [0u16; sheet::MOST_VEHICLES];
+    let n = members::fleet_of(sheet, depot, &mut fleet);
     let method = sheet.method();
     match method {
         Method::NearestNeighbor => nearest_neighbor::nearest_neighbor(

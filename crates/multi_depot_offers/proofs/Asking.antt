@@ -11,20 +11,14 @@ use Rattle.std.specs.Bool.{then_some}
 use Rattle.std.proofs.Common.{◌≢◌, Option, None, Some, IfSome, unwrap_or}
 use Rattle.sheet.specs.Fields.{rows_of}
 use Rattle.sheet.specs.Depots.{depots_of}
+use Rattle.sheet.specs.Accepted.{Accepted}
 use Rattle.sheet.specs.Laws.Depots.{depots_few}
 use Rattle.multi_depot_offers.specs.ByDepot.{is_no_depot, sooner, asked_after, nearer, nearest_from, next_depot, moves_to}
 use Rattle.multi_depot_offers.specs.Laws.Settled.{attempts, and_false, next_asked, attempts_fall}
-use Rattle.multi_depot_offers.specs.Promises.{RowAsked}
 
-module _ (s : List ℕ) (depots stop : ℕ) (a : RowAsked s depots stop) where
-  pub depot_row : (d : ℕ) → d < depots → d < rows_of s
-  depot_row d h = let r = a.row in let k = depots_few s (omega arith) in omega (arith, a.count)
-
-  pub unassigned : (d : ℕ) → depots ≤ d → is_no_depot s d ≡ true
-  unassigned d h = le-leb (depots_of s) d (omega (arith, a.count))
-
-  pub assigned : (d : ℕ) → d < depots → is_no_depot s d ≡ false
-  assigned d h = lt-leb (depots_of s) d (omega (arith, a.count))
+-- a depot is a row, where there is a row
+pub depot_row : (s : List ℕ) (stop : ℕ) → stop < rows_of s → (d : ℕ) → d < depots_of s → d < rows_of s
+depot_row s stop row d h = let k = depots_few s (omega arith) in omega arith
 
 -- the nearest so far, and one depot more: it is asked and wins, or is not asked, or does not win
 pub taken : {asked wins : Bool} (d best : ℕ) → asked ≡ true → wins ≡ true → cond (asked && wins) d best ≡ d
@@ -37,21 +31,22 @@ pub beaten : (asked : Bool) {wins : Bool} (d best : ℕ) → wins ≡ false → 
 beaten asked d best e = rw (e, and_false asked)
 
 -- the nearest so far, with the depots from d on, is the next
-abbrev pub Seeking : List ℕ → ℕ → ℕ → ℕ → ℕ → ℕ → Type 0
-Seeking s stop after n best d = next_depot s stop after ≡ nearest_from s stop after (n - d) d best
+abbrev pub Seeking : List ℕ → ℕ → ℕ → ℕ → ℕ → Type 0
+Seeking s stop after best d = next_depot s stop after ≡ nearest_from s stop after (depots_of s - d) d best
 
-pub begins : (s : List ℕ) (stop after n : ℕ) → n ≡ depots_of s → Seeking s stop after n n 0
-unfolding next_depot
-begins s stop after n e = rw (e, sub-zero)
+module _ (s : List ℕ) (stop after : ℕ) where
+  pub begins : Seeking s stop after (depots_of s) 0
+  unfolding next_depot
+  begins = rw sub-zero
 
-module _ (s : List ℕ) (stop after n best d : ℕ) (i : Seeking s stop after n best d) where
-  pub goes_on : d < n → Seeking s stop after n (nearer s stop after best d) (d + 1)
-  unfolding nearest_from
-  goes_on h = let e : n - d ≡ suc (n - (d + 1)) = omega arith in i ∙ rw e
+  module _ (best d : ℕ) (i : Seeking s stop after best d) where
+    pub goes_on : d < depots_of s → Seeking s stop after (nearer s stop after best d) (d + 1)
+    unfolding nearest_from
+    goes_on h = let e : depots_of s - d ≡ suc (depots_of s - (d + 1)) = omega arith in i ∙ rw e
 
-  pub ends : n ≤ d → best ≡ next_depot s stop after
-  unfolding nearest_from
-  ends h = let e : n - d ≡ 0 = omega arith in sym (i ∙ rw e)
+    pub ends : depots_of s ≤ d → best ≡ next_depot s stop after
+    unfolding nearest_from
+    ends h = let e : depots_of s - d ≡ 0 = omega arith in sym (i ∙ rw e)
 
 -- a depot, or no depot's number
 nearer_upto : (s : List ℕ) (stop after best d : ℕ) → best ≤ depots_of s → d < depots_of s → nearer s stop after best d ≤ depots_of s
@@ -77,30 +72,30 @@ none_alike s stop after zero d best h = refl
 none_alike s stop after (suc n) d best h =
     rw (le-leb (depots_of s) after h, le-leb (depots_of s) (depots_of s) (omega arith)) (none_alike s stop after n (d + 1) _ h)
 
-pub next_of_none : (s : List ℕ) (stop after : ℕ) → depots_of s ≤ after → next_depot s stop after ≡ next_depot s stop (depots_of s)
+next_of_none : (s : List ℕ) (stop after : ℕ) → depots_of s ≤ after → next_depot s stop after ≡ next_depot s stop (depots_of s)
 unfolding next_depot
 next_of_none s stop after h = none_alike s stop after (depots_of s) 0 (depots_of s) h
 
 -- where a row turned down moves to: another depot, or nowhere
-module _ (s : List ℕ) (depots stop : ℕ) (a : RowAsked s depots stop) (d : ℕ) where
+module _ (s : List ℕ) (a : Accepted s) (stop : ℕ) (row : stop < rows_of s) (d : ℕ) where
   -- the number in the table, as an option
-  same_next : (b : Bool) → ltb d depots ≡ b → next_depot s stop (unwrap_or (then_some b d) depots) ≡ next_depot s stop d
+  same_next : (b : Bool) → ltb d (depots_of s) ≡ b → next_depot s stop (unwrap_or (then_some b d) (depots_of s)) ≡ next_depot s stop d
   same_next true e = refl
-  same_next false e = let l = ltb-false d depots e in rw a.count (sym (next_of_none s stop d (omega (arith, a.count))))
+  same_next false e = sym (next_of_none s stop d (ltb-false d (depots_of s) e))
 
-  another : (x : ℕ) → x < depots → x ≡ next_depot s stop d → x ≢ d
+  another : (x : ℕ) → x < depots_of s → x ≡ next_depot s stop d → x ≢ d
   another x h e q =
-      let k : is_no_depot s (next_depot s stop d) ≡ false = rw (← e) (assigned s depots stop a x h) in
-      let l : next_depot s stop d < depots_of s = omega (arith, a.count) in
-      let m = attempts_fall s a.sheet stop a.row d (next_depot s stop d) l (next_asked s stop d k) in
+      let k : is_no_depot s (next_depot s stop d) ≡ false = rw (← e) (lt-leb (depots_of s) x h) in
+      let l : next_depot s stop d < depots_of s = omega arith in
+      let m = attempts_fall s a stop row d (next_depot s stop d) l (next_asked s stop d k) in
       omega (arith, ap (attempts s stop) (sym e ∙ q))
 
-  pub turned_down : (r : Option ℕ) → unwrap_or r depots ≡ next_depot s stop (unwrap_or (then_some (ltb d depots) d) depots) → IfSome r (λ x. x < depots)
-      → (unwrap_or r d ≡ moves_to s true stop d) × IfSome r (λ x. (x < depots) × (x ≢ d))
+  pub turned_down : (r : Option ℕ) → unwrap_or r (depots_of s) ≡ next_depot s stop (unwrap_or (then_some (ltb d (depots_of s)) d) (depots_of s)) → IfSome r (λ x. x < depots_of s)
+      → (unwrap_or r d ≡ moves_to s true stop d) × IfSome r (λ x. (x < depots_of s) × (x ≢ d))
   unfolding moves_to
   turned_down None e b =
-      let n : depots ≡ next_depot s stop d = e ∙ same_next (ltb d depots) refl in
-      (rw (← n, unassigned s depots stop a depots (omega arith)), tt)
+      let n : depots_of s ≡ next_depot s stop d = e ∙ same_next (ltb d (depots_of s)) refl in
+      (rw (← n, le-leb (depots_of s) (depots_of s) (omega arith)), tt)
   turned_down (Some x) e b =
-      let n : x ≡ next_depot s stop d = e ∙ same_next (ltb d depots) refl in
-      (rw (← n, assigned s depots stop a x b), (b, another x b n))
+      let n : x ≡ next_depot s stop d = e ∙ same_next (ltb d (depots_of s)) refl in
+      (rw (← n, lt-leb (depots_of s) x b), (b, another x b n))

@@ -1,7 +1,7 @@
 -- What the functions ask, and what they leave in the tables that are lent.
 use Rattle.std.specs.Prelude.{◌≡◌, ℕ, ◌+◌, ◌≤◌, ◌<◌, ◌||◌, List, ◌++◌, eqb, length, get_or}
 use Rattle.lists.specs.Count.{count}
-use Rattle.sheet.specs.Fields.{rows_of, most_vehicles}
+use Rattle.sheet.specs.Fields.{rows_of}
 use Rattle.sheet.specs.Depots.{depots_of}
 use Rattle.sheet.specs.Accepted.{Accepted}
 use Rattle.sheet.specs.Fleet.{fleet_of}
@@ -13,17 +13,6 @@ use Rattle.constructive.specs.TableContents.{HoldsRounds}
 use Rattle.constructive.specs.declared.tables.Filled.{Filled}
 use Rattle.constructive.specs.Marks.{Marks, marked_by}
 use Rattle.multi_depot_offers.specs.ByDepot.{is_no_depot, construct_of}
-
--- a row of a sheet with so many depots
-pub record RowAsked (s : List ℕ) (depots stop : ℕ) : Type 0 where
-  pub sheet : Accepted s
-  pub count : depots ≡ depots_of s
-  pub row : stop < rows_of s
-
-pub record Offering (s : List ℕ) (depots : ℕ) (at : List ℕ) : Type 0 where
-  pub sheet : Accepted s
-  pub count : depots ≡ depots_of s
-  pub rows : length at ≡ rows_of s
 
 -- ---- marks: 1 for a row that is turned down, else 0
 -- no row of a depot is marked any more
@@ -40,20 +29,19 @@ unfoldable pub aside_by_marks : List ℕ → List ℕ → List ℕ → List ℕ
 aside_by_marks s at marks = stops_with s (λ c. is_no_depot s (get_or at c 0) || eqb (get_or marks c 0) 1)
 
 -- ---- the tables
-pub record PlanningTables (s at fleet stops ends vehicles : List ℕ) : Type 0 where
+-- (a clause: the tables may be shorter than a sheet has rows at most, if they do for this sheet)
+pub record PlanningTables (s at stops ends vehicles : List ℕ) : Type 0 where
   pub sheet : Accepted s
   pub rows : length at ≡ rows_of s
-  pub fleet_long : most_vehicles ≤ length fleet
   pub stopped : rows_of s ≤ length stops
   pub ended : rows_of s ≤ length ends
   pub driven : rows_of s ≤ length vehicles
 
 -- a depot's members in their table, each once, and room for their rounds behind what is filled
-pub record Ready (s : List ℕ) (depot : ℕ) (fleet stops ends vehicles : List ℕ) (f : Filled) (total : ℕ) : Type 0 where
+pub record Ready (s : List ℕ) (depot : ℕ) (stops ends vehicles : List ℕ) (f : Filled) (total : ℕ) : Type 0 where
   pub members : Members s depot stops f.routed total
   pub once : (x : ℕ) → count x (part stops f.routed total) ≤ 1
   pub room : Room ends vehicles f total
-  pub fleet_long : most_vehicles ≤ length fleet
 
 -- a depot, and room for its members behind what is filled
 pub record Next (s at : List ℕ) (depot : ℕ) (f : Filled) : Type 0 where

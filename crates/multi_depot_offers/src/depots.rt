@@ -1,9 +1,9 @@
 // The depots that a stop is offered to, nearest first.
-ghost use Rattle.std.specs.Prelude.{◌≡◌, ◌||◌, ◌<◌, ℕ, Option, IfSome, unwrap_or};
+ghost use Rattle.std.specs.Prelude.{◌≡◌, ◌||◌, ◌<◌, IfSome, unwrap_or};
 ghost use Rattle.std.specs.Option.{ForSome};
+ghost use Rattle.sheet.specs.Depots.{depots_of};
 ghost use Rattle.sheet.specs.Fields.{rows_of};
-ghost use Rattle.multi_depot_offers.specs.ByDepot.{has_vehicle, is_no_depot, sooner, asked_after, nearer, next_depot};
-ghost use Rattle.multi_depot_offers.specs.Promises.{RowAsked};
+ghost use Rattle.multi_depot_offers.specs.ByDepot.{has_vehicle, is_no_depot, sooner, asked_after, next_depot};
 
 use sheet::Sheet;
 
@@ -26,12 +26,12 @@ fn is_sooner(sheet: &Sheet, stop: usize, d: usize, e: usize) -> bool
 }
 
 // Whether depot d is asked: it has a vehicle, and is no nearer than `after`, if any.
-#[tactic(auto, using(crate::proofs::Asking::depot_row), unfolding(crate::specs::ByDepot::asked_after))]
-fn is_asked(sheet: &Sheet, depots: usize, stop: usize, after: Option<usize>, d: usize) -> bool
-    requires row_asked { RowAsked sheet.now depots stop }
-    requires after_bound { ForSome after (λ a. a < depots) }
-    requires d_lt_depots { d < depots }
-    ensures { result ≡ asked_after sheet.now stop (unwrap_or after depots) d }
+#[tactic(auto, unfolding(crate::specs::ByDepot::asked_after))]
+fn is_asked(sheet: &Sheet, stop: usize, after: Option<usize>, d: usize) -> bool
+    requires row { stop < rows_of sheet.now }
+    requires after_bound { ForSome after (λ a. a < depots_of sheet.now) }
+    requires d_lt_depots { d < depots_of sheet.now }
+    ensures { result ≡ asked_after sheet.now stop (unwrap_or after (depots_of sheet.now)) d }
 {
     let Some(after) = after else {
         return has_vehicle(sheet, d);
@@ -40,12 +40,11 @@ fn is_asked(sheet: &Sheet, depots: usize, stop: usize, after: Option<usize>, d: 
 }
 
 // Whether depot d is nearer than the nearest so far.
-#[tactic(auto, using(crate::proofs::Asking::depot_row))]
-fn wins(sheet: &Sheet, depots: usize, stop: usize, d: usize, best: Option<usize>) -> bool
-    requires row_asked { RowAsked sheet.now depots stop }
-    requires best_bound { ForSome best (λ b. b < depots) }
-    requires d_lt_depots { d < depots }
-    ensures { result ≡ (is_no_depot sheet.now (unwrap_or best depots) || sooner sheet.now stop d (unwrap_or best depots)) }
+fn wins(sheet: &Sheet, stop: usize, d: usize, best: Option<usize>) -> bool
+    requires row { stop < rows_of sheet.now }
+    requires best_bound { ForSome best (λ b. b < depots_of sheet.now) }
+    requires d_lt_depots { d < depots_of sheet.now }
+    ensures { result ≡ (is_no_depot sheet.now (unwrap_or best (depots_of sheet.now)) || sooner sheet.now stop d (unwrap_or best (depots_of sheet.now))) }
 {
     let Some(best) = best else {
         return true;
@@ -54,16 +53,17 @@ fn wins(sheet: &Sheet, depots: usize, stop: usize, d: usize, best: Option<usize>
 }
 
 // The nearest depot with a vehicle after `after`, or of all where that is none.
-pub fn next_depot(sheet: &Sheet, depots: usize, stop: usize, after: Option<usize>) -> Option<usize>
-    requires row_asked { RowAsked sheet.now depots stop }
-    requires after_bound { ForSome after (λ a. a < depots) }
-    ensures value { unwrap_or result depots ≡ next_depot sheet.now stop (unwrap_or after depots) }
-    ensures bound { IfSome result (λ d. d < depots) }
+pub fn next_depot(sheet: &Sheet, stop: usize, after: Option<usize>) -> Option<usize>
+    requires row { stop < rows_of sheet.now }
+    requires after_bound { ForSome after (λ a. a < depots_of sheet.now) }
+    ensures value { unwrap_or result (depots_of sheet.now) ≡ next_depot sheet.now stop (unwrap_or after (depots_of sheet.now)) }
+    ensures bound { IfSome result (λ d. d < depots_of sheet.now) }
 {
+    let depots = sheet.depots();
     let mut best = None;
     // Over numbers: a depot is a row of the sheet, and no slice stands behind it.
     for d in 0..depots {
-        if wins(sheet, depots, stop, d, best) && is_asked(sheet, depots, stop, after, d) {
+        if wins(sheet, stop, d, best) && is_asked(sheet, stop, after, d) {
             best = Some(d);
         }
     }

@@ -1,11 +1,12 @@
 // Rounds of offers: where each row goes at first, and where it goes once it is turned down.
 #![tactic(auto)]
 
-ghost use Rattle.std.specs.Prelude.{◌≡◌, ◌≢◌, false, ℕ, ◌≤◌, ◌<◌, length, get_or, replicate, Option, IfSome, unwrap_or};
-ghost use Rattle.constructive.specs.Members.{part};
-ghost use Rattle.constructive.specs.Marks.{Marks, marked_by};
+ghost use Rattle.std.specs.Prelude.{◌≡◌, ◌≢◌, false, ◌≤◌, ◌<◌, length, IfSome, unwrap_or};
+ghost use Rattle.sheet.specs.Depots.{depots_of};
+ghost use Rattle.sheet.specs.Fields.{rows_of};
+ghost use Rattle.constructive.specs.Marks.{Marks};
 ghost use Rattle.multi_depot_offers.specs.ByDepot.{planned_at, moves_to, after_offers, moved, first_depots};
-ghost use Rattle.multi_depot_offers.specs.Promises.{RowAsked, Offering, Cleared, Alike};
+ghost use Rattle.multi_depot_offers.specs.Promises.{Cleared, Alike};
 
 use sheet::Sheet;
 
@@ -13,12 +14,13 @@ mod depots;
 pub mod members;
 
 // Every row at its nearest depot with a vehicle; the table, in fixed memory, has the number of depots for none.
-pub fn first_at(sheet: &Sheet, depots: usize, at: &mut [u16])
-    requires { Offering sheet.now depots at.old }
+pub fn first_at(sheet: &Sheet, at: &mut [u16])
+    requires { length at.old ≡ rows_of sheet.now }
     ensures { at.new ≡ first_depots sheet.now }
 {
+    let depots = sheet.depots();
     for (row, home) in at.iter_mut().enumerate() {
-        *home = depots::next_depot(sheet, depots, row, None).unwrap_or(depots) as u16;
+        *home = depots::next_depot(sheet, row, None).unwrap_or(depots) as u16;
     }
 }
 
@@ -44,28 +46,29 @@ pub fn is_changed(before: &[u16], at: &[u16], depot: usize) -> bool
 }
 
 // The depot that a row at `depot` moves to: a stop turned down goes to its next depot, where there is one.
-fn moves_to(sheet: &Sheet, depots: usize, turned: bool, row: usize, depot: usize) -> Option<usize>
-    requires { RowAsked sheet.now depots row }
+fn moves_to(sheet: &Sheet, turned: bool, row: usize, depot: usize) -> Option<usize>
+    requires { row < rows_of sheet.now }
     ensures value { unwrap_or result depot ≡ moves_to sheet.now turned row depot }
-    ensures another { IfSome result (λ d. (d < depots) × (d ≢ depot)) }
+    ensures another { IfSome result (λ d. (d < depots_of sheet.now) × (d ≢ depot)) }
 {
     if !turned {
         return None;
     }
-    depots::next_depot(sheet, depots, row, (depot < depots).then_some(depot))
+    depots::next_depot(sheet, row, (depot < sheet.depots()).then_some(depot))
 }
 
 // Offers every stop turned down to its next depot; answers whether one has moved.
-pub fn offer(sheet: &Sheet, depots: usize, at: &mut [u16], marks: &[u16]) -> bool
-    requires offering { Offering sheet.now depots at.old }
+pub fn offer(sheet: &Sheet, at: &mut [u16], marks: &[u16]) -> bool
+    requires rows { length at.old ≡ rows_of sheet.now }
     requires marks { Marks sheet.now marks.now (planned_at sheet.now at.old).aside }
     ensures value { result ≡ moved at.old (after_offers sheet.now at.old) }
     ensures at_after { at.new ≡ after_offers sheet.now at.old }
 {
+    sheet.accepted();
     let mut any = false;
     for (row, home) in at.iter_mut().enumerate() {
         let here = *home as usize;
-        if let Some(next) = moves_to(sheet, depots, marks[row] == 1, row, here) {
+        if let Some(next) = moves_to(sheet, marks[row] == 1, row, here) {
             *home = next as u16;
             any = true;
         }

@@ -27,9 +27,9 @@ zeros_members s n e =
     those_alike (λ c. eqb (get_or (replicate n 0) c 0) 0) (λ c. true) (rows_of s - depots_of s) (depots_of s)
     (λ c l u. eq-eqb (get_or (replicate n 0) c 0) 0 (get_or-replicate n c 0 0 (omega arith)))
 
-module _ {s at₀ fleet stops ends vehicles : List ℕ} (lent : PlanningTables s at₀ fleet stops ends vehicles) {at : List ℕ} (zeros : at ≡ replicate (length at₀) 0) where
-  pub lent_zeros : PlanningTables s at fleet stops ends vehicles
-  lent_zeros = record { sheet = lent.sheet; rows = ap length zeros ∙ length-replicate {A = ℕ} (length at₀) 0 ∙ lent.rows; fleet_long = lent.fleet_long; stopped = lent.stopped; ended = lent.ended; driven = lent.driven }
+module _ {s at₀ stops ends vehicles : List ℕ} (lent : PlanningTables s at₀ stops ends vehicles) {at : List ℕ} (zeros : at ≡ replicate (length at₀) 0) where
+  pub lent_zeros : PlanningTables s at stops ends vehicles
+  lent_zeros = record { sheet = lent.sheet; rows = ap length zeros ∙ length-replicate {A = ℕ} (length at₀) 0 ∙ lent.rows; stopped = lent.stopped; ended = lent.ended; driven = lent.driven }
 
   members_all : members_of s at 0 ≡ all_stops s
   members_all = rw zeros (zeros_members s (length at₀) lent.rows)

@@ -22,14 +22,13 @@ use Rattle.constructive.specs.declared.tables.Filled.{Filled}
 use Rattle.constructive.specs.Outcome.{chains, stops_of}
 use Rattle.constructive.specs.Stored.{routed_in}
 use Rattle.constructive.specs.Laws.Stored.{chains_aside, length_chains}
-use Rattle.constructive.specs.Members.{part, members_of}
+use Rattle.constructive.specs.Members.{members_of}
 use Rattle.constructive.specs.Laws.TableContents.{empty, holds_none}
-use Rattle.constructive.specs.Marks.{marked_by}
 use Rattle.constructive.specs.Laws.Marks.{marks_more, marks_none}
 use Rattle.multi_depot_offers.specs.ByDepot.{planned_of, planned_upto}
 use Rattle.multi_depot_offers.specs.Laws.Once.{planned_keeps, one_more, upto_count}
 use Rattle.multi_depot_offers.specs.Laws.Rounds.{upto_routed}
-use Rattle.multi_depot_offers.specs.Promises.{PlanningTables, Next, Added, Planned}
+use Rattle.multi_depot_offers.specs.Promises.{Next, Added, Planned}
 use Rattle.multi_depot_planning.specs.DepotLaid.{DepotLaid}
 
 -- ---- room for the next members
@@ -83,9 +82,6 @@ module _ (s at marks : List ℕ) (d : ℕ) (long : rows_of s ≤ length marks)
       let j : done.routed + (k - done.routed) ≡ k = omega arith in
       rw (← j, ← g, laid.aside) (aside_known s at marks d long (k - done.routed) (omega (arith, n, ap length laid.aside)))
 
-  pub adds : {marks' : List ℕ} → marks' ≡ marked_by marks (part stops' done.routed total) → Added marks stops ends vehicles f (planned_of s d (members_of s at d)) marks' stops' ends' vehicles' done
-  adds marked = record { holds = laid.holds; turned = marked ∙ ap (marked_by marks) laid.aside }
-
 -- ---- behind the depots before it
 pub planned_more : {s : List ℕ} (at : List ℕ) {marks stops ends vehicles : List ℕ} (d : ℕ) {f : Filled} {marks' stops' ends' vehicles' : List ℕ} {done : Filled} → Planned s marks stops ends vehicles f (planned_upto s at d)
     → Added marks stops ends vehicles f (planned_of s d (members_of s at d)) marks' stops' ends' vehicles' done → Planned s marks' stops' ends' vehicles' done (planned_upto s at (d + 1))
@@ -98,21 +94,3 @@ planned_more {s} at {marks} d p a = rw (add-one d) (record {
 pub planned_none : (s at marks stops ends vehicles : List ℕ) → rows_of s ≤ length marks → Planned s (replicate (length marks) 0) stops ends vehicles empty (planned_upto s at 0)
 unfolding planned_upto
 planned_none s at marks stops ends vehicles h = record { holds = holds_none stops ends vehicles; turned = marks_none s marks h }
-
--- ---- the tables stay as long
-pub record Kept (marks₀ fleet₀ stops₀ ends₀ vehicles₀ marks fleet stops ends vehicles : List ℕ) : Type 0 where
-  pub marked : length marks ≡ length marks₀
-  pub fleet_long : length fleet ≡ length fleet₀
-  pub stopped : length stops ≡ length stops₀
-  pub ended : length ends ≡ length ends₀
-  pub driven : length vehicles ≡ length vehicles₀
-
-pub lent_still : {s at₀ marks₀ fleet₀ stops₀ ends₀ vehicles₀ at marks fleet stops ends vehicles : List ℕ} → PlanningTables s at₀ fleet₀ stops₀ ends₀ vehicles₀ → Kept marks₀ fleet₀ stops₀ ends₀ vehicles₀ marks fleet stops ends vehicles → length at ≡ rows_of s → PlanningTables s at fleet stops ends vehicles
-lent_still l k e = record {
-  sheet = l.sheet;
-  rows = e;
-  fleet_long = omega (arith, l.fleet_long, k.fleet_long);
-  stopped = omega (arith, l.stopped, k.stopped);
-  ended = omega (arith, l.ended, k.ended);
-  driven = omega (arith, l.driven, k.driven);
-}

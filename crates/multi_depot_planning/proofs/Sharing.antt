@@ -21,10 +21,9 @@ use Rattle.sheet.specs.Laws.Stops.{stops_count}
 use Rattle.sheet.specs.Fleet.{fleet_of}
 use Rattle.constructive.specs.declared.tables.Filled.{Filled}
 use Rattle.constructive.specs.Outcome.{Round, Outcome, chains, stops_of}
-use Rattle.constructive.specs.Members.{part, members_of, Gathers}
+use Rattle.constructive.specs.Members.{part, members_of}
 use Rattle.constructive.specs.Stored.{routed_in, filled_by, ends_from, vehicles_from, Stored}
 use Rattle.constructive.specs.Laws.Stored.{chains_aside, length_chains, length_routed, length_ends, length_vehicles}
-use Rattle.constructive.specs.Tables.{AsLong}
 use Rattle.constructive.specs.TableContents.{HoldsRounds}
 use Rattle.constructive.specs.Laws.TableContents.{holds_behind, holds_more}
 use Rattle.multi_depot_offers.specs.ByDepot.{construct_of, planned_of}
@@ -57,12 +56,9 @@ one_most : (b : Bool) → one b ≤ 1
 one_most true = omega arith
 one_most false = omega arith
 
-module _ {s at fleet stops ends vehicles : List ℕ} {depot : ℕ} {f : Filled} (lent : PlanningTables s at fleet stops ends vehicles) (next : Next s at depot f) where
+module _ {s at stops ends vehicles : List ℕ} {depot : ℕ} {f : Filled} (lent : PlanningTables s at stops ends vehicles) (next : Next s at depot f) where
   within : f.routed + length (members_of s at depot) ≤ length stops
   within = omega (arith, next.room, lent.stopped)
-
-  pub members_fit : Gathers s at × (f.routed + length (members_of s at depot) ≤ length stops)
-  members_fit = (record { sheet = lent.sheet; rows = lent.rows }, within)
 
   module _ {stops₁ : List ℕ} {total : ℕ} (counted : total ≡ f.routed + length (members_of s at depot)) (written : stops₁ ≡ write stops f.routed (members_of s at depot)) where
     long : length stops₁ ≡ length stops
@@ -98,7 +94,7 @@ module _ {s at fleet stops ends vehicles : List ℕ} {depot : ℕ} {f : Filled} 
       row : 0 < rows_of s
       row = let h = member_row s at depot 0 (omega (arith, some)) in omega arith
 
-      pub ready : Ready s depot fleet stops₁ ends vehicles f total
+      pub ready : Ready s depot stops₁ ends vehicles f total
       unfolding members_of
       ready = record {
         members = record {
@@ -114,7 +110,6 @@ module _ {s at fleet stops ends vehicles : List ℕ} {depot : ℕ} {f : Filled} 
         };
         once = λ x. rw there (omega (arith, stops_count s (λ c. eqb (get_or at c 0) depot) x, one_most (is_stop s x && eqb (get_or at x 0) depot)));
         room = record { rounds = next.rounds; ended = omega (arith, next.room, lent.ended); driven = omega (arith, next.room, lent.driven) };
-        fleet_long = lent.fleet_long;
       }
 
       outcome : construct_at s depot (part stops₁ f.routed total) ≡ planned_of s depot (members_of s at depot)

@@ -1,7 +1,7 @@
 // One planning: a depot with its members, and every depot in order. Stops turned down are marked.
 #![tactic(auto)]
 
-ghost use Rattle.std.specs.Prelude.{◌≡◌, ◌-◌, ◌≤◌, length};
+ghost use Rattle.std.specs.Prelude.{◌-◌, ◌≤◌, length};
 ghost use Rattle.sheet.specs.Depots.{depots_of};
 ghost use Rattle.sheet.specs.Fields.{rows_of};
 ghost use Rattle.sheet.specs.Stops.{all_stops};
@@ -20,12 +20,11 @@ use sheet::Sheet;
 fn lay_depot<const N: usize>(
     sheet: &Sheet,
     at: &[u16],
-    fleet: &mut [u16],
     tables: &mut RouteTables<N>,
     depot: usize,
     filled: Filled,
 ) -> (Filled, usize)
-    requires planning_tables { PlanningTables sheet.now at.now fleet.old tables.old.stops tables.old.ends tables.old.vehicles }
+    requires planning_tables { PlanningTables sheet.now at.now tables.old.stops tables.old.ends tables.old.vehicles }
     requires next { Next sheet.now at.now depot filled }
     ensures { DepotLaid tables.old.stops tables.old.ends tables.old.vehicles filled (planned_of sheet.now depot (members_of sheet.now at.now depot)) tables.new.stops tables.new.ends tables.new.vehicles result.0 result.1 }
 {
@@ -35,10 +34,10 @@ fn lay_depot<const N: usize>(
         return (filled, total);
     }
     if multi_depot_methods::saves_many(sheet.method(), total - from) {
-        let saved = multi_depot_methods::by_savings(sheet, depot, fleet, tables, filled, total);
+        let saved = multi_depot_methods::by_savings(sheet, depot, tables, filled, total);
         return (saved, total);
     }
-    let done = multi_depot_methods::construct(sheet, depot, fleet, tables, filled, total);
+    let done = multi_depot_methods::construct(sheet, depot, tables, filled, total);
     (done, total)
 }
 
@@ -47,17 +46,16 @@ pub fn plan_depot<const N: usize>(
     sheet: &Sheet,
     at: &[u16],
     marks: &mut [u16],
-    fleet: &mut [u16],
     tables: &mut RouteTables<N>,
     depot: usize,
     filled: Filled,
 ) -> Filled
-    requires planning_tables { PlanningTables sheet.now at.now fleet.old tables.old.stops tables.old.ends tables.old.vehicles }
+    requires planning_tables { PlanningTables sheet.now at.now tables.old.stops tables.old.ends tables.old.vehicles }
     requires next { Next sheet.now at.now depot filled × (rows_of sheet.now ≤ length marks.old) }
     ensures added { Added marks.old tables.old.stops tables.old.ends tables.old.vehicles filled (planned_of sheet.now depot (members_of sheet.now at.now depot)) marks.new tables.new.stops tables.new.ends tables.new.vehicles result }
     ensures as_long { AsLong tables.old.stops tables.old.ends tables.old.vehicles tables.new.stops tables.new.ends tables.new.vehicles }
 {
-    let (done, total) = lay_depot(sheet, at, fleet, tables, depot, filled);
+    let (done, total) = lay_depot(sheet, at, tables, depot, filled);
     constructive::marks::mark(marks, &tables.stops, done.routed, total);
     done
 }
@@ -65,17 +63,16 @@ pub fn plan_depot<const N: usize>(
 // Every depot in order.
 pub fn plan_depots<const N: usize>(
     sheet: &Sheet,
-    depots: usize,
     at: &[u16],
     marks: &mut [u16],
-    fleet: &mut [u16],
     tables: &mut RouteTables<N>,
 ) -> Filled
-    requires planning_tables { PlanningTables sheet.now at.now fleet.old tables.old.stops tables.old.ends tables.old.vehicles }
-    requires depots_value { (depots ≡ depots_of sheet.now) × (rows_of sheet.now ≤ length marks.old) }
+    requires planning_tables { PlanningTables sheet.now at.now tables.old.stops tables.old.ends tables.old.vehicles }
+    requires sheet_in_bounds { rows_of sheet.now ≤ length marks.old }
     ensures planned { Planned sheet.now marks.new tables.new.stops tables.new.ends tables.new.vehicles result (planned_at sheet.now at.now) }
     ensures as_long { AsLong tables.old.stops tables.old.ends tables.old.vehicles tables.new.stops tables.new.ends tables.new.vehicles }
 {
+    let depots = sheet.depots();
     marks.fill(0);
     let mut filled = Filled {
         rounds: 0,
@@ -83,7 +80,7 @@ pub fn plan_depots<const N: usize>(
     };
     // Over numbers: a depot is a row of the sheet, and no slice stands behind it.
     for depot in 0..depots {
-        filled = plan_depot(sheet, at, marks, fleet, tables, depot, filled);
+        filled = plan_depot(sheet, at, marks, tables, depot, filled);
     }
     filled
 }
@@ -92,10 +89,9 @@ pub fn plan_depots<const N: usize>(
 pub fn one_depot<const N: usize>(
     sheet: &Sheet,
     at: &mut [u16],
-    fleet: &mut [u16],
     tables: &mut RouteTables<N>,
 ) -> Filled
-    requires { PlanningTables sheet.now at.old fleet.old tables.old.stops tables.old.ends tables.old.vehicles }
+    requires { PlanningTables sheet.now at.old tables.old.stops tables.old.ends tables.old.vehicles }
     ensures { HoldsOutcome tables.new.stops tables.new.ends tables.new.vehicles result (rows_of sheet.now - depots_of sheet.now) (planned_of sheet.now 0 (all_stops sheet.now)) }
 {
     at.fill(0);
@@ -103,6 +99,6 @@ pub fn one_depot<const N: usize>(
         rounds: 0,
         routed: 0,
     };
-    let (done, _) = lay_depot(sheet, at, fleet, tables, 0, filled);
+    let (done, _) = lay_depot(sheet, at, tables, 0, filled);
     done
 }

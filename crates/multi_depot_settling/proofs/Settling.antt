@@ -4,8 +4,7 @@ use Prim.Native.Nat.{ℕ, zero, suc, ◌*◌, ◌≤◌, ◌<◌}
 use native.Mathlib.Omega.{arith}
 use mathlib.Core.Bool.{true, false}
 use mathlib.Core.List.{List}
-use lib.ListN.{length, take}
-use lib.Seq.{take_all}
+use lib.ListN.{length}
 use Rattle.sheet.specs.Fields.{rows_of}
 use Rattle.sheet.specs.Depots.{depots_of}
 use Rattle.sheet.specs.Accepted.{Accepted}
@@ -22,10 +21,6 @@ pub record Settling (s at : List ℕ) : Type 0 where
 pub begins : (s at : List ℕ) → at ≡ first_depots s → Settling s at
 unfolding settled_at
 begins s at e = rw e (record { long = length_first s; rounds = rows_of s * depots_of s; most = enough s; same = refl })
-
--- where the rows were before an offer
-pub copied : (before at : List ℕ) {before' : List ℕ} → length before ≡ length at → before' ≡ take (length before) at → before' ≡ at
-copied before at h e = e ∙ take_all (length before) at (omega arith)
 
 module _ (s at : List ℕ) (a : Accepted s) (g : Settling s at) where
   pub falls : moved at (after_offers s at) ≡ true → attempts_left s (after_offers s at) < attempts_left s at

@@ -68,7 +68,7 @@ module _ (s before at : List ℕ) (d : ℕ) (rows : length at ≡ rows_of s) (sa
   unfolding members_of
   members_alike = those_alike (λ c. eqb (get_or before c 0) d) (λ c. eqb (get_or at c 0) d) (rows_of s - depots_of s) (depots_of s) (λ c l u. same c (omega arith))
 
-  pub turned_alike : d < depots_of s → (c : ℕ) → c < rows_of s → get_or at c 0 ≡ d → is_in c (planned_at s before).aside ≡ is_in c (planned_at s at).aside
+  turned_alike : d < depots_of s → (c : ℕ) → c < rows_of s → get_or at c 0 ≡ d → is_in c (planned_at s before).aside ≡ is_in c (planned_at s at).aside
   turned_alike h c l e =
       let f : get_or before c 0 ≡ d = eqb-true (get_or before c 0) d (same c (omega arith) ∙ eq-eqb (get_or at c 0) d e) in
       turned_own s before c (omega arith)
@@ -144,26 +144,14 @@ pub record UpdatingMarks (s before at marks : List ℕ) (depot : ℕ) : Type 0 w
   pub done : (c : ℕ) → c < rows_of s → get_or at c 0 < depot → get_or marks c 0 ≡ one (is_in c (planned_at s at).aside)
   pub left : (c : ℕ) → c < rows_of s → depot ≤ get_or at c 0 → get_or marks c 0 ≡ one (is_in c (planned_at s before).aside)
 
-pub begins : (s before at marks : List ℕ) → Marks s marks (planned_at s before).aside → UpdatingMarks s before at marks 0
-begins s before at marks m = record { done = λ c l h. absurd (omega arith); left = λ c l h. m.mark c l }
-
 module _ {s before at marks : List ℕ} {d : ℕ} (r : UpdatingMarks s before at marks d) where
-  -- a depot more, whose rows are marked right
-  goes_on : {marks' : List ℕ} → ((c : ℕ) → c < rows_of s → get_or at c 0 ≡ d → get_or marks' c 0 ≡ one (is_in c (planned_at s at).aside)) → ((c : ℕ) → c < rows_of s → (get_or at c 0 ≡ d → ⊥) → get_or marks' c 0 ≡ get_or marks c 0) → UpdatingMarks s before at marks' (d + 1)
-  goes_on {marks'} right kept = record {
-    done = λ c l h. go c l h (eqb (get_or at c 0) d) refl;
-    left = λ c l h. kept c l (λ q. absurd (omega arith)) ∙ r.left c l (omega arith);
-  }
-    where
-      go : (c : ℕ) → c < rows_of s → get_or at c 0 < d + 1 → (b : Bool) → eqb (get_or at c 0) d ≡ b → get_or marks' c 0 ≡ one (is_in c (planned_at s at).aside)
-      go c l h true e = right c l (eqb-true (get_or at c 0) d e)
-      go c l h false e = kept c l (eqb-false (get_or at c 0) d e) ∙ r.done c l (omega (arith, eqb-false (get_or at c 0) d e))
-
+  -- a depot more, whose members are the same
   pub passes : length at ≡ rows_of s → d < depots_of s → Alike before at d → UpdatingMarks s before at marks (d + 1)
-  passes rows h same = goes_on (λ c l e. r.left c l (omega arith) ∙ ap one (turned_alike s before at d rows same h c l e)) (λ c l e. refl)
-
-  pub remarks : {marks' : List ℕ} → MarksUpdated s at marks d marks' → UpdatingMarks s before at marks' (d + 1)
-  remarks m = goes_on m.mark m.kept
+  passes rows h same = record { done = λ c l k. go c l k (eqb (get_or at c 0) d) refl; left = λ c l k. r.left c l (omega arith) }
+    where
+      go : (c : ℕ) → c < rows_of s → get_or at c 0 < d + 1 → (b : Bool) → eqb (get_or at c 0) d ≡ b → get_or marks c 0 ≡ one (is_in c (planned_at s at).aside)
+      go c l k true e = let q = eqb-true (get_or at c 0) d e in r.left c l (omega arith) ∙ ap one (turned_alike s before at d rows same h c l q)
+      go c l k false e = r.done c l (omega (arith, eqb-false (get_or at c 0) d e))
 
   pub ends : depots_of s ≤ d → at ≡ after_offers s before → rows_of s ≤ length marks → Marks s marks (planned_at s at).aside
   ends h e long = record { long = long; mark = λ c l. go c l (ltb (get_or at c 0) d) refl }

@@ -18,11 +18,10 @@ fn update_marks<const N: usize>(
     sheet: &Sheet,
     at: &[u16],
     marks: &mut [u16],
-    fleet: &mut [u16],
     tables: &mut RouteTables<N>,
     depot: usize,
 )
-    requires planning_tables { PlanningTables sheet.now at.now fleet.old tables.old.stops tables.old.ends tables.old.vehicles }
+    requires planning_tables { PlanningTables sheet.now at.now tables.old.stops tables.old.ends tables.old.vehicles }
     requires depot_bound { (depot < depots_of sheet.now) × (rows_of sheet.now ≤ length marks.old) }
     ensures marks_updated { MarksUpdated sheet.now at.now marks.old depot marks.new }
     ensures as_long { AsLong tables.old.stops tables.old.ends tables.old.vehicles tables.new.stops tables.new.ends tables.new.vehicles }
@@ -32,31 +31,30 @@ fn update_marks<const N: usize>(
         rounds: 0,
         routed: 0,
     };
-    multi_depot_planning::plan_depot(sheet, at, marks, fleet, tables, depot, filled);
+    multi_depot_planning::plan_depot(sheet, at, marks, tables, depot, filled);
 }
 
 // The marks after an offer. A depot whose members are the same turns the same ones down, so that it is not planned.
 fn update_changed<const N: usize>(
     sheet: &Sheet,
-    depots: usize,
     before: &[u16],
     at: &[u16],
     marks: &mut [u16],
-    fleet: &mut [u16],
     tables: &mut RouteTables<N>,
 )
-    requires planning_tables { PlanningTables sheet.now at.now fleet.old tables.old.stops tables.old.ends tables.old.vehicles }
-    requires depots_value { (depots ≡ depots_of sheet.now) × (at.now ≡ after_offers sheet.now before.now) }
+    requires planning_tables { PlanningTables sheet.now at.now tables.old.stops tables.old.ends tables.old.vehicles }
+    requires at_value { at.now ≡ after_offers sheet.now before.now }
     requires marks { Marks sheet.now marks.old (planned_at sheet.now before.now).aside }
     ensures marks_after { Marks sheet.now marks.new (planned_at sheet.now at.now).aside }
     ensures as_long { AsLong tables.old.stops tables.old.ends tables.old.vehicles tables.new.stops tables.new.ends tables.new.vehicles }
 {
+    let depots = sheet.depots();
     // Over numbers: a depot is a row of the sheet, and no slice stands behind it.
     for depot in 0..depots {
         if !multi_depot_offers::is_changed(before, at, depot) {
             continue;
         }
-        update_marks(sheet, at, marks, fleet, tables, depot);
+        update_marks(sheet, at, marks, tables, depot);
     }
 }
 
@@ -64,15 +62,13 @@ fn update_changed<const N: usize>(
 // is lost then.
 pub fn settle<const N: usize>(
     sheet: &Sheet,
-    depots: usize,
     before: &mut [u16],
     at: &mut [u16],
     marks: &mut [u16],
-    fleet: &mut [u16],
     tables: &mut RouteTables<N>,
 ) -> bool
-    requires planning_tables { PlanningTables sheet.now at.old fleet.old tables.old.stops tables.old.ends tables.old.vehicles }
-    requires depots_value { (depots ≡ depots_of sheet.now) × (length before.old ≡ rows_of sheet.now) }
+    requires planning_tables { PlanningTables sheet.now at.old tables.old.stops tables.old.ends tables.old.vehicles }
+    requires before_len { length before.old ≡ rows_of sheet.now }
     requires at_value { (at.old ≡ first_depots sheet.now) × Marks sheet.now marks.old (planned_at sheet.now at.old).aside }
     ensures at_after { at.new ≡ settled_at sheet.now }
     ensures untouched { result ≡ false → Untouched at.old marks.old tables.old.stops tables.old.ends tables.old.vehicles at.new marks.new tables.new.stops tables.new.ends tables.new.vehicles }
@@ -81,10 +77,10 @@ pub fn settle<const N: usize>(
     let mut any = false;
     'offers: loop {
         sorting::copy(at, before);
-        if !multi_depot_offers::offer(sheet, depots, at, marks) {
+        if !multi_depot_offers::offer(sheet, at, marks) {
             break 'offers;
         }
-        update_changed(sheet, depots, before, at, marks, fleet, tables);
+        update_changed(sheet, before, at, marks, tables);
         any = true;
     }
     any

@@ -8,8 +8,9 @@ use mathlib.Core.Bool.{cond}
 use mathlib.Core.List.{List, [], ◌∷◌, ◌++◌}
 use borrow.Author.Tests.{ne_eqb}
 use lib.Dec.{eqb}
-use lib.ListN.{length, length-append}
+use lib.ListN.{length}
 use lib.Ieee.{Float}
+use Rattle.std.proofs.lemmas.List.{length_push}
 use Rattle.sheet.specs.Fields.{rows_of}
 use Rattle.sheet.specs.Accepted.{Accepted}
 use Rattle.sheet.specs.Values.{demand_of, stop_of, vehicle_of, distance_of, time_of}
@@ -59,9 +60,6 @@ pub record Driven (s : List ℕ) (depot : ℕ) (trip : Trip) : Type 0 where
   pub from : trip.current < rows_of s
   pub load : trip.load ≤ 1000000 * length trip.stops
 
-one_more : (stops : List ℕ) (i : ℕ) → length (stops ++ (i ∷ [])) ≡ length stops + 1
-one_more stops i = length-append stops (i ∷ [])
-
 -- ---- with a stop as the last
 module _ (s : List ℕ) (depot : ℕ) (v : Vehicle) (limits : RouteLimits) (trip : Trip) (ok : Driven s depot trip) (i : ℕ) where
   -- the clock, pushed once, is that of the round with the stop
@@ -107,8 +105,8 @@ pushed_on s depot (Some b) stops i =
 
 pub drives_on : (s : List ℕ) (depot : ℕ) (rest : Option VehicleBreak) (trip : Trip) (h : Heuristic) (index i : ℕ) → onward_by s h (ride_of s depot rest trip) i ≡ ride_of s depot rest ((rule_of s depot h index).onward trip i)
 unfolding onward_by clock_by rule_of nearest_onward window_onward
-drives_on s depot rest trip Nearest index i = rw (pushed_on s depot rest trip.stops i, one_more trip.stops i)
-drives_on s depot rest trip (NearestTw soft) index i = rw (pushed_on s depot rest trip.stops i, one_more trip.stops i)
+drives_on s depot rest trip Nearest index i = rw (pushed_on s depot rest trip.stops i, length_push trip.stops i)
+drives_on s depot rest trip (NearestTw soft) index i = rw (pushed_on s depot rest trip.stops i, length_push trip.stops i)
 
 -- the figures stay those of the stops
 pub stays_driven : (s : List ℕ) (depot : ℕ) (trip : Trip) (h : Heuristic) (index i : ℕ) → Accepted s → Driven s depot trip → i < rows_of s → Driven s depot ((rule_of s depot h index).onward trip i)
@@ -122,7 +120,7 @@ stays_driven s depot trip h index i fine ok k = go h
     far rest = more_distance s (at_start rest depot) trip.stops i ∙ rw (ok.far rest, ok.last rest)
 
     load : trip.load + demand_of s i ≤ 1000000 * length (trip.stops ++ (i ∷ []))
-    load = omega (arith, ok.load, demand_bounded s fine i k, one_more trip.stops i)
+    load = omega (arith, ok.load, demand_bounded s fine i k, length_push trip.stops i)
 
     go : (h : Heuristic) → Driven s depot ((rule_of s depot h index).onward trip i)
     go Nearest = record { last = last; far = far; from = k; load = load }

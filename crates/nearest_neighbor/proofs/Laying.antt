@@ -7,6 +7,7 @@ use native.Mathlib.Omega.{arith}
 use mathlib.Core.List.{List, [], ◌∷◌, ◌++◌, append-nil}
 use lib.ListN.{length, get_or, take, drop, length-append, length-drop}
 use lib.Seq.{length-take-le, drop-cons, drop-length, append_snoc}
+use Rattle.std.proofs.lemmas.List.{nil_from_length}
 use Rattle.lists.specs.Every.{Every}
 use Rattle.lists.specs.Laws.Every.{every_of, every_at}
 use Rattle.wire.specs.Bytes.{write}
@@ -230,11 +231,7 @@ module _ (s : List ℕ) (depot : ℕ) (h : Heuristic) (fleet stops₀ ends₀ ve
       laid_at = p ∙ ap (λ (l : List ℕ). write stops f.routed ((vehicle_round (rule_of s depot h index) depot l).stops ++ (vehicle_round (rule_of s depot h index) depot l).left)) left_part
 
       pub passes_on : at ≡ f.routed → Laying s depot h fleet stops₀ ends₀ vehicles₀ f₀ total stops' ends vehicles f (k + 1) end
-      passes_on u = passed stops' laid_at (nothing grown.stops (omega (arith, ended_at)))
-        where
-          nothing : (l : List ℕ) → length l ≡ 0 → l ≡ []
-          nothing [] z = refl
-          nothing (x ∷ xs) z = absurd (omega arith)
+      passes_on u = passed stops' laid_at (nil_from_length grown.stops (omega (arith, ended_at)))
 
       module _ (some : at ≡ f.routed → ⊥) where
         has_some : 0 < length grown.stops

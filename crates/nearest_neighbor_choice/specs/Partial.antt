@@ -112,6 +112,7 @@ ClockKept s None = Unit
 ClockKept s (Some c) = Clocked s c
 
 -- on an accepted sheet, at a row, with at most a million a stop loaded, and room for one stop more
+-- (a clause, not an invariant: it is a fact of both, and with the sheet in it each definition would have to take it apart)
 pub record PartialRoute (s : List ℕ) (partial : Partial) : Type 0 where
   pub sheet : Accepted s
   pub from : partial.current < rows_of s

@@ -1,4 +1,3 @@
-pub mod Run
 pub mod Visiting
 pub mod Rounding
 pub mod Chaining

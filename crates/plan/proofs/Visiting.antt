@@ -16,13 +16,6 @@ use Rattle.evaluator.proofs.Going.{Going}
 use Rattle.plan.specs.Plan.{first_of, row_record_at, visit_bytes, with_visits}
 use Rattle.plan.specs.Writable.{VisitWritable, VisitsWritable}
 
--- ---- the links of a chain
-pub link_stop : (chain : List ℕ) (i : ℕ) → i < length chain → get_or chain i 0 ≡ first_of (drop i chain)
-link_stop chain i h = rw (drop-cons chain i 0 h)
-
-pub link_end : (chain : List ℕ) (i : ℕ) → length chain ≤ i → 0 ≡ first_of (drop i chain)
-link_end chain i h = rw (drop_of_length-le chain h)
-
 -- ---- after i stops
 pub record Visiting (s : List ℕ) (depot : ℕ) (t : Placed) (route before plan : List ℕ) (p : Progress) (i : ℕ) : Type 0 where
   pub going : Going s depot t route p i

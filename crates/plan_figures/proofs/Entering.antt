@@ -1,15 +1,36 @@
 -- A plan let in at the door, with its rounds' figures. Assumes nothing.
-use Prim.Native.Nat.{ℕ}
+use Prim.Native.Nat.{ℕ, ◌≤◌}
+use native.Mathlib.Omega.{arith}
+use mathlib.Core.Path.{◌≡◌}
 use mathlib.Core.Bool.{Bool}
-use mathlib.Core.List.{List}
-use lib.Ieee.{Float}
+use mathlib.Core.List.{List, ◌++◌}
+use Rattle.std.specs.Prelude.{map}
+use Rattle.std.proofs.lemmas.List.{length-map}
+use lib.ListN.{length, take}
+use lib.Seq.{take_at, length-take-le}
+use Rattle.sheet.specs.Fields.{most_rows}
 use Rattle.constructive.specs.Outcome.{rounds_in, outcome_in}
+use Rattle.constructive.specs.Laws.Stored.{length_rounds}
 use Rattle.constructive.proofs.InTables.{rounds_of_lem}
 use Rattle.plan_reader.specs.Reading.{stop_count}
 use Rattle.plan_door.specs.Door.{LetIn}
-use Rattle.plan_figures.specs.Walked.{FiguresIn, Walked}
+use Rattle.plan_figures.specs.declared.RouteFigures.{RouteFigures}
+use Rattle.plan_figures.specs.Walked.{route_figures, Walked}
 
-module _ (s plan : List ℕ) (room one : Bool) (stops ends vehicles : List ℕ) where
-  pub walked : (n : ℕ) (distances durations : List Float) → LetIn s plan room one stops ends vehicles n → FiguresIn s (rounds_in stops ends vehicles n 0 0) distances durations → Walked s plan room one distances durations n
+module _ (s plan : List ℕ) (room one : Bool) (stops ends vehicles : List ℕ) (n : ℕ) (e : LetIn s plan room one stops ends vehicles n) where
+  -- the table has a place for each round
+  pub placed : (table : List RouteFigures) → most_rows ≤ length table → length (take n table) ≡ n
+  placed table h = length-take-le n table (omega (arith, e.read.tables.few, e.sheet.sized.rows))
+
+  pub walked : (front rest : List RouteFigures) → front ≡ map (route_figures s) (rounds_in stops ends vehicles n 0 0) → Walked s plan room one (front ++ rest) n
   unfolding outcome_in
-  walked n distances durations e f = record { free = e.free; sheet = e.sheet; right = e.read.right; rounds = e.read.rounds; driven = rw (← e.read.outcome) (rounds_of_lem s stops ends vehicles n (stop_count s) e.read.tables); figures = rw (← e.read.outcome) f }
+  walked front rest f =
+      let l : length front ≡ n = rw (f, length-map) (length_rounds stops ends vehicles n 0 0) in
+      record {
+        free = e.free;
+        sheet = e.sheet;
+        right = e.read.right;
+        rounds = e.read.rounds;
+        driven = rw (← e.read.outcome) (rounds_of_lem s stops ends vehicles n (stop_count s) e.read.tables);
+        figures = rw (take_at front rest n l, ← e.read.outcome) f;
+      }

@@ -41,53 +41,49 @@ pub record Following (s plan : List ℕ) (first : ℕ) (before : List ℕ) (from
   pub same : take from before ++ chain_of s plan first ≡ take at stops ++ chain_from plan (rows_of s) (rows_of s - (at - from)) link
   pub links : T (links_right s (take at stops))
 
-module _ (s plan : List ℕ) (first : ℕ) (before : List ℕ) (from : ℕ) where
+module _ {s plan : List ℕ} {first : ℕ} {before : List ℕ} {from : ℕ} {stops : List ℕ} {link at : ℕ} (g : Following s plan first before from stops link at) where
   abbrev rows : List ℕ
   rows = take from before ++ chain_of s plan first
 
-  pub begins : from ≤ stop_count s → T (links_right s (take from before)) → Following s plan first before from before first from
-  begins h t = let e : rows_of s - (from - from) ≡ rows_of s = omega arith in record { low = omega arith; room = h; long = refl; same = rw e; links = t }
+  head : (link ≡ 0 → ⊥) → (rest : List ℕ) × (rows ≡ take at stops ++ (link ∷ rest))
+  head d =
+      let c = chain_head plan (rows_of s) (rows_of s - (at - from)) link d in
+      (c.0, g.same ∙ ap (λ (l : List ℕ). take at stops ++ l) c.1)
 
-  module _ (stops : List ℕ) (link at : ℕ) (g : Following s plan first before from stops link at) where
-    head : (link ≡ 0 → ⊥) → (rest : List ℕ) × (rows ≡ take at stops ++ (link ∷ rest))
-    head d =
-        let c = chain_head plan (rows_of s) (rows_of s - (at - from)) link d in
-        (c.0, g.same ∙ ap (λ (l : List ℕ). take at stops ++ l) c.1)
+  -- a link to no stop
+  pub no_stop : (link ≡ 0 → ⊥) → ((depots_of s ≤ link) × (link < rows_of s) → ⊥) → T (links_right s rows) → stop_count s < length rows
+  no_stop d n t = let h = head d in absurd (n (links_mid s (take at stops) link h.0 (subst (λ (l : List ℕ). T (links_right s l)) h.1 t)))
 
-    -- a link to no stop
-    pub no_stop : (link ≡ 0 → ⊥) → ((depots_of s ≤ link) × (link < rows_of s) → ⊥) → T (links_right s rows) → stop_count s < length rows
-    no_stop d n t = let h = head d in absurd (n (links_mid s (take at stops) link h.0 (subst (λ (l : List ℕ). T (links_right s l)) h.1 t)))
+  -- a stop more than there are
+  pub no_room : (link ≡ 0 → ⊥) → rows_of s ≤ length stops → stop_count s ≤ at → stop_count s < length rows
+  no_room d l h =
+      let c = head d in
+      let k = length-take-le at stops (omega (arith, g.room)) in
+      rw c.1 (omega (arith, length-append (take at stops) (link ∷ c.0)))
 
-    -- a stop more than there are
-    pub no_room : (link ≡ 0 → ⊥) → rows_of s ≤ length stops → stop_count s ≤ at → stop_count s < length rows
-    no_room d l h =
-        let c = head d in
-        let k = length-take-le at stops (omega (arith, g.room)) in
-        rw c.1 (omega (arith, length-append (take at stops) (link ∷ c.0)))
+  module _ (low : depots_of s ≤ link) (high : link < rows_of s) (more : at < stop_count s) (size : rows_of s ≤ length stops) where
+    taken : take (at + 1) (set stops at link) ≡ take at stops ++ (link ∷ [])
+    taken = rw (add-one at) (take-suc-set stops at link (omega arith))
 
-    module _ (low : depots_of s ≤ link) (high : link < rows_of s) (more : at < stop_count s) (size : rows_of s ≤ length stops) where
-      taken : take (at + 1) (set stops at link) ≡ take at stops ++ (link ∷ [])
-      taken = rw (add-one at) (take-suc-set stops at link (omega arith))
+    step : (link ≡ 0 → ⊥) → rows ≡ take (at + 1) (set stops at link) ++ chain_from plan (rows_of s) (rows_of s - (at + 1 - from)) (next_at plan (rows_of s) link)
+    step d =
+        let e : rows_of s - (at - from) ≡ suc (rows_of s - (at + 1 - from)) = omega (arith, g.low) in
+        g.same
+        ∙ ap (λ (m : ℕ). take at stops ++ chain_from plan (rows_of s) m link) e
+        ∙ ap (λ (l : List ℕ). take at stops ++ l) (chain_more plan (rows_of s) (rows_of s - (at + 1 - from)) link d)
+        ∙ sym (ap (λ (l : List ℕ). l ++ chain_from plan (rows_of s) (rows_of s - (at + 1 - from)) (next_at plan (rows_of s) link)) taken
+        ∙ append_assoc (take at stops) (link ∷ []) _)
 
-      step : (link ≡ 0 → ⊥) → rows ≡ take (at + 1) (set stops at link) ++ chain_from plan (rows_of s) (rows_of s - (at + 1 - from)) (next_at plan (rows_of s) link)
-      step d =
-          let e : rows_of s - (at - from) ≡ suc (rows_of s - (at + 1 - from)) = omega (arith, g.low) in
-          g.same
-          ∙ ap (λ (m : ℕ). take at stops ++ chain_from plan (rows_of s) m link) e
-          ∙ ap (λ (l : List ℕ). take at stops ++ l) (chain_more plan (rows_of s) (rows_of s - (at + 1 - from)) link d)
-          ∙ sym (ap (λ (l : List ℕ). l ++ chain_from plan (rows_of s) (rows_of s - (at + 1 - from)) (next_at plan (rows_of s) link)) taken
-          ∙ append_assoc (take at stops) (link ∷ []) _)
+    pub goes_on : (after : List ℕ) (next : ℕ) → (link ≡ 0 → ⊥) → after ≡ set stops at link → next ≡ next_at plan (rows_of s) link → Following s plan first before from after next (at + 1)
+    goes_on after next d w e = record {
+      low = omega (arith, g.low);
+      room = omega arith;
+      long = rw w (length-set stops at link ∙ g.long);
+      same = rw (w, e) (step d);
+      links = rw (w, taken) (links_join s (take at stops) (link ∷ []) g.links (links_one s link low high));
+    }
 
-      pub goes_on : (after : List ℕ) (next : ℕ) → (link ≡ 0 → ⊥) → after ≡ set stops at link → next ≡ next_at plan (rows_of s) link → Following s plan first before from after next (at + 1)
-      goes_on after next d w e = record {
-        low = omega (arith, g.low);
-        room = omega arith;
-        long = rw w (length-set stops at link ∙ g.long);
-        same = rw (w, e) (step d);
-        links = rw (w, taken) (links_join s (take at stops) (link ∷ []) g.links (links_one s link low high));
-      }
-
-    pub ends : link ≡ 0 → Followed s rows stops at
-    ends z =
-        let e : rows ≡ take at stops = g.same ∙ ap (λ (l : ℕ). take at stops ++ chain_from plan (rows_of s) (rows_of s - (at - from)) l) z ∙ ap (λ (l : List ℕ). take at stops ++ l) (chain_end plan (rows_of s) (rows_of s - (at - from))) ∙ append-nil (take at stops) in
-        record { room = g.room; same = e; links = rw e g.links }
+  pub ends : link ≡ 0 → Followed s rows stops at
+  ends z =
+      let e : rows ≡ take at stops = g.same ∙ ap (λ (l : ℕ). take at stops ++ chain_from plan (rows_of s) (rows_of s - (at - from)) l) z ∙ ap (λ (l : List ℕ). take at stops ++ l) (chain_end plan (rows_of s) (rows_of s - (at - from))) ∙ append-nil (take at stops) in
+      record { room = g.room; same = e; links = rw e g.links }

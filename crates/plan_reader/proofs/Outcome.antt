@@ -25,7 +25,7 @@ use Rattle.plan_reader.proofs.Rounding.{breaks, round_kept}
 pub too_many : (s plan : List ℕ) → rows_of s < rounds_at plan → plan_right s plan ≡ false
 too_many s plan h = wrong s plan (λ r. let f = r.few in omega arith)
 
-module _ (s plan stops ends vehicles : List ℕ) (at : ℕ) (g : RoundsRead s plan stops ends vehicles (rounds_at plan) at) (few : rounds_at plan ≤ rows_of s) (size : rows_of s ≤ length stops) where
+module _ {s plan stops ends vehicles : List ℕ} {at : ℕ} (g : RoundsRead s plan stops ends vehicles (rounds_at plan) at) (few : rounds_at plan ≤ rows_of s) (size : rows_of s ≤ length stops) where
   abbrev aside : List ℕ
   aside = chain_of s plan (aside_at plan)
 
@@ -53,12 +53,9 @@ module _ (s plan stops ends vehicles : List ℕ) (at : ℕ) (g : RoundsRead s pl
       }
   chained after None long f = breaks s plan (take at stops ++ aside) [] (whole ∙ sym (append-nil (take at stops ++ aside))) f
 
-pub chains_told : (s plan stops ends vehicles : List ℕ) {r v : Option ℕ} → r ≡ v → ChainsAs s plan r stops ends vehicles → ChainsAs s plan v stops ends vehicles
-chains_told s plan stops ends vehicles q f = subst (λ (x : Option ℕ). ChainsAs s plan x stops ends vehicles) q f
-
 -- ---- every chain is read
-module _ (s plan stops ends vehicles : List ℕ) (lent : ReaderTables s plan stops ends vehicles) (total : ℕ) (g : ChainsRead s plan stops ends vehicles total) where
-  pub within : total ≤ length stops
+module _ {s plan stops ends vehicles : List ℕ} (lent : ReaderTables s plan stops ends vehicles) {total : ℕ} (g : ChainsRead s plan stops ends vehicles total) where
+  within : total ≤ length stops
   within = omega (arith, g.room, lent.rows)
 
   pub fails : each_once s (take total stops) ≡ false → plan_right s plan ≡ false

@@ -1,5 +1,5 @@
 -- The loop over the rounds: the chains so far, with those that are left, are all of the plan's. Assumes nothing.
-use Rattle.std.specs.Prelude.{Option, ℕ}
+use Rattle.std.specs.Prelude.{ℕ}
 use mathlib.Core.Path.{◌≡◌, refl, sym, ap, ◌∙◌, subst}
 use Prim.Native.Nat.{ℕ, zero, suc, ◌+◌, ◌-◌, ◌≤◌, ◌<◌}
 use native.Mathlib.Numerals.{add-one}
@@ -13,20 +13,15 @@ use borrow.Author.Tests.{eqb-true, eqb-false}
 use Rattle.sheet.specs.Fields.{rows_of, vehicles_of}
 use Rattle.sheet.specs.Fleet.{index_of}
 use Rattle.constructive.specs.Outcome.{start_in, chains, stops_of}
+use Rattle.constructive.specs.Tables.{AsLong}
 use Rattle.constructive.specs.Right.{links_right}
 use Rattle.plan.specs.Read.{rounds_at, aside_at, id_at, first_stop_at, chain_of, rounds_from, read_plan, plan_right}
 use Rattle.plan_reader.specs.Reading.{stop_count, ReaderTables}
-use Rattle.plan_reader.specs.Chains.{Followed, FollowedAs, RoundRead, RoundsRead, RoundsAs}
+use Rattle.plan_reader.specs.Chains.{Followed, RoundRead, RoundsRead}
 use Rattle.plan_reader.specs.Laws.Links.{links_front}
 use Rattle.plan_reader.specs.Laws.Tally.{once_length}
 use Rattle.plan_reader.specs.Laws.Right.{wrong}
 use Rattle.plan_reader.proofs.Splitting.{part_kept, reaches, keeps, lies}
-
--- a chain by the link that was read and the answer that was given
-pub told : (s plan before after : List ℕ) (at : ℕ) {first link : ℕ} {r v : Option ℕ} → first ≡ link → r ≡ v → FollowedAs s (take at before ++ chain_of s plan first) r after → FollowedAs s (take at before ++ chain_of s plan link) v after
-told s plan before after at {first = first} {v = v} e q f =
-    subst (λ (x : ℕ). FollowedAs s (take at before ++ chain_of s plan x) v after) e
-    (subst (λ (x : Option ℕ). FollowedAs s (take at before ++ chain_of s plan first) x after) q f)
 
 -- ---- a chain that breaks is no right plan's
 pub breaks : (s plan rows rest : List ℕ) → stops_of (read_plan s plan) ≡ rows ++ rest → (T (links_right s rows) → stop_count s < length rows) → plan_right s plan ≡ false
@@ -71,7 +66,7 @@ start_kept : (ends : List ℕ) (k end j : ℕ) → j ≤ k → start_in (set end
 start_kept ends k end zero h = refl
 start_kept ends k end (suc j) h = get_or-set_other ends k j end 0 (λ e. omega arith)
 
-module _ (s plan stops ends vehicles : List ℕ) (k at : ℕ) (g : RoundsRead s plan stops ends vehicles k at) (more : k < rounds_at plan) where
+module _ {s plan stops ends vehicles : List ℕ} {k at : ℕ} (g : RoundsRead s plan stops ends vehicles k at) (more : k < rounds_at plan) where
   abbrev rows : List ℕ
   rows = take at stops ++ chain_of s plan (first_stop_at plan k)
 
@@ -136,16 +131,6 @@ module _ (s plan stops ends vehicles : List ℕ) (k at : ℕ) (g : RoundsRead s 
         go j l true e = rw (eqb-true j k e) (new i h)
         go j l false e = kept j (omega (arith, eqb-false j k e))
 
--- ---- the tables after k rounds: as long as they were
-pub record Going (s plan stops₀ ends₀ vehicles₀ stops ends vehicles : List ℕ) (k at : ℕ) : Type 0 where
-  pub rows : length stops ≡ length stops₀
-  pub ended : length ends ≡ length ends₀
-  pub fleet : length vehicles ≡ length vehicles₀
-  pub read : RoundsRead s plan stops ends vehicles k at
-
-pub lent : (s plan : List ℕ) {stops₀ ends₀ vehicles₀ stops ends vehicles : List ℕ} → ReaderTables s plan stops₀ ends₀ vehicles₀ → length stops ≡ length stops₀ → length ends ≡ length ends₀ → length vehicles ≡ length vehicles₀ → ReaderTables s plan stops ends vehicles
-lent s plan l a b c = record { sheet = l.sheet; planned = l.planned; rows = rw a l.rows; ended = rw b l.ended; fleet = rw c l.fleet }
-
--- the rounds by the answer that was given
-pub rounds_told : (s plan stops ends vehicles : List ℕ) (k : ℕ) {r v : Option ℕ} → r ≡ v → RoundsAs s plan k r stops ends vehicles → RoundsAs s plan k v stops ends vehicles
-rounds_told s plan stops ends vehicles k q f = subst (λ (x : Option ℕ). RoundsAs s plan k x stops ends vehicles) q f
+-- ---- tables that are as long as they were
+pub lent : {s plan stops₀ ends₀ vehicles₀ stops ends vehicles : List ℕ} → ReaderTables s plan stops₀ ends₀ vehicles₀ → AsLong stops₀ ends₀ vehicles₀ stops ends vehicles → ReaderTables s plan stops ends vehicles
+lent l a = record { sheet = l.sheet; planned = l.planned; rows = rw a.stopped l.rows; ended = rw a.ended l.ended; fleet = rw a.driven l.fleet }

@@ -11,7 +11,7 @@ use Rattle.plan.specs.Read.{rounds_at, read_plan, plan_right}
 abbrev pub stop_count : List ℕ → ℕ
 stop_count s = rows_of s - depots_of s
 
--- an accepted sheet, a plan of its length, and tables with room for every row
+-- an accepted sheet, a plan of its length, and tables with room for every row (a clause: of the sheet, the plan and the tables)
 pub record ReaderTables (s plan stops ends vehicles : List ℕ) : Type 0 where
   pub sheet : Accepted s
   pub planned : length plan ≡ plan_length s

@@ -2,7 +2,6 @@
 #![tactic(auto)]
 
 ghost use Rattle.std.specs.Prelude.{◌≡◌, ℕ, IfSome, unwrap_or, ◌+◌, ◌<◌, ◌≤◌, ◌++◌, T, length, take, get_or};
-ghost use Rattle.sheet.specs.Depots.{depots_of};
 ghost use Rattle.sheet.specs.Fields.{rows_of, vehicles_of, vehicle_at, id_field, plan_length, most_rows};
 ghost use Rattle.sheet.specs.Fleet.{index_of};
 ghost use Rattle.constructive.specs.Right.{links_right, each_once};
@@ -41,20 +40,14 @@ fn next(sheet: &Sheet, plan: &[u8], row: usize) -> usize
 }
 
 // A chain from its first link on, into the table from `from` on.
-fn follow(
-    sheet: &Sheet,
-    plan: &[u8],
-    depots: usize,
-    first: usize,
-    stops: &mut [u16],
-    from: usize,
-) -> Option<usize>
-    requires plan_len { (length plan.now ≡ plan_length sheet.now) × (depots ≡ depots_of sheet.now) }
+fn follow(sheet: &Sheet, plan: &[u8], first: usize, stops: &mut [u16], from: usize) -> Option<usize>
+    requires plan_len { length plan.now ≡ plan_length sheet.now }
     requires sheet_in_bounds { (rows_of sheet.now ≤ length stops.old) × (from ≤ stop_count sheet.now) }
     requires t { T (links_right sheet.now (take from stops.old)) }
     ensures { FollowedAs sheet.now (take from stops.old ++ chain_of sheet.now plan.now first) result stops.new }
 {
     let rows = sheet.rows();
+    let depots = sheet.depots();
     let mut link = first;
     let mut at = from;
     while link != 0 {
@@ -78,13 +71,11 @@ fn follow(
 fn read_round<const N: usize>(
     sheet: &Sheet,
     plan: &[u8],
-    depots: usize,
     k: usize,
     tables: &mut RouteTables<N>,
     at: usize,
 ) -> Option<usize>
     requires reader_tables { ReaderTables sheet.now plan.now tables.old.stops tables.old.ends tables.old.vehicles }
-    requires depots_value { depots ≡ depots_of sheet.now }
     requires k_bound { (k < rounds_at plan.now) × (rounds_at plan.now ≤ rows_of sheet.now) }
     requires rounds_read { RoundsRead sheet.now plan.now tables.old.stops tables.old.ends tables.old.vehicles k at }
     ensures rounds_as { RoundsAs sheet.now plan.now (k + 1) result tables.new.stops tables.new.ends tables.new.vehicles }
@@ -92,7 +83,7 @@ fn read_round<const N: usize>(
 {
     let index = index_of(sheet, wire::u32_at(plan, 16 + 56 * k))?;
     let first = wire::u16_at(plan, 16 + 56 * k + 8) as usize;
-    let end = follow(sheet, plan, depots, first, &mut tables.stops, at)?;
+    let end = follow(sheet, plan, first, &mut tables.stops, at)?;
     tables.ends[k] = end as u16;
     tables.vehicles[k] = index as u16;
     Some(end)
@@ -101,12 +92,10 @@ fn read_round<const N: usize>(
 fn read_rounds<const N: usize>(
     sheet: &Sheet,
     plan: &[u8],
-    depots: usize,
     rounds: usize,
     tables: &mut RouteTables<N>,
 ) -> Option<usize>
     requires reader_tables { ReaderTables sheet.now plan.now tables.old.stops tables.old.ends tables.old.vehicles }
-    requires depots_value { depots ≡ depots_of sheet.now }
     requires rounds_value { (rounds ≡ rounds_at plan.now) × (rounds_at plan.now ≤ rows_of sheet.now) }
     ensures rounds_as { RoundsAs sheet.now plan.now (rounds_at plan.now) result tables.new.stops tables.new.ends tables.new.vehicles }
     ensures as_long { AsLong tables.old.stops tables.old.ends tables.old.vehicles tables.new.stops tables.new.ends tables.new.vehicles }
@@ -114,7 +103,7 @@ fn read_rounds<const N: usize>(
     let mut at = 0;
     // Over numbers: a round is read into three tables, at k in two of them.
     for k in 0..rounds {
-        at = read_round(sheet, plan, depots, k, tables, at)?;
+        at = read_round(sheet, plan, k, tables, at)?;
     }
     Some(at)
 }
@@ -136,23 +125,21 @@ fn single(rows: &[u16]) -> bool
 }
 
 // Whether each stop stands exactly once.
-fn each_once(sheet: &Sheet, depots: usize, rows: &[u16]) -> bool
-    requires depots_value { (depots ≡ depots_of sheet.now) × (length rows.now ≤ stop_count sheet.now) }
+fn each_once(sheet: &Sheet, rows: &[u16]) -> bool
+    requires rows_bound { length rows.now ≤ stop_count sheet.now }
     requires t { T (links_right sheet.now rows.now) }
     ensures { result ≡ each_once sheet.now rows.now }
 {
-    sheet.rows() <= rows.len() + depots && single(rows)
+    sheet.rows() <= rows.len() + sheet.depots() && single(rows)
 }
 
 // The rounds, then the stops set aside.
 fn read_chains<const N: usize>(
     sheet: &Sheet,
     plan: &[u8],
-    depots: usize,
     tables: &mut RouteTables<N>,
 ) -> Option<usize>
-    requires reader_tables { ReaderTables sheet.now plan.now tables.old.stops tables.old.ends tables.old.vehicles }
-    requires depots_value { depots ≡ depots_of sheet.now }
+    requires { ReaderTables sheet.now plan.now tables.old.stops tables.old.ends tables.old.vehicles }
     ensures chains_as { ChainsAs sheet.now plan.now result tables.new.stops tables.new.ends tables.new.vehicles }
     ensures as_long { AsLong tables.old.stops tables.old.ends tables.old.vehicles tables.new.stops tables.new.ends tables.new.vehicles }
 {
@@ -160,9 +147,9 @@ fn read_chains<const N: usize>(
     if sheet.rows() < rounds {
         return None;
     }
-    let start = read_rounds(sheet, plan, depots, rounds, tables)?;
+    let start = read_rounds(sheet, plan, rounds, tables)?;
     let aside = wire::u16_at(plan, 2) as usize;
-    follow(sheet, plan, depots, aside, &mut tables.stops, start)
+    follow(sheet, plan, aside, &mut tables.stops, start)
 }
 
 // The outcome of a plan, into the tables.
@@ -174,10 +161,9 @@ pub fn read_plan<const N: usize>(
     requires { ReaderTables sheet.now plan.now tables.old.stops tables.old.ends tables.old.vehicles }
     ensures { ReadAs sheet.now plan.now result tables.new.stops tables.new.ends tables.new.vehicles }
 {
-    let depots = sheet.depots();
-    let total = read_chains(sheet, plan, depots, tables)?;
+    let total = read_chains(sheet, plan, tables)?;
     let stops = &tables.stops[..];
-    if !each_once(sheet, depots, &stops[..total]) {
+    if !each_once(sheet, &stops[..total]) {
         return None;
     }
     Some(wire::u16_at(plan, 0) as usize)

@@ -36,10 +36,9 @@ fn fill(sheet: &Sheet, plan: &mut [u8])
 {
     let mut at = [0u16; sheet::MOST_ROWS];
     let mut marks = [0u16; sheet::MOST_ROWS];
-    let mut fleet = [0u16; sheet::MOST_VEHICLES];
     let mut tables = RouteTables::<{ sheet::MOST_ROWS }>::new();
     let total = planner_limiting::stops_in(sheet.bytes());
-    let filled = multi_depot::outcome(sheet, &mut at, &mut marks, &mut fleet, &mut tables);
+    let filled = multi_depot::outcome(sheet, &mut at, &mut marks, &mut tables);
     plan::write_plan(plan, sheet, &tables, filled.rounds, total, is_priced(sheet));
 }
 

@@ -1,6 +1,6 @@
 -- The plan in let in at the door and read into the tables, the limiter's there, and the plan out. Assumes nothing.
 use mathlib.Core.Path.{◌≡◌, refl, sym, ap, ◌∙◌, subst}
-use Prim.Native.Nat.{ℕ, zero, suc, ◌≤◌, ◌<◌}
+use Prim.Native.Nat.{ℕ, zero, suc, ◌<◌}
 use native.Mathlib.Omega.{arith}
 use mathlib.Core.Bool.{Bool, true, false, ◌&&◌, true≢false}
 use mathlib.Core.List.{List}
@@ -46,19 +46,17 @@ module _ (s plan lent : List ℕ) where
       go zero h = absurd (omega arith)
       go (suc n) h = refl
 
-  module _ (stops ends vehicles : List ℕ) (n : ℕ) (let_in : LetIn s plan room true stops ends vehicles n) where
+  module _ {stops ends vehicles : List ℕ} {n : ℕ} (let_in : LetIn s plan room true stops ends vehicles n) where
     read_right : T (outcome_right s (read_plan s plan))
     unfolding plan_right
     read_right = and_r (leb (rounds_at plan) (rows_of s)) (outcome_right s (read_plan s plan)) (subst T (sym let_in.read.right) tt)
 
-    pub limit_may : (marks trial : List ℕ) → 101 ≤ length marks → 101 ≤ length trial → Limitable s stops ends vehicles marks trial n (stop_count s)
-    limit_may marks trial m t = record {
+    pub limit_may : Limitable s stops ends vehicles n (stop_count s)
+    limit_may = record {
       tables = let_in.read.tables;
       right = rw let_in.read.outcome read_right;
       one = door_one s plan room true let_in.free refl;
       all = refl;
-      marked = omega (arith, let_in.sheet.sized.rows);
-      tried = t;
     }
 
     pub limit_fits : length lent ≡ plan_length s

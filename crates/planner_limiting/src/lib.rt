@@ -31,20 +31,18 @@ fn limit_read<const N: usize>(
     greatest: u32,
     plan_out: &mut [u8],
     tables: &mut RouteTables<N>,
-    marks: &mut [u16],
-    trial: &mut [u16],
     rounds: usize,
 )
-    requires limitable { Limitable sheet.now tables.old.stops tables.old.ends tables.old.vehicles marks.old trial.old rounds (stop_count sheet.now) }
+    requires limitable { Limitable sheet.now tables.old.stops tables.old.ends tables.old.vehicles rounds (stop_count sheet.now) }
     requires plan_out_len { length plan_out.old ≡ plan_length sheet.now }
     ensures { plan_out.new ≡ plan_of sheet.now (limit_routes sheet.now greatest (outcome_in tables.old.stops tables.old.ends tables.old.vehicles rounds (stop_count sheet.now))) true }
 {
     let total = stops_in(sheet.bytes());
-    let left = fleet_limiter::limit_routes(sheet, greatest, tables, marks, trial, rounds, total);
+    let left = fleet_limiter::limit_routes(sheet, greatest, tables, rounds, total);
     plan::write_plan(plan_out, sheet, tables, left, total, true);
 }
 
-// The plan out, or a refusal and nothing written. The tables stand here, a kilobyte in all.
+// The plan out, or a refusal and nothing written. The tables stand here.
 pub fn limit(
     sheet: &[u8],
     plan_in: &[u8],
@@ -54,18 +52,8 @@ pub fn limit(
     ensures { LimitDone sheet.now plan_in.now greatest plan_out.old (told result) plan_out.new }
 {
     let mut tables = RouteTables::<{ sheet::MOST_ROWS }>::new();
-    let mut marks = [0u16; sheet::MOST_ROWS];
-    let mut trial = [0u16; sheet::MOST_ROWS];
     let room = plan_out.len() == plan_in.len();
     let rounds = plan_door::enter(sheet, plan_in, room, true, &mut tables)?;
-    limit_read(
-        &Sheet::new(sheet),
-        greatest,
-        plan_out,
-        &mut tables,
-        &mut marks,
-        &mut trial,
-        rounds,
-    );
+    limit_read(&Sheet::new(sheet), greatest, plan_out, &mut tables, rounds);
     Ok(())
 }

@@ -1,14 +1,13 @@
 -- What the tests of a question show. Assumes nothing.
 use mathlib.Core.Path.{◌≡◌, sym, ◌∙◌, subst}
-use Prim.Native.Nat.{ℕ, ◌+◌, ◌%◌, ◌≤◌, ◌<◌}
+use Prim.Native.Nat.{ℕ, ◌%◌, ◌≤◌, ◌<◌}
 use native.Mathlib.Omega.{arith}
 use mathlib.Core.Bool.{Bool, true, false, not}
 use mathlib.Core.List.{List}
 use lib.Dec.{T, ltb, leb, eqb, ltb→lt, leb→le, eqb→eq, T_not}
 use borrow.Author.Tests.{eq-eqb, lt-leb}
 use lib.Ieee.Fits.{and_l, and_r}
-use lib.ListN.{length, get_or, take, drop, length-drop}
-use lib.Seq.{length-take-le, get_or-take, get_or-drop}
+use lib.ListN.{length, get_or}
 use Rattle.wire.specs.Laws.Bytes.{le_lt}
 use Rattle.sheet.specs.Fields.{rows_of, vehicles_of, plan_length}
 use Rattle.sheet.specs.Refusal.{header_right, refusal_of}
@@ -32,9 +31,6 @@ too_short s h = rw (lt-leb 16 (length s) h)
 pub accepted_of_lem : (s : List ℕ) → T (accepted_of s) → Accepted s
 unfolding accepted_of
 accepted_of_lem s t = (accepted s (plan_length s) (eqb→eq (refusal_of s (plan_length s)) 0 t)).0
-
-pub headed : (s : List ℕ) → Accepted s → 16 ≤ length s
-headed s a = omega (arith, a.sized.long)
 
 -- the header's number of rows, in any bytes
 pub rows_fit : (s : List ℕ) → ((i : ℕ) → get_or s i 0 < 256) → rows_of s < 65536
@@ -66,21 +62,6 @@ unfolding round_right
 routed_of s v route a t =
     let q = asked_of s v route a (and_r (leb (length route) 101) _ t) in
     record { sheet = q.sheet; home = q.home; few = leb→le (length route) 101 (and_l (leb (length route) 101) _ t); row = q.row }
-
--- rows that are asked about make rounds that can be walked
-pub routed : (s : List ℕ) (depot : ℕ) (stops : List ℕ) (first n : ℕ) → RowsAsked s depot stops → n ≤ 101 → first + n ≤ length stops → Routed s depot (take n (drop first stops))
-routed s depot stops first n a h r =
-    let e : length (take n (drop first stops)) ≡ n = length-take-le n (drop first stops) (rw length-drop (omega arith)) in record {
-      sheet = a.sheet;
-      home = a.home;
-      few = rw e h;
-      row = λ k l. let i : k < n = subst (λ (m : ℕ). k < m) e l in rw (get_or-take, get_or-drop) (a.row (first + k) (omega arith));
-    }
-
--- so do the first rows of a round
-pub part_routed : (s : List ℕ) (depot : ℕ) (route : List ℕ) (n : ℕ) → Routed s depot route → n ≤ length route → Routed s depot (take n route)
-part_routed s depot route n a h =
-    routed s depot route 0 n (record { sheet = a.sheet; home = a.home; row = a.row }) (omega (arith, a.few)) (omega arith)
 
 pub record Lengths (stops : List ℕ) (len rows : ℕ) : Type 0 where
   pub some : 0 < len

@@ -37,7 +37,7 @@ pub fn room_for(len: u32, room: &[u8]) -> usize
 }
 
 // Reads until `room` is full, the input ends or a read fails, and answers how many bytes it put at
-// the start of `room`.
+// the start of `room`. Not the listing's, which has to tell of a read that failed.
 pub fn read_full<R: Read>(input: &mut R, room: &mut [u8]) -> usize
     ensures in_bounds { IsPrefixLen result room.new }
     ensures bytes { Consumes (R.remaining input.old) (R.remaining input.new) (take result room.new) }

@@ -4,16 +4,12 @@ use Prim.Native.Nat.{ℕ, ◌+◌, ◌*◌, ◌≤◌, ◌<◌}
 use native.Mathlib.Nat.{mul-le-mul}
 use native.Mathlib.Omega.{arith}
 use mathlib.Core.List.{List}
-use lib.Arith.{digits_lt}
 use lib.Dec.{T}
 use lib.ListN.{length}
 use Rattle.wire.specs.Bytes.{is_number}
 use Rattle.sheet.specs.Fields.{rows_of, times_of, entries_of, entry_at}
 use Rattle.sheet.specs.Accepted.{Accepted}
 use Rattle.sheet.specs.Laws.Finite.{entry_number, entries_split}
-
-pub cell_lt : (n i j : ℕ) → i < n → j < n → i * n + j < n * n
-cell_lt n i j h k = digits_lt h k
 
 pub square : (n : ℕ) → n ≤ 101 → n * n ≤ 10201
 square n h = mul-le-mul h h

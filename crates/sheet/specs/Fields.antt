@@ -117,6 +117,7 @@ entry_at s k = tables_at s + 8 * k
 abbrev pub sheet_length : List ℕ → ℕ
 sheet_length s = tables_at s + 8 * entries_of s
 
+-- (a plan of it is a clause, of two buffers that the host lends as bytes)
 abbrev pub plan_length : List ℕ → ℕ
 plan_length s = 16 + 80 * rows_of s
 

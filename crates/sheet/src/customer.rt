@@ -22,7 +22,8 @@ pub struct Window {
     pub due: f64,
 }
 
-// What a stop asks of an arrival: nothing, none after `due`, or a penalty for each unit of time after it.
+// What a stop asks of an arrival: nothing, none after `due`, or a penalty for each unit of time after it. No `Option`: the two
+// kinds of window are asked of in different ways.
 #[derive(Clone, Copy)]
 pub enum Gate {
     Open,

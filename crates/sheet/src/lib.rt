@@ -61,6 +61,10 @@ pub fn has_mark(mark: u32, marks: u32) -> bool
 
 // A sheet that passed its check: no contract has to ask for that. A clause sees its bytes. Beside them it holds how many rows it
 // has and where its distances and its times start, which is one place where it has no times.
+//
+// A row and a vehicle stay numbers, whose bound a clause says: a type of theirs would have to name the sheet, and be made anew of
+// each number of a table. Before the check there are no types either, for a header, for counts or for a record that lies within
+// the bytes: each would hold the bytes alone, for the one function that goes on to the next.
 #[derive(Drop)]
 pub struct Sheet<'a> {
     bytes: &'a [u8],

@@ -39,7 +39,7 @@ pub fn method_of(sheet: &[u8]) -> Result<Method, Refusal>
     Method::try_from(sheet[4])
 }
 
-// The same where the method is known to be one of the five.
+// The same where the method is known to be one of the five: it cannot fail.
 pub fn accepted_method(sheet: &[u8]) -> Method
     requires header_size_in_bounds { header_size ≤ length sheet.now }
     requires one_of_five { method_of sheet.now ≤ 4 }

@@ -1,30 +1,22 @@
--- A run of writes, each from where the one before ends, is one write. Assumes nothing.
+-- A signed number and several f64 as parts of a run of writes. Assumes nothing.
 use mathlib.Core.Path.{◌≡◌, refl, sym, ap, ◌∙◌}
 use Prim.Native.Nat.{ℕ, ◌+◌, ◌*◌, ◌≤◌, ◌<◌}
 use native.Mathlib.Omega.{arith}
-use mathlib.Core.List.{List, ◌++◌}
+use mathlib.Core.List.{List}
 use native.Mathlib.Nat.{add-zero}
 use native.Mathlib.Numerals.{add-one}
-use lib.ListN.{length, length-append, take, get_or, take-append-drop}
+use lib.ListN.{length, take, get_or, take-append-drop}
 use lib.Seq.{length-take-le, take-suc, take_all}
 use lib.IntN.{ℤ, pos, negsuc}
 use lib.Ieee.{Float, nan, binary64, to_bits}
 use mir.Syntax.{w32}
 use mir.Val.{SFits, to_z, of_z}
 use mir.ValLaws.{to_z-of_z}
+use Rattle.wire.proofs.Run.{Wrote, wrote, then}
 use Rattle.wire.specs.Bytes.{bytes, write}
-use Rattle.wire.specs.Laws.Bytes.{length_bytes, write_write}
+use Rattle.wire.specs.Laws.Bytes.{length_bytes}
 use Rattle.sheet_writer.specs.Sheet.{unsigned, float_bytes, records_bytes}
 use Rattle.sheet_writer.specs.Laws.Records.{length_records, records_more}
-
--- t is s with the n bytes xs from `at` on
-pub record Wrote (n : ℕ) (s t : List ℕ) (at : ℕ) (xs : List ℕ) : Type 0 where
-  pub long : length xs ≡ n
-  pub same : t ≡ write s at xs
-
--- a number, and several f64
-pub wrote : (n v : ℕ) {s t : List ℕ} {at : ℕ} → t ≡ write s at (bytes n v) → Wrote n s t at (bytes n v)
-wrote n v e = record { long = length_bytes n v; same = e }
 
 -- a signed one, as the code passes it on
 pub wrote_signed : (z : ℤ) → SFits w32 z → {s t : List ℕ} {at : ℕ} → t ≡ write s at (bytes 4 (unsigned (to_z w32 (of_z w32 z)))) → Wrote 4 s t at (bytes 4 (unsigned z))
@@ -37,16 +29,6 @@ cast_unsigned_is (negsuc n) = omega arith
 
 pub wrote_floats : (xs : List Float) {s t : List ℕ} {at : ℕ} → t ≡ write s at (records_bytes float_bytes xs) → Wrote (8 * length xs) s t at (records_bytes float_bytes xs)
 wrote_floats xs e = record { long = length_records float_bytes 8 (λ x. length_bytes 8 (to_bits binary64 x)) xs; same = e }
-
--- the second follows the first, which it is part of
-pub then : {n m at place : ℕ} {s t u xs ys : List ℕ} → Wrote n s t at xs → Wrote m t u place ys → place ≡ at + n → at + (n + m) ≤ length s → Wrote (n + m) s u at (xs ++ ys)
-then {n} {m} {at} {place} {s} {t} {u} {xs} {ys} a b e room =
-    let i = a.long in
-    let j = b.long in
-    record {
-      long = length-append xs ys ∙ omega arith;
-      same = b.same ∙ ap (λ (l : List ℕ). write l place ys) a.same ∙ ap (λ (k : ℕ). write (write s at xs) k ys) (e ∙ ap (◌+◌ at) (sym i)) ∙ write_write s at xs (omega arith) ys (omega arith);
-    }
 
 -- ---- the loop over several f64: the first i of them stand there
 module _ (xs : List Float) (s : List ℕ) (at : ℕ) where

@@ -1,6 +1,6 @@
 -- The table's entries in ascending order: each is one write more behind those before it, and those are read back. Assumes nothing.
 use mathlib.Core.Path.{◌≡◌, refl, sym, ap, ◌∙◌, subst}
-use Prim.Native.Nat.{ℕ, zero, suc, ◌+◌, ◌*◌, ◌/◌, ◌%◌, ◌≤◌, ◌<◌}
+use Prim.Native.Nat.{ℕ, ◌+◌, ◌*◌, ◌/◌, ◌%◌, ◌≤◌, ◌<◌}
 use native.Mathlib.Nat.{mod-lt, div-add-mod', div-lt_iff_lt-mul}
 use native.Mathlib.Decide.{dec_lt}
 use native.Mathlib.Omega.{arith}
@@ -10,11 +10,11 @@ use lib.Arith.{digits_div, digits_mod, digits_lt}
 use lib.ListN.{length, get_or, length-append, get_or-append}
 use lib.Seq.{get_or_at}
 use lib.Ieee.{Float, binary64, to_bits}
+use lib.Ieee.Positive.{first_pos}
 use Rattle.wire.specs.Bytes.{write, f64_at, is_number}
 use Rattle.wire.specs.Laws.Bytes.{length_bytes, length_write, write_write}
 use Rattle.wire.specs.Laws.Overwrite.{write_same}
 use Rattle.numbers.specs.Range.{whole}
-use Rattle.sheet.proofs.Cells.{cell_lt}
 use Rattle.sheet_writer.specs.Sheet.{float_bytes, records_bytes}
 use Rattle.square_root.specs.ClosestRoot.{ClosestRoot}
 use Rattle.solomon_distances.specs.Distances.{squared_between, DistancesRoom, DistancesWritten}
@@ -24,7 +24,7 @@ use Rattle.solomon_distances.proofs.Floats.{floats_bytes, length_floats, floats_
 
 -- ---- what stands there already
 pub entry_inside : (s : List ℕ) (n at : ℕ) → DistancesRoom s n at → (i j : ℕ) → i < n → j < n → at + 8 * (i * n + j) + 8 ≤ length s
-entry_inside s n at r i j p q = omega (arith, r.room, cell_lt n i j p q)
+entry_inside s n at r i j p q = omega (arith, r.room, digits_lt p q)
 
 module _ (s : List ℕ) (n at i j : ℕ) (p : i < n) (q : j < n) (l : j < i) (f : FilledTo s n at (i * n + j)) where
   earlier : j * n + i < i * n + j
@@ -47,10 +47,6 @@ pub record Filling (s : List ℕ) (n at : ℕ) (t : List ℕ) (k : ℕ) : Type 0
   pub long : length distances ≡ k
   pub closest : (i j : ℕ) → i < n → j < n → i * n + j < k → ClosestRoot (squared_between s i j) (get_or distances (i * n + j) (whole 0))
   pub bytes : t ≡ write s at (floats_bytes distances)
-
-positive : (n k : ℕ) → k < n * n → 0 < n
-positive zero k h = absurd (omega arith)
-positive (suc n) k h = omega arith
 
 module _ (s : List ℕ) (n at : ℕ) where
   pub filling_begins : DistancesRoom s n at → Filling s n at s 0
@@ -98,13 +94,13 @@ module _ (s : List ℕ) (n at : ℕ) where
         record {
           distances = g.distances;
           long = omega (arith, g.long, g.within);
-          closest = λ i j p q. g.closest i j p q (omega (arith, cell_lt n i j p q));
+          closest = λ i j p q. g.closest i j p q (omega (arith, digits_lt p q));
           bytes = g.bytes;
         }
 
     module _ (h : k < n * n) where
       pub some_rows : 0 < n
-      some_rows = positive n k h
+      some_rows = first_pos n n (omega (arith, h))
 
       pub its_row : k / n < n
       its_row = (div-lt_iff_lt-mul some_rows).1 h

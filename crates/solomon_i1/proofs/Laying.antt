@@ -7,6 +7,7 @@ use mathlib.Core.Bool.{Bool, true, false}
 use mathlib.Core.List.{List, [], ◌∷◌, ◌++◌, append_assoc, append-nil}
 use lib.ListN.{length, get_or, take, drop, length-append, length-drop, get_or-append, take-append-drop}
 use lib.Seq.{take_at, drop_at, take-append-le, drop-append-le, get_or-append-add, append_snoc, drop-length, drop-drop, length-take-le}
+use Rattle.std.proofs.lemmas.List.{nil_from_length}
 use Rattle.lists.specs.Every.{Every}
 use Rattle.lists.specs.Moved.{without}
 use Rattle.lists.specs.Laws.Moved.{without_length, without_every, inserted_length}
@@ -385,11 +386,7 @@ module _ (s : List ℕ) (t : Terms) (stops₀ ends₀ vehicles₀ trial₀ : Lis
       g.same ∙ ap (λ (m : ℕ). joined g.done g.aside (plan_on s t m g.left)) n ∙ rw (append-nil g.done, append-nil g.aside)
 
   none_left : end ≤ at → g.left ≡ []
-  none_left h = go g.left (omega (arith, g.last))
-    where
-      go : (l : List ℕ) → length l ≡ 0 → l ≡ []
-      go [] z = refl
-      go (x ∷ xs) z = absurd (omega arith)
+  none_left h = nil_from_length g.left (omega (arith, g.last))
 
   pub ends_entered : end ≤ at → Entered ends₀ vehicles₀ f₀ (plan_on s t (length members) members).rounds ends vehicles f
   ends_entered h = rw (ends_all h) g.entered

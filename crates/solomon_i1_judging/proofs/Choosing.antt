@@ -8,12 +8,11 @@ use mathlib.Core.List.{List, [], ◌∷◌}
 use lib.ListN.{length, get_or, drop}
 use lib.Seq.{drop-cons, drop-length}
 use borrow.Author.Tests.{lt-leb, le-leb}
-use Rattle.lists.specs.Laws.Every.{every_of, every_at}
+use Rattle.lists.specs.Laws.Every.{every_of}
 use Rattle.sheet.specs.Fields.{rows_of}
 use Rattle.sheet.specs.Values.{demand_of}
 use Rattle.sheet.specs.Laws.Finite.{demand_bounded}
 use Rattle.constructive.specs.Load.{load_of}
-use Rattle.constructive.specs.Unchecked.{Windowless}
 use Rattle.constructive.specs.declared.terms.Terms.{Terms}
 use Rattle.constructive.proofs.Loading.{load_few}
 use Rattle.insertion.specs.Choice.{Choice}
@@ -72,22 +71,3 @@ module _ (s : List ℕ) (t : Terms) (route left : List ℕ) (tried : Tried) (tri
 
   pub long_still : (trial₀ : List ℕ) (x : ℕ) → Trial route x (length route) trial₀ → length trial ≡ length trial₀
   long_still trial₀ x h = trial_long route _ tried.at trial g.holds ∙ sym (trial_long route x (length route) trial₀ h)
-
--- one of the stops may join the round
-pub one_joins : (s : List ℕ) (t : Terms) (route left : List ℕ) (j : ℕ) → Joinable s t route left → j < length left → Joinable s t route (get_or left j 0 ∷ [])
-one_joins s t route left j ok h = record {
-  round = ok.round;
-  unrouted = record {
-    sheet = ok.unrouted.sheet;
-    home = ok.unrouted.home;
-    few = omega arith;
-    row = λ k l. let e : k ≡ 0 = omega arith in rw e (ok.unrouted.row j h);
-  };
-  room = ok.room;
-  unwalked = record {
-    hard = ok.unwalked.hard;
-    free = ok.unwalked.free;
-    round = ok.unwalked.round;
-    unrouted = λ e. (every_at (Windowless s) 0 left j h (ok.unwalked.unrouted e), tt);
-  };
-}

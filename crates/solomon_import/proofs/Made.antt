@@ -5,11 +5,10 @@ use native.Mathlib.Omega.{arith}
 use mathlib.Core.List.{List}
 use lib.IntN.{ℤ, nat_abs}
 use lib.Dec.{T}
-use mathlib.Core.Bool.{false, not}
-use lib.Ieee.{Float, nan, inf, fin, binary64, of_int, of_bits, of_fields, odd, round, is_nan}
-use lib.Ieee.Exact.{HasValue}
+use mathlib.Core.Bool.{not}
+use lib.Ieee.{binary64, of_int, of_bits, of_fields, odd, round, is_nan}
 use Rattle.numbers.specs.Range.{whole}
-use Rattle.numbers.specs.Laws.Upto.{exact}
+use Rattle.numbers.specs.Laws.Upto.{exact, no_nan, round_upto}
 use Rattle.sheet_writer.specs.Numbered.{RowNumbered, VehicleNumbered}
 use Rattle.solomon_text.specs.Numbers.{number_at}
 use Rattle.sheet_writer.specs.declared.RowFields.{RowFields}
@@ -63,14 +62,8 @@ unfolding vehicle_fields_of
 vehicle_made capacity z e = rw (e, unit, nought) refl
 
 -- ---- no number is a NaN
-value_number : (x : Float) (a c : ℕ) → HasValue x false a c → T (not (is_nan x))
-unfolding is_nan
-value_number nan a c h = absurd h
-value_number (inf s) a c h = tt
-value_number (fin s m e) a c h = tt
-
 whole_number_lem : (n : ℕ) → n ≤ 1000000000 → T (not (is_nan (whole n)))
-whole_number_lem n h = value_number (whole n) n 1 (exact n (omega arith))
+whole_number_lem n h = no_nan n (whole n) (round_upto n 1 n (omega arith) (omega arith) (exact n (omega arith)))
 
 pub row_numbered : (marks : ℕ) (c : Customer) → Ranged c → RowNumbered (row_fields_of marks c)
 unfolding row_fields_of

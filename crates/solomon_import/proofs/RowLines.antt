@@ -1,7 +1,6 @@
 -- The loop over a text's row lines (`rows::row_lines`). Assumes nothing.
-use mathlib.Core.Path.{◌≡◌, refl, sym, ap, ◌∙◌}
+use mathlib.Core.Path.{◌≡◌, sym, ap, ◌∙◌}
 use Prim.Native.Nat.{ℕ, ◌+◌, ◌≤◌, ◌<◌}
-use native.Mathlib.Nat.{zero-add}
 use native.Mathlib.Omega.{arith}
 use mathlib.Core.Bool.{Bool, true, false, ◌&&◌, and_assoc, and-true}
 use mathlib.Core.List.{List, [], ◌∷◌, map}
@@ -22,9 +21,6 @@ pub record RowsRead (text : List ℕ) (from at count : ℕ) (in_range_lem : Bool
   pub counted : length (lines_from text from) ≡ count + length (lines_from text at)
   pub range : customers_range (map customer_of (lines_from text from)) ≡ (in_range_lem && customers_range (map customer_of (lines_from text at)))
   pub few : count ≤ at
-
-pub none_read : (text : List ℕ) (from : ℕ) → from ≤ length text → (from < length text → T (has_digit (first_line (drop from text)))) → RowsRead text from from 0 true
-none_read text from w d = record { within = w; digit = d; form = refl; counted = sym (zero-add _); range = refl; few = omega arith }
 
 -- where a line is left behind and the next one with a digit is found
 pub record Onward (text : List ℕ) (at next : ℕ) : Type 0 where

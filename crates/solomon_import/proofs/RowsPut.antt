@@ -1,15 +1,14 @@
 -- The loop that writes a text's rows (`writing::write_rows`). Assumes nothing.
 use mathlib.Core.Path.{◌≡◌, refl, sym, ap, ◌∙◌, subst}
 use Prim.Native.Nat.{ℕ, ◌+◌, ◌*◌, ◌≤◌, ◌<◌}
-use native.Mathlib.Nat.{add-zero}
 use native.Mathlib.Numerals.{add-one}
 use native.Mathlib.Omega.{arith}
 use mathlib.Core.List.{List, [], ◌∷◌, ◌++◌, map, append_assoc, append-nil}
 use lib.Dec.{T}
-use lib.ListN.{length, drop, take, length-append, take-append-drop}
+use lib.ListN.{length, drop, length-append}
 use lib.Seq.{drop-length}
 use Rattle.wire.specs.Bytes.{write}
-use Rattle.wire.specs.Laws.Bytes.{write_write, length_write}
+use Rattle.wire.specs.Laws.Bytes.{write_write, length_write, write_none}
 use Rattle.sheet.specs.Fields.{header_size, row_size}
 use Rattle.sheet_writer.specs.Sheet.{row_record, records_bytes}
 use Rattle.sheet_writer.specs.Laws.Records.{records_more, length_records}
@@ -34,10 +33,6 @@ pub record RowsPut (text : List ℕ) (from : ℕ) (lent : List ℕ) (sheet : Lis
   pub range : T (customers_range (map customer_of (lines_from text at)))
   pub room : header_size + row_size * (length rows + length (lines_from text at)) ≤ length lent
   pub written : sheet ≡ write lent header_size (records_bytes row_record rows)
-
-write_none : (s : List ℕ) (at : ℕ) → s ≡ write s at []
-unfolding write
-write_none s at = sym (ap (λ (k : ℕ). take at s ++ drop k s) (add-zero at) ∙ take-append-drop at s)
 
 pub none_put : (text : List ℕ) (from : ℕ) (lent : List ℕ) → from ≤ length text → (from < length text → T (has_digit (first_line (drop from text)))) → T (customers_range (map customer_of (lines_from text from))) → header_size + row_size * length (lines_from text from) ≤ length lent → RowsPut text from lent lent from header_size 3
 unfolding records_bytes

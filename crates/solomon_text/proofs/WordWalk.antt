@@ -73,8 +73,3 @@ seeking_goes_on line n at i end next h l s p w =
 
 pub seeking_in_vain : (line : List ℕ) (n at i : ℕ) → length line ≤ at → Seeking line n at i → word_at line n ≡ get_or (words_of (drop at line)) 0 []
 seeking_in_vain line n at i h s = s.same ∙ rw (no_words_left line at h) refl
-
-pub seeking_ends : (line : List ℕ) (n at i : ℕ) → n ≤ i → Seeking line n at i → word_at line n ≡ get_or (words_of (drop at line)) 0 []
-seeking_ends line n at i h s =
-    let none : n - i ≡ 0 = omega arith in
-    s.same ∙ rw none refl

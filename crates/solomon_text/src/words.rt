@@ -76,7 +76,8 @@ fn number_at(line: &[u8], n: usize) -> number::WholeNumber
     number::read(&line[at..end])
 }
 
-// Whether the line's number counted n from 0 is k.
+// Whether the line's number counted n from 0 is k. This and the next two are three comparisons, of which one told which to make
+// would be longer.
 pub fn number_is(line: &[u8], n: usize, k: usize) -> bool
     requires { k < 10 ^ 19 }
     ensures { result ≡ equals k (number_at line.now n) }

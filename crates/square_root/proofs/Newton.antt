@@ -1,7 +1,7 @@
 -- Newton's iteration for the root of n: a step from any r above 0 leads to a number that is not below the root, and from one above the root to a smaller one. Assumes nothing.
 use mathlib.Core.Path.{subst}
 use Prim.Native.Nat.{ℕ, zero, suc, ◌+◌, ◌*◌, ◌/◌, ◌≤◌, ◌<◌}
-use native.Mathlib.Nat.{le_trans, mul-le-mul_right, div-lt_iff_lt-mul, div-mul-le_self, lt_of_not-le, le_dest}
+use native.Mathlib.Nat.{mul-le-mul_right, div-lt_iff_lt-mul, lt_of_not-le, le_dest}
 use native.Mathlib.Decide.{dec_le}
 use native.Mathlib.Omega.{arith}
 
@@ -28,10 +28,6 @@ step_not_below n r s R h = at (n / r) ((div-lt_iff_lt-mul {y = n / r + 1} R).0 (
         let k : (r + q + 1) * r ≤ 2 * (s + 1) * r = mul-le-mul_right r (omega arith) in
         let l : 2 * ((s + 1) * r) ≤ (s + 1) * (s + 1) + r * r = products (s + 1) r in
         omega arith
-
--- where a step leads no lower, the square is not above n
-pub root_reached : (n r : ℕ) → r ≤ n / r → r * r ≤ n
-root_reached n r h = le_trans (mul-le-mul_right r h) (div-mul-le_self n r)
 
 pub root_some : (n r : ℕ) → 1 ≤ n → n < (r + 1) * (r + 1) → 1 ≤ r
 root_some n zero h g = absurd (omega arith)

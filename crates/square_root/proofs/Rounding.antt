@@ -1,5 +1,5 @@
 -- The loop of `square_root::square_root`, and the rounding by the last of 54 digits. Assumes nothing.
-use mathlib.Core.Path.{◌≡◌, refl, sym, ap, ◌∙◌, subst}
+use mathlib.Core.Path.{◌≡◌, sym, ap, ◌∙◌, subst}
 use mathlib.Core.Logic.{◌⊎◌, inl, inr}
 use Prim.Native.Nat.{ℕ, suc, ◌+◌, ◌-◌, ◌*◌, ◌^◌, ◌≤◌, ◌<◌}
 use native.Mathlib.Nat.{le_trans, le_of_eq, lt_of_lt_of_le, lt_of_le_of_lt, le_of_lt, eq-or-lt_of_le, mul-le-mul_right, pow-succ'}
@@ -23,9 +23,6 @@ pub record Scaled (n scaled p : ℕ) : Type 0 where
   pub positive : 1 ≤ n
   pub least : 1 ≤ scaled
   pub small : scaled < 2 ^ 64
-
-pub scaled_first : (n : ℕ) → 1 ≤ n → n < 2 ^ 64 → Scaled n n 1
-scaled_first n h l = record { e = 0; power = refl; is = omega arith; positive = h; least = h; small = l }
 
 pub scaled_more : (n scaled p : ℕ) → scaled < 2 ^ 62 → Scaled n scaled p → Scaled n (4 * scaled) (2 * p)
 scaled_more n scaled p h s = record {
@@ -59,10 +56,6 @@ rounds r m N M h g root = go (eq-or-lt_of_le h)
     go : (r ≡ 2 * m) ⊎ (r < 2 * m) → Rounds m N
     go (inl i) = even (subst (λ (x : ℕ). IsRoot (4 * N) x) i root)
     go (inr l) = let i : r ≡ 2 * (m - 1) + 1 = omega arith in odd (m - 1) (omega arith) (subst (λ (x : ℕ). IsRoot (4 * N) x) i root)
-
--- ---- how many digits the roots have
-pub root_large : (scaled r : ℕ) → 2 ^ 62 ≤ scaled → scaled < (r + 1) * (r + 1) → 2 ^ 31 ≤ r
-root_large scaled r h g = let l : 2 ^ 31 < r + 1 = root_lt (2 ^ 31) (r + 1) (lt_of_le_of_lt h g) in omega arith
 
 pub longer_small : (scaled r : ℕ) → scaled < 2 ^ 64 → IsRoot (scaled * 2 ^ 44) r → r < 2 ^ 54
 longer_small scaled r h g = root_lt r (2 ^ 54) (lt_of_le_of_lt g.0 (omega arith))

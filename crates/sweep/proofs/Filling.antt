@@ -7,6 +7,7 @@ use mathlib.Core.Bool.{Bool, true, false}
 use mathlib.Core.List.{List, [], ◌∷◌, ◌++◌, append_assoc, append-nil}
 use lib.ListN.{length, get_or, take, drop, length-append}
 use lib.Seq.{take-take, take-append_seam, drop-append-add, drop-drop, get_or-append_seam, append_snoc}
+use Rattle.std.proofs.lemmas.List.{nil_from_length}
 use Rattle.lists.specs.Every.{Every}
 use Rattle.lists.specs.Laws.Every.{every_of, every_at, every_append}
 use Rattle.wire.specs.Bytes.{write}
@@ -285,10 +286,6 @@ module _ (s : List ℕ) (t : Terms) (stops₀ ends₀ vehicles₀ : List ℕ) (f
       ∙ ap (λ (n : ℕ). packed_by h c p (demand_of s n)) next_is in
       rw (a, b, d, e) (met_stands h c refl)
 
-nil : (l : List ℕ) → length l ≡ 0 → l ≡ []
-nil [] z = refl
-nil (x ∷ xs) z = absurd (omega arith)
-
 -- fewer stops are left
 pub falls : (s : List ℕ) (t : Terms) (total : ℕ) (stops ends vehicles : List ℕ) (p : Packing) (stops' ends' vehicles' : List ℕ) (p' : Packing) → p.end < p.mid → Met s t total stops ends vehicles p stops' ends' vehicles' p' → p'.mid - p'.end < p.mid - p.end
 falls s t total stops ends vehicles p stops' ends' vehicles' p' l m =
@@ -336,7 +333,7 @@ module _ (s : List ℕ) (t : Terms) (stops₀ ends₀ vehicles₀ : List ℕ) (f
     outcome = swept_by s t (part stops₀ f₀.routed total)
 
     none_left : g.left ≡ []
-    none_left = nil g.left (omega (arith, g.stands.meets_to))
+    none_left = nil_from_length g.left (omega (arith, g.stands.meets_to))
 
     stands_so : Standing s stops₀ ends₀ vehicles₀ f₀ total stops ends vehicles p g.so []
     stands_so = rw none_left at g.stands
@@ -348,7 +345,7 @@ module _ (s : List ℕ) (t : Terms) (stops₀ ends₀ vehicles₀ : List ℕ) (f
     -- and the last round has none
     module _ (z : p.filled.routed ≡ p.end) where
       no_route : g.so.route ≡ []
-      no_route = nil g.so.route (omega (arith, stands_so.ends_at))
+      no_route = nil_from_length g.so.route (omega (arith, stands_so.ends_at))
 
       outcome_so : outcome ≡ record { rounds = g.so.closed; aside = g.so.aside }
       outcome_so = outcome_is ∙ ap (λ (l : List ℕ). record { rounds = g.so.closed ++ last_round t l; aside = g.so.aside }) no_route ∙ ap (λ (rs : List Round). record { rounds = rs; aside = g.so.aside }) (append-nil g.so.closed)

@@ -1,16 +1,14 @@
 -- Parts of the table of stops. Assumes nothing.
 use mathlib.Core.Path.{◌≡◌, refl, sym, ap, ◌∙◌}
-use Prim.Native.Nat.{ℕ, zero, suc, ◌+◌, ◌-◌, ◌*◌, ◌≤◌, ◌<◌}
+use Prim.Native.Nat.{ℕ, zero, suc, ◌+◌, ◌-◌, ◌≤◌, ◌<◌}
 use native.Mathlib.Omega.{arith}
 use mathlib.Core.List.{List, [], ◌∷◌, ◌++◌, append_assoc}
 use lib.ListN.{length, get_or, take, drop, length-append, length-drop, take-append-drop}
 use lib.Seq.{length-take-le, take-suc, get_or-drop, get_or-take, take-take, take-add, drop_at, drop-append-le}
-use Rattle.lists.specs.Every.{Every}
+use Rattle.constructive.proofs.Loading.{load_few}
 use Rattle.lists.specs.Laws.Every.{every_of}
 use Rattle.wire.specs.Bytes.{write}
 use Rattle.sheet.specs.Fields.{rows_of}
-use Rattle.sheet.specs.Laws.Finite.{demand_bounded}
-use Rattle.sheet.specs.Accepted.{Accepted}
 use Rattle.sheet.specs.Values.{demand_of}
 use Rattle.evaluation.specs.Routed.{Routed}
 use Rattle.constructive.specs.Load.{load_of}
@@ -64,17 +62,11 @@ routed_part s depot stops start total a b ok h k l =
           omega (arith, f, r);
     }
 
--- what a round asks of a vehicle
-load_upto : (s : List ℕ) → Accepted s → (route : List ℕ) → Every (λ (i : ℕ). i < rows_of s) route → load_of s route ≤ 1000000 * length route
-unfolding load_of
-load_upto s a [] e = omega arith
-load_upto s a (i ∷ is) e = omega (arith, demand_bounded s a i e.0, load_upto s a is e.1)
-
--- with the stop behind it
+-- what a round asks of a vehicle, with the stop behind it
 pub carried : (s : List ℕ) (depot : ℕ) (stops : List ℕ) (start end : ℕ) → start ≤ end → end < length stops → Routed s depot (part stops start (end + 1)) → load_of s (part stops start end) + demand_of s (get_or stops end 0) ≤ 101000000
 unfolding load_of
 carried s depot stops start end h k r =
-    let u = load_upto s r.sheet (part stops start (end + 1)) (every_of (λ (i : ℕ). i < rows_of s) 0 (part stops start (end + 1)) r.row) in
+    let u = load_few s r.sheet (part stops start (end + 1)) (every_of (λ (i : ℕ). i < rows_of s) 0 (part stops start (end + 1)) r.row) in
     let e = ap (load_of s) (part_more stops start end h k) ∙ load_append s (part stops start end) (get_or stops end 0 ∷ []) in
     omega (arith, u, e, r.few)
 

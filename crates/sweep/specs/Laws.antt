@@ -1,5 +1,4 @@
 pub mod Signs
-pub mod Products
 pub mod Order
 pub mod Bounds
 pub mod Permutation

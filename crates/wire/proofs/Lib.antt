@@ -1,1 +1,2 @@
 mod Wide
+pub mod Run

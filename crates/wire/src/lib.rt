@@ -1,4 +1,5 @@
-// Little-endian numbers in a slice of bytes. The compiler makes one load or store of each.
+// Little-endian numbers in a slice of bytes. The compiler makes one load or store of each. Not one function for every width:
+// a call names the width of the field that it reads.
 #![tactic(auto)]
 
 ghost use Rattle.std.specs.Prelude.{◌≡◌, ◌+◌, ◌*◌, ◌≤◌, ◌<◌, not, T, length};

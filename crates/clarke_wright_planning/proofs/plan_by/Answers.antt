@@ -1,27 +1,14 @@
 -- `clarke_wright_planning::plan_by` meets its contract. Assumes nothing.
 use mathlib.Core.Path.{sym, subst}
 use native.Mathlib.Omega.{arith}
-use lib.Seq.{length-take-le}
 use Rattle.std.proofs.Common.{rules}
 use Rattle.evaluation.specs.Routed.{Routed}
 use Rattle.constructive.specs.Terms.{terms_of}
 use Rattle.constructive.specs.Members.{part}
 use Rattle.clarke_wright_savings.specs.declared.terms.Directed.{Directed}
 use Rattle.clarke_wright_savings.specs.Savings.{directed_of}
-use Rattle.clarke_wright_planning.proofs.Planned.{members_long, laying, aside_within, aside_fits, planned_count, planned_laid}
+use Rattle.clarke_wright_planning.proofs.Planned.{members_long, laying, aside_fits, planned_count, planned_laid}
 use Rattle.clarke_wright_planning.proofs.plan_by.Goals as goal
-
-pub slice_bounds-lay-end : goal.slice_bounds-lay-end
-slice_bounds-lay-end g c = aside_within c.requires.members c.requires.room c.directed_of-terms.result c.merge_members-left.ensures.slotted c.merge_members-left.ensures.lens_after c.merge_members-left.ensures.value (omega (arith, c.merge_members-left.auto.aside, c.requires.most_rows_in_bounds.1))
-
-pub slice_bounds-lay-end-2 : goal.slice_bounds-lay-end-2
-slice_bounds-lay-end-2 g c = sym (length-take-le c.merge_members-left.result c.merge_members-left.new.aside (aside_within c.requires.members c.requires.room c.directed_of-terms.result c.merge_members-left.ensures.slotted c.merge_members-left.ensures.lens_after c.merge_members-left.ensures.value (omega (arith, c.merge_members-left.auto.aside, c.requires.most_rows_in_bounds.1))))
-
-pub shape_of-trial : goal.shape_of-trial
-shape_of-trial g c = c.merge_members-left.auto.trial
-
-pub shape_of-aside : goal.shape_of-aside
-shape_of-aside g c = c.merge_members-left.auto.aside
 
 pub returns-clause-value : goal.returns-clause-value
 returns-clause-value g c = planned_count c.requires.members c.requires.room c.directed_of-terms.result c.merge_members-left.ensures.slotted c.merge_members-left.ensures.lens_after c.merge_members-left.ensures.aside_after c.args.vehicle c.directed_of-terms.ensures c.lay.ensures.value
@@ -31,7 +18,7 @@ returns-clause-stored g c = planned_laid c.requires.members c.requires.room c.di
 
 pub merge_members-left-requires : goal.merge_members-left-requires
 unfolding directed_of terms_of
-merge_members-left-requires g c = (search rules, (search rules, (subst (λ (t : Directed). Routed c.args.sheet.now t.common.depot (part c.args.tables.now.stops c.args.filled.routed c.args.total)) (sym c.directed_of-terms.ensures) c.requires.members.routed, (c.requires.by_index, (rw (members_long c.requires.members) c.requires.members_in_bounds, (rw (members_long c.requires.members) c.requires.roomy, c.requires.most_rows_in_bounds))))))
+merge_members-left-requires g c = (search rules, (search rules, (subst (λ (t : Directed). Routed c.args.sheet.now t.common.depot (part c.args.tables.now.stops c.args.filled.routed c.args.total)) (sym c.directed_of-terms.ensures) c.requires.members.routed, (c.requires.by_index, (rw (members_long c.requires.members) c.requires.members_in_bounds, (rw (members_long c.requires.members) c.requires.roomy, omega arith))))))
 
 pub lay-requires : goal.lay-requires
 lay-requires g c = (search rules, (search rules, (laying c.requires.members c.requires.room c.directed_of-terms.result c.merge_members-left.ensures.slotted c.merge_members-left.ensures.lens_after, aside_fits c.requires.members c.requires.room c.directed_of-terms.result c.merge_members-left.ensures.slotted c.merge_members-left.ensures.lens_after c.merge_members-left.ensures.aside_after)))

@@ -1,10 +1,11 @@
 -- A merge joins the stops of two different rounds, within capacity, and feasible where that is checked. So what each merge keeps, all rounds have. Assumes nothing.
 use Rattle.std.specs.Prelude.{◌≡◌, ℕ, zero, suc, ◌+◌, ◌≤◌, ◌<◌, Bool, true, false, not, ◌&&◌, ◌||◌, cond, T, leb, eqb, length, set}
-use Rattle.std.proofs.Common.{sym, ap, ◌∙◌, subst, suc-le-suc, zero-lt-suc, arith, leb→le, length-append, eq-eqb}
+use Rattle.std.proofs.Common.{sym, ap, ◌∙◌, suc-le-suc, zero-lt-suc, arith, leb→le, length-append}
 use mathlib.Core.List.{List, [], ◌∷◌, ◌++◌, reverse, reverse_aux}
 use Rattle.std.proofs.Math.ListN.{get_or}
 use Rattle.std.proofs.lemmas.List.{length-reverse}
 use Rattle.std.specs.Float.Ieee.Fits.{and_l, and_r}
+use Rattle.std.proofs.Math.Facts.{eqb_no}
 use Rattle.lists.specs.Count.{count}
 use Rattle.lists.specs.Laws.Once.{count_append}
 use Rattle.lists.specs.Every.{Every}
@@ -116,9 +117,6 @@ if_so : (M : Merge → Type 0) (c : Bool) (m : Merge) → M apart → (T c → M
 if_so M true m f g = g tt
 if_so M false m f g = f
 
-not_same : (a b : ℕ) → T (not (eqb a b)) → a ≡ b → ⊥
-not_same a b h e = subst (λ (x : Bool). T (not x)) (eq-eqb a b e) h
-
 module _ (s : List ℕ) (t : Terms) (P : ℕ → Type 0) (routes : List (List ℕ)) (i j a b : ℕ) where
   abbrev ri : List ℕ
   ri = route_at routes a
@@ -129,7 +127,7 @@ module _ (s : List ℕ) (t : Terms) (P : ℕ → Type 0) (routes : List (List �
   joining_merged : (directed : Bool) → T (may_join s t a b ri rj) → Merged s t P routes (joining directed i j a b ri rj)
   joining_merged directed h =
       let c = t.capacity in
-      let n = not_same a b (and_l (not (eqb a b)) (leb (load_of s ri + load_of s rj) c) h) in
+      let n = eqb_no {a = a} {b = b} (and_l (not (eqb a b)) (leb (load_of s ri + load_of s rj) c) h) in
       let l = leb→le (load_of s ri + load_of s rj) c (and_r (not (eqb a b)) (leb (load_of s ri + load_of s rj) c) h) in
       let M = Merged s t P routes in
       let along : a < length routes → b < length routes → (stops : List ℕ) → JoinedStops s P ri rj stops → Joined s t P routes a b stops

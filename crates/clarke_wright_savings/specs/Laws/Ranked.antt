@@ -1,9 +1,9 @@
 -- What the sort asks of the savings: their values are numbers, and their places are theirs. And how many they are. Assumes nothing.
-use Rattle.std.specs.Prelude.{◌≡◌, refl, ℕ, zero, suc, ◌+◌, ◌*◌, ◌≤◌, Bool, true, false, not, List, [], ◌∷◌, T, Float, length}
+use Rattle.std.specs.Prelude.{◌≡◌, refl, ℕ, zero, suc, ◌+◌, ◌*◌, ◌≤◌, Bool, true, false, List, [], ◌∷◌, T, Float, length}
 use Rattle.std.proofs.Common.{ap, zero-le, suc-mul, arith, length-append}
-use Rattle.std.specs.Float.{nan, inf, fin}
-use Rattle.std.specs.Float.Ieee.{lt, is_nan}
+use Rattle.std.specs.Float.Ieee.{lt}
 use Rattle.std.specs.Float.Ieee.Fits.{and_r}
+use Rattle.std.proofs.lemmas.Float.{le_of_lt, le_right}
 use Rattle.lists.specs.Every.{Every}
 use Rattle.lists.specs.Laws.Every.{every_at, every_append}
 use Rattle.sorting.specs.Descending.{key_of, Numbers, Entries}
@@ -31,17 +31,6 @@ savings_positive s t members [] = tt
 savings_positive s t members (i ∷ is) =
     every_append Positive (savings_from s t i members) (savings_of s t members is) (from_positive s t i members) (savings_positive s t members is)
 
--- what is above something is a number
-above_number : (x y : Float) → T (lt x y) → T (not (is_nan y))
-unfolding lt is_nan
-above_number nan y h = absurd h
-above_number (inf s) nan h = absurd h
-above_number (inf s) (inf t) h = tt
-above_number (inf s) (fin t n d) h = tt
-above_number (fin s m e) nan h = absurd h
-above_number (fin s m e) (inf t) h = tt
-above_number (fin s m e) (fin t n d) h = tt
-
 values_above : (savings : List Saving) → Every Positive savings → Every (λ (y : Float). T (lt nought y)) (values_of savings)
 values_above [] e = tt
 values_above (x ∷ xs) e = (e.0, values_above xs e.1)
@@ -49,7 +38,7 @@ values_above (x ∷ xs) e = (e.0, values_above xs e.1)
 pub savings_numbers : (s : List ℕ) (t : Directed) (members is : List ℕ) → Numbers (values_of (savings_of s t members is))
 savings_numbers s t members is k h =
     let ys = values_of (savings_of s t members is) in
-    above_number nought (key_of ys k) (every_at (λ (y : Float). T (lt nought y)) nought ys k h (values_above (savings_of s t members is) (savings_positive s t members is)))
+    le_right nought (key_of ys k) (le_of_lt nought (key_of ys k) (every_at (λ (y : Float). T (lt nought y)) nought ys k h (values_above (savings_of s t members is) (savings_positive s t members is))))
 
 -- ---- the places
 numbered_below : (keys : List Float) (n k : ℕ) → k + n ≤ length keys → Entries keys (numbered n k)

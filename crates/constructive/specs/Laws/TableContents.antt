@@ -145,7 +145,7 @@ links_at s (x ∷ xs) zero t h = ltb→lt x (rows_of s) (and_r (leb (depots_of s
 links_at s (x ∷ xs) (suc k) t h = links_at s xs k (and_r (is_stop s x) (links_right s xs) t) (omega arith)
 
 -- a table that starts so is long enough
-pub long_enough : (l xs : List ℕ) (n : ℕ) → take n l ≡ xs → length xs ≡ n → n ≤ length l
+pub long_enough : {A : Type 0} (l xs : List A) (n : ℕ) → take n l ≡ xs → length xs ≡ n → n ≤ length l
 long_enough l xs n e h = omega (arith, ap length e, length-take n l)
 
 pub none_routed : (rs : List Round) → length rs ≡ 0 → routed_in rs ≡ 0

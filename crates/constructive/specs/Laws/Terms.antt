@@ -1,6 +1,6 @@
 -- The terms of one depot whose rounds are all made by one vehicle: "Savings, insertion and sweep use the depot's first vehicle for all rounds."
-use Rattle.std.specs.Prelude.{◌≡◌, refl, ℕ, Bool, true, false, not, ◌||◌, List, [], ◌∷◌}
-use Rattle.std.proofs.Common.{true≢false}
+use Rattle.std.specs.Prelude.{◌≡◌, refl, ℕ, true, false, not, ◌||◌, List, [], ◌∷◌}
+use Rattle.std.proofs.lemmas.Bool.{or_parts}
 use Rattle.sheet.specs.declared.customer.Gate.{Gate}
 use Rattle.sheet.specs.declared.customer.Gate.TheVariants.{Open, Hard, Soft}
 use Rattle.sheet.specs.Values.{stop_of}
@@ -22,27 +22,19 @@ unfolding terms_of
 terms_meant s depot v members = record { capacity = refl; limits = refl }
 
 -- ---- a window with a penalty is a window, so that where rounds are not checked there is none
-left_false : (a b : Bool) → (a || b) ≡ false → a ≡ false
-left_false true b e = absurd (true≢false e)
-left_false false b e = refl
-
-right_false : (a b : Bool) → (a || b) ≡ false → b ≡ false
-right_false true b e = absurd (true≢false e)
-right_false false b e = e
-
-gate_open : (g : Gate) → windowed false g ≡ false → windowed true g ≡ false
+pub gate_open : (g : Gate) → windowed false g ≡ false → windowed true g ≡ false
 gate_open Open e = refl
 gate_open (Hard w) e = refl
 gate_open (Soft w penalty) e = e
 
-none_soft : (s rows : List ℕ) → some_windowed false s rows ≡ false → some_windowed true s rows ≡ false
+pub none_soft : (s rows : List ℕ) → some_windowed false s rows ≡ false → some_windowed true s rows ≡ false
 unfolding some_windowed
 none_soft s [] e = refl
 none_soft s (row ∷ rows) e =
-    rw (gate_open (stop_of s row).gate (left_false (row_windowed false s row) (some_windowed false s rows) e)) (none_soft s rows (right_false (row_windowed false s row) (some_windowed false s rows) e))
+    rw (gate_open (stop_of s row).gate (or_parts (row_windowed false s row) (some_windowed false s rows) e).0) (none_soft s rows (or_parts (row_windowed false s row) (some_windowed false s rows) e).1)
 
 pub unchecked_hard : (s : List ℕ) (depot : ℕ) (members : List ℕ) (limits : RouteLimits) → route_checks_needed s depot members limits ≡ false → has_soft_windows s depot members ≡ false
 unfolding route_checks_needed has_time_windows has_soft_windows
 unchecked_hard s depot members limits e =
-    let w = left_false (row_windowed false s depot || some_windowed false s members) (not (is_unlimited limits)) e in
-    rw (gate_open (stop_of s depot).gate (left_false (row_windowed false s depot) (some_windowed false s members) w)) (none_soft s members (right_false (row_windowed false s depot) (some_windowed false s members) w))
+    let w = (or_parts (row_windowed false s depot || some_windowed false s members) (not (is_unlimited limits)) e).0 in
+    rw (gate_open (stop_of s depot).gate (or_parts (row_windowed false s depot) (some_windowed false s members) w).0) (none_soft s members (or_parts (row_windowed false s depot) (some_windowed false s members) w).1)

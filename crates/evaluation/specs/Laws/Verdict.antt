@@ -1,10 +1,12 @@
 -- The laws of the verdict, for those that ask it. Assumes nothing.
-use Rattle.std.specs.Prelude.{◌≡◌, ℕ, ◌+◌, Bool, true, ◌&&◌, ◌||◌, cond, ◌⊎◌, length, Float, Option, Some, None, is_none, is_some}
+use Rattle.std.specs.Prelude.{◌≡◌, ℕ, ◌+◌, Bool, true, ◌&&◌, cond, ◌⊎◌, length, Float, Option, Some, None, is_none, is_some}
 use Rattle.std.proofs.Math.Path.{refl, subst}
 use Rattle.std.proofs.Common.{sym, ap, ◌∙◌, true≢false, inl, inr, arith}
 use Rattle.std.proofs.Math.Bool.{false}
 use mathlib.Core.List.{List, [], ◌∷◌, ◌++◌}
 use Rattle.std.proofs.Math.Dec.{T}
+use Rattle.std.proofs.lemmas.Bool.{or_parts}
+use Rattle.std.proofs.lemmas.Option.{same_Some}
 use Rattle.sheet.specs.Values.{stop_of, distance_of, time_of}
 use Rattle.sheet.specs.declared.customer.Gate.{Gate}
 use Rattle.sheet.specs.declared.customer.Gate.TheVariants.{Open, Hard, Soft}
@@ -58,9 +60,6 @@ unmarked_home limits None place plain no_schedule e = refl
 unmarked_home limits (Some b) place plain (over_limit k) e = rw e refl
 unmarked_home limits (Some b) place plain no_schedule e = rw e refl
 
-allowed_same : (j k : Schedule) → Some j ≡ Some k → j ≡ k
-allowed_same j k e = cc
-
 -- its figures, where it has some: the schedule's, or those with the rest at home
 held_figures : (limits : RouteLimits) (x : Option Schedule) (k : Schedule) → held_to limits x ≡ allowed k → x ≡ Some k
 unfolding held_to
@@ -89,7 +88,7 @@ mended_figures limits (Some b) place plain v k n e = marked limits.at_home refl 
     none f = let z : None ≡ Some k = sym n ∙ f in let y : ◌≡◌ {A = ℕ} 0 1 = cc in absurd (omega arith)
 
     fit : (j : Schedule) (t : Bool) → limits.at_home ≡ true → plain ≡ Some j → mends limits b j.distance j.duration ≡ t → eval_of (cond t (allowed (rested_home b place j)) v) ≡ Some k → Mended limits (Some b) place plain k
-    fit j true h w m f = record { b = b; resting = refl; marked = h; j = j; walked = w; fits = m; is = allowed_same (rested_home b place j) k f }
+    fit j true h w m f = record { b = b; resting = refl; marked = h; j = j; walked = w; fits = m; is = same_Some (rested_home b place j) k f }
     fit j false h w m f = none f
 
     walked : (x : Option Schedule) → limits.at_home ≡ true → plain ≡ x → eval_of (mended_by limits b place x v) ≡ Some k → Mended limits (Some b) place plain k
@@ -102,7 +101,7 @@ mended_figures limits (Some b) place plain v k n e = marked limits.at_home refl 
 
 home_figures : (limits : RouteLimits) (rest : Option VehicleBreak) (place : ℕ) (plain x : Option Schedule) (k : Schedule) (v : Verdict) → held_to limits x ≡ v → eval_of (or_home limits rest place plain v) ≡ Some k → (x ≡ Some k) ⊎ Mended limits rest place plain k
 unfolding or_home
-home_figures limits rest place plain x k (allowed j) h e = inl (held_figures limits x k (h ∙ ap allowed (allowed_same j k e)))
+home_figures limits rest place plain x k (allowed j) h e = inl (held_figures limits x k (h ∙ ap allowed (same_Some j k e)))
 home_figures limits rest place plain x k (over_limit j) h e = inr (mended_figures limits rest place plain (over_limit j) k refl e)
 home_figures limits rest place plain x k no_schedule h e = inr (mended_figures limits rest place plain no_schedule k refl e)
 
@@ -159,10 +158,6 @@ longer_feasible s depot limits route i p e =
     ap (λ (q : Position). is_feasible (verdict_from s depot limits q)) (walked_more s (start_at limits.rest depot) route i ∙ ap (λ (q : Position). drive_to s q i) e)
 
 -- ---- where no row has a window and there is nothing to keep, every round passes
-neither : (a b : Bool) → (a || b) ≡ false → (a ≡ false) × (b ≡ false)
-neither true b e = absurd (true≢false e)
-neither false b e = (refl, e)
-
 within_all : (d u : Option Float) (r : Option VehicleBreak) → T (is_none d && (is_none u && is_none r)) → (x y : Float) → T (within_of d x && within_of u y)
 within_all None None r h x y = tt
 within_all None (Some end) r h x y = absurd h
@@ -187,7 +182,7 @@ module _ (s : List ℕ) (depot : ℕ) (limits : RouteLimits) (free : T (is_unlim
   free_from [] p l e r f =
       subst T (sym (plain_passes limits p.clock _ _ l r f)) (within_all limits.max_distance limits.max_duration limits.rest free _ _)
   free_from (row ∷ rows) p l e r f =
-      let n = neither (row_windowed false s row) (some_windowed false s rows) e in
+      let n = or_parts (row_windowed false s row) (some_windowed false s rows) e in
       let stop = stop_of s row in
       let arrival = l.time ⊕ time_of s p.clock.prev row in
       free_from rows (drive_to s p row) (leaving_at l (arrival ⊕ stop.service)) n.1 r (rw f (open_passes l arrival stop.service stop.gate n.0))

@@ -2,9 +2,6 @@
 use Rattle.evaluator.specs.Record.{build_route}
 use Rattle.evaluator.proofs.build_route.Goals as goal
 
-pub record-requires : goal.record-requires
-record-requires c = (c.progress_after.ensures.prev_bound, c.requires.home)
-
 pub returns : goal.returns
 unfolding build_route
 returns c = rw (c.«record».ensures, c.progress_after.ensures.value, c.place_rest-placed.ensures)

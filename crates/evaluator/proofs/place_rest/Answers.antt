@@ -10,12 +10,6 @@ use Rattle.evaluator.proofs.place_rest.Goals as goal
 resting : (rest : Option VehicleBreak) (b : VehicleBreak) (v : Verdict) (a : RestAnswer) → rest ≡ Some b → a ≡ placed_rest v → record { answer = a; duration = b.duration } ≡ placed_by rest v
 resting rest b v a r e = rw (r, e)
 
-pub rest_answer-answer-requires-clause-routed : goal.rest_answer-answer-requires-clause-routed
-rest_answer-answer-requires-clause-routed c = c.requires
-
-pub rest_answer-answer-requires-clause-rest_value : goal.rest_answer-answer-requires-clause-rest_value
-rest_answer-answer-requires-clause-rest_value c = c.in-Some.is
-
 pub returns-in-None : goal.returns-in-None
 unfolding placed_of
 returns-in-None c = rw c.in-None.is

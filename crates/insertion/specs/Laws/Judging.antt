@@ -1,7 +1,7 @@
 -- How a place is judged: what costs no less than the best so far need not be walked, and without soft windows the walk alone decides. Assumes nothing.
-use Rattle.std.specs.Prelude.{◌≡◌, ℕ, Bool, ◌&&◌, cond, List, Float, Some}
+use Rattle.std.specs.Prelude.{◌≡◌, ℕ, Bool, cond, List, Float, Some}
 use Rattle.std.proofs.Math.Path.{refl}
-use Rattle.std.proofs.Math.Bool.{true, false}
+use Rattle.std.proofs.Math.Bool.{true, false, and-true}
 use Rattle.lists.specs.Moved.{inserted}
 use Rattle.constructive.specs.declared.terms.Terms.{Terms}
 use Rattle.insertion.specs.Choice.{Choice}
@@ -20,8 +20,4 @@ cheap_walked c j k false cost e = refl
 module _ (s : List ℕ) (t : Terms) (route : List ℕ) (row k : ℕ) where
   pub hard_judge : t.soft ≡ false → judge s t route row k ≡ judged (feasible_in s t (inserted k row route)) (detour s t.depot route row k)
   unfolding judge
-  hard_judge e = rw (e, and_true (feasible_in s t (inserted k row route)))
-    where
-      and_true : (b : Bool) → b && true ≡ b
-      and_true true = refl
-      and_true false = refl
+  hard_judge e = rw (e, and-true (feasible_in s t (inserted k row route)))

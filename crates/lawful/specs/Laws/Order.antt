@@ -61,10 +61,6 @@ within : (mark : Bool) (a b : ℕ) (x : Float) → a ≤ b → T (cond mark (not
 within true a b x h t = not_over_lem a b x h t
 within false a b x h t = tt
 
-both : (p q r : Bool) → (T q → T r) → T (p && q) → T (p && r)
-both true q r f t = f t
-both false q r f t = t
-
 each : (p q p' q' : Bool) → (T p → T p') → (T q → T q') → T (p && q) → T (p' && q')
 each true q true q' f g t = g t
 each true q false q' f g t = absurd (f tt)
@@ -126,6 +122,6 @@ module _ (s : List ℕ) (v : ℕ) where
   keeps_monotone is (left a) (left b) h t =
       let far = within_maximum 1 s v (max_distance_at (vehicle_at s v)) (travel_n s v (home_of s v) is) in
       let long = within_maximum 2 s v (max_duration_at (vehicle_at s v)) in
-      both far (long b && home_in_time s v b) (long a && home_in_time s v a)
+      each far (long b && home_in_time s v b) far (long a && home_in_time s v a) (λ t. t)
       (each (long b) (home_in_time s v b) (long a) (home_in_time s v a) (within (marked 2 (vehicle_marks s (vehicle_at s v))) a b (f64_at s (max_duration_at (vehicle_at s v))) h) (in_time (is_windowed s (home_of s v)) a b (due_n s (home_of s v)) h))
       t

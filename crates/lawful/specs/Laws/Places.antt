@@ -1,12 +1,13 @@
 -- The places for the rest, from the stop at hand on: trying each is what the clock's second label does. Assumes nothing.
 use Rattle.std.specs.Prelude.{◌≡◌, ◌⊎◌, Bool, ◌||◌, T, ltb, eqb, length}
 use Rattle.std.proofs.Math.Path.{refl, sym, ap}
-use Rattle.std.proofs.Common.{◌∙◌, le_of_lt, le_antisymm, inl, inr, ltb-true, ltb-false}
+use Rattle.std.proofs.Common.{◌∙◌, le_of_lt, le_antisymm, inl, inr, ltb-true, ltb-false, ⊎_elim}
 use Prim.Native.Nat.{ℕ, zero, suc, ◌≤◌}
 use Rattle.std.proofs.Math.Nat.{sub-zero, suc-sub-suc}
 use Rattle.std.proofs.Math.Bool.{true, false, cond, or-false, or_assoc}
 use mathlib.Core.List.{List, [], ◌∷◌}
 use Rattle.std.proofs.Math.Dec.{eqb-suc-suc, eqb-suc-zero}
+use Rattle.std.proofs.Math.Facts.{or_yes}
 use Rattle.lawful.specs.Lawful.{Walk, failed, left, home_of, stop_n, home_n, walk_n, keeps_maxima, unneeded, some_place}
 use Rattle.lawful.specs.ClockN.{ClockN, earlier_n, push_n, onward_n}
 use Rattle.lawful.specs.Laws.Order.{NoLater, rest_later, walk_monotone, keeps_monotone}
@@ -58,10 +59,6 @@ takes_over true true f = refl
 takes_over true false f = absurd (f tt)
 takes_over false q f = refl
 
-either : {A : Type 0} (p q : Bool) → (T p → A) → (T q → A) → T (p || q) → A
-either true q f g t = f t
-either false q f g t = g t
-
 module _ (s : List ℕ) (v : ℕ) (round : List ℕ) where
   abbrev keeps : Walk → Bool
   keeps w = keeps_maxima s v round w
@@ -92,7 +89,7 @@ module _ (s : List ℕ) (v : ℕ) (round : List ℕ) where
   unrested_keeps w prev (i ∷ is) t =
       let a = stop_n false s v prev i w in
       let b = stop_n true s v prev i w in
-      either (walks b i is) (any_place a i is) (walks_monotone a b i is (rest_later s v prev i w)) (unrested_keeps a i is) t
+      ⊎_elim (walks_monotone a b i is (rest_later s v prev i w)) (unrested_keeps a i is) (or_yes (walks b i is) (any_place a i is) t)
 
   -- ---- the places counted, as `some_place` tries them
   unfoldable placed : Walk → ℕ → List ℕ → ℕ → Bool

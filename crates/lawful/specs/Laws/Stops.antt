@@ -1,7 +1,8 @@
 -- A stop of the sheet in f64 is its stop over natural numbers, with a rest before it and without. Assumes nothing.
-use Rattle.std.specs.Prelude.{◌≡◌, refl, ℕ, suc, ◌+◌, ◌*◌, ◌≤◌, Bool, true, false, ◌&&◌, ◌||◌, cond, List, ltb, Float, Option, Some, None}
+use Rattle.std.specs.Prelude.{◌≡◌, ℕ, suc, ◌+◌, ◌*◌, ◌≤◌, Bool, true, false, ◌&&◌, ◌||◌, cond, List, ltb, Float, Option, Some, None}
 use Rattle.std.proofs.Common.{ap, ◌∙◌, arith}
 use Rattle.std.specs.Float.Ieee.{lt, eq}
+use Rattle.std.proofs.Math.Bool.{and-false, or-false}
 use Rattle.wire.specs.Bytes.{f64_at}
 use Rattle.sheet.specs.Fields.{row_at, row_marks, penalty_at, vehicle_at, earliest_at, latest_at, rest_at, marked, most_rows}
 use Rattle.sheet.specs.Values.{nought, gate_at, window_at, stop_of, time_of}
@@ -75,15 +76,10 @@ module _ (s : List ℕ) (v i : ℕ) (row : RowAmounts s i) (rest : RestAmounts s
     step_rested_lem place (left t) (Some l) u = serve_rested_lem t (time_n s prev i) l (time_of s prev i) u leg place
 
 -- ---- the earlier of two: no lateness costs anything, so the time alone decides
-time_alone : (p q : Bool) → (p || (q && false)) ≡ p
-time_alone true q = refl
-time_alone false true = refl
-time_alone false false = refl
-
 ahead_whole : (n a b : ℕ) (x y : Label) → Tracks n a x → Tracks n b y → wins_over y x ≡ ltb b a
 ahead_whole n a b x y u v =
     ap (λ (t : Bool). lt y.time x.time || (eq y.time x.time && t)) (rw (u.cost, v.cost) (lt_whole 0 0 nought nought nought_is nought_is))
-    ∙ time_alone (lt y.time x.time) (eq y.time x.time)
+    ∙ ap (◌||◌ (lt y.time x.time)) (and-false (eq y.time x.time)) ∙ or-false (lt y.time x.time)
     ∙ lt_whole b a y.time x.time v.time u.time
 
 pub earlier_same : (n : ℕ) (w u : Walk) (x y : Option Label) → Same n w x → Same n u y → Same n (earlier_n w u) (earlier_of x y)

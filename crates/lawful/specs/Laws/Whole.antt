@@ -12,6 +12,7 @@ use Rattle.std.specs.Float.Ieee.Fits.{down_pos}
 use Rattle.std.specs.Float.Ieee.Exact.{HasValue}
 use Rattle.std.specs.Float.Ieee.Back.{round_whole}
 use Rattle.std.specs.Float.Ieee.Scale.{round_same}
+use Rattle.std.proofs.Math.Facts.{yes_eqb}
 use Rattle.numbers.specs.Laws.Upto.{Upto}
 use Rattle.lawful.specs.Whole.{is_whole, nat_of, Is}
 use Rattle.lawful.specs.Lawful.{not_over}
@@ -44,11 +45,8 @@ leb_scaled a b c h =
 
 eqb_scaled : (a b c : ℕ) → 0 < c → eqb (a * c) (b * c) ≡ eqb a b
 eqb_scaled a b c h =
-    same (eqb (a * c) (b * c)) (eqb a b) (λ t. equal a b (eq_of_mul-eq-mul_right c h a b (eqb→eq (a * c) (b * c) t)))
-    (λ t. equal (a * c) (b * c) (ap (λ (n : ℕ). n * c) (eqb→eq a b t)))
-  where
-    equal : (m n : ℕ) → m ≡ n → T (eqb m n)
-    equal m n e = subst T (sym (eq-eqb m n e)) tt
+    same (eqb (a * c) (b * c)) (eqb a b) (λ t. yes_eqb (eq_of_mul-eq-mul_right c h a b (eqb→eq (a * c) (b * c) t)))
+    (λ t. yes_eqb (ap (λ (n : ℕ). n * c) (eqb→eq a b t)))
 
 -- `le` of f64: less or equal
 less_or_equal : (a b : ℕ) → (ltb a b || (eqb a b && true)) ≡ leb a b

@@ -1,20 +1,16 @@
 -- What is listed, and what the reader's tests say of it.
-use Rattle.std.specs.Prelude.{ℕ, ◌≤◌, List, [], ◌∷◌, ◌&&◌, T, leb, length}
+use Rattle.std.specs.Prelude.{ℕ, ◌≤◌, List, ◌&&◌, T, leb, length}
 use Rattle.std.proofs.Math.Dec.{leb→le}
 use Rattle.std.specs.Float.Ieee.Fits.{and_l, and_r}
+use Rattle.plan.specs.Laws.RoundTrip.{aside_stops as off_stops}
 use Rattle.lists.specs.Once.{Stops}
-use Rattle.lists.specs.Laws.Once.{stops_split, distinct_few}
+use Rattle.lists.specs.Laws.Once.{distinct_few}
 use Rattle.sheet.specs.Fields.{rows_of}
-use Rattle.constructive.specs.Outcome.{Round, chains, stops_of}
+use Rattle.constructive.specs.Outcome.{stops_of}
 use Rattle.constructive.specs.Right.{ids_known, links_right, each_once, outcome_right}
 use Rattle.constructive.specs.Laws.Right.{stops_right, distinct_right}
 use Rattle.plan.specs.Read.{rounds_at, read_plan, plan_right}
 use Rattle.listing_text.specs.Listable.{Listable}
-
-off_stops : (n : ℕ) (rs : List Round) (off : List ℕ) → Stops n (chains rs off) → Stops n off
-unfolding chains
-off_stops n [] off o = o
-off_stops n (r ∷ rs) off o = off_stops n rs off (stops_split n r.stops (chains rs off) o).1
 
 module _ (s plan : List ℕ) (ok : Listable s plan) where
   pub few_rounds : rounds_at plan ≤ rows_of s

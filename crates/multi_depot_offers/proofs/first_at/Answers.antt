@@ -8,15 +8,17 @@ use Rattle.multi_depot_offers.proofs.Firsts.{begins, goes_on, ends}
 use Rattle.multi_depot_offers.proofs.first_at.Goals as goal
 
 pub loop-row-init : goal.loop-row-init
-loop-row-init c = begins _ _ c.requires.rows
+loop-row-init c = begins _ _ c.requires
 
 pub overflow_cast-home : goal.overflow_cast-home
-overflow_cast-home c = let p = c.requires in omega (arith, c.unwrap_or.ensures, c.next_depot.ensures.value, next_upto c.args.sheet.now c.loop-row.row c.args.depots, depots_few c.args.sheet.now (omega (arith, p.rows)), p.sheet.sized.rows)
+overflow_cast-home c = let s = c.args.sheet.now in
+    let d = c.depots-depots.ensures in
+    omega (arith, rw d.value at c.unwrap_or.ensures, c.next_depot.ensures.value, next_upto s c.loop-row.row (depots_of s), depots_few s (omega (arith, c.requires)), d.accepted.sized.rows)
 
 pub loop-row-preserved : goal.loop-row-preserved
-loop-row-preserved c = let p = c.requires in let l = c.loop-row in
-    let e : c.unwrap_or.result ≡ next_depot c.args.sheet.now l.row (depots_of c.args.sheet.now) = rw (← p.count) (c.unwrap_or.ensures ∙ c.next_depot.ensures.value) in
-    rw e (goes_on _ _ _ l.invariant (omega (arith, p.rows)))
+loop-row-preserved c = let l = c.loop-row in
+    let e : c.unwrap_or.result ≡ next_depot c.args.sheet.now l.row (depots_of c.args.sheet.now) = rw c.depots-depots.ensures.value at c.unwrap_or.ensures ∙ c.next_depot.ensures.value in
+    rw e (goes_on _ _ _ l.invariant (omega (arith, c.requires)))
 
 pub returns : goal.returns
-returns c = ends _ _ _ c.loop-row.invariant (omega (arith, c.requires.rows))
+returns c = ends _ _ _ c.loop-row.invariant (omega (arith, c.requires))

@@ -9,6 +9,7 @@ returns-then-not-turned-clause-value c = rw c.if-not-turned.true
 
 pub returns : goal.returns
 returns c = let a = c.args in
+    let d = c.depots.ensures in
     let e = c.next_depot.ensures in
-    let r = turned_down a.sheet.now a.depots a.row c.requires a.depot c.next_depot.result (rw c.then_some.ensures at e.value) e.bound in
+    let r = turned_down a.sheet.now d.accepted a.row c.requires a.depot c.next_depot.result (rw (c.then_some.ensures, d.value) at e.value) e.bound in
     record { value = rw c.if-not-turned.false r.0; another = r.1 }

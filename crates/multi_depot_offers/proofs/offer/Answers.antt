@@ -13,7 +13,7 @@ pub loop-row-init : goal.loop-row-init
 loop-row-init c = begins c.args.sheet.now c.args.at.now
 
 pub overflow_cast-home : goal.overflow_cast-home
-overflow_cast-home c = let p = c.requires.offering in omega (arith, c.in-Some.ensures.another, depots_few c.args.sheet.now (omega (arith, p.rows)), p.count, p.sheet.sized.rows)
+overflow_cast-home c = omega (arith, c.in-Some.ensures.another, depots_few c.args.sheet.now (omega (arith, c.requires.rows)), c.accepted.ensures.sized.rows)
 
 pub loop-row-preserved : goal.loop-row-preserved
 loop-row-preserved c = let a = c.args in
@@ -21,7 +21,7 @@ loop-row-preserved c = let a = c.args in
     let l = c.loop-row in
     let here : ℕ = get_or l.at l.row 0 in
     let goes_to : moves_to a.sheet.now (is_in l.row (planned_at a.sheet.now a.at.now).aside) l.row here ≡ unwrap_or c.moves_to.result here =
-    ap (λ (b : Bool). moves_to a.sheet.now b l.row here) (sym (marked_aside a.sheet.now a.marks.now (planned_at a.sheet.now a.at.now).aside p.marks l.row (omega (arith, p.offering.rows)))) ∙ sym c.moves_to.ensures.value in
+    ap (λ (b : Bool). moves_to a.sheet.now b l.row here) (sym (marked_aside a.sheet.now a.marks.now (planned_at a.sheet.now a.at.now).aside p.marks l.row (omega (arith, p.rows)))) ∙ sym c.moves_to.ensures.value in
     elim c.match-moves_to.branch [
       | in-Some w ↦
           let e : moves_to a.sheet.now (is_in l.row (planned_at a.sheet.now a.at.now).aside) l.row here ≡ w.in-Some.next = rw w.in-Some.is at goes_to in

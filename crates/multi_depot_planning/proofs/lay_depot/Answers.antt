@@ -1,12 +1,8 @@
 -- `multi_depot_planning::lay_depot` meets its contract. Assumes nothing.
 use mathlib.Core.Path.{◌∙◌, sym}
-use Rattle.multi_depot_planning.proofs.Sharing.{members_fit, none_shared, ready, shares}
+use Rattle.multi_depot_planning.proofs.Sharing.{none_shared, ready, shares}
 use Rattle.std.proofs.Common.{rules}
 use Rattle.multi_depot_planning.proofs.lay_depot.Goals as goal
-
-pub members_of-total-requires : goal.members_of-total-requires
-members_of-total-requires g c = let p = c.requires in
-    let both = members_fit p.planning_tables p.next in record { gathers = both.0; depot_in_bounds = both.1 }
 
 pub returns-then-total-from : goal.returns-then-total-from
 returns-then-total-from g c = let p = c.requires in

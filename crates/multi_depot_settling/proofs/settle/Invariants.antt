@@ -1,18 +1,21 @@
 -- `multi_depot_settling::settle` meets its contract. Assumes nothing.
 use mathlib.Core.Path.{◌≡◌}
 use mathlib.Core.Bool.{false}
-use lib.ListN.{length}
-use Rattle.sheet.specs.Fields.{rows_of}
 use Rattle.constructive.specs.Marks.{Marks}
+use Rattle.constructive.specs.Tables.{AsLong}
 use Rattle.multi_depot_offers.specs.ByDepot.{planned_at}
 use Rattle.multi_depot_offers.specs.Laws.Settled.{attempts_left}
-use Rattle.multi_depot_planning.proofs.Plans.{Kept}
 use Rattle.multi_depot_settling.specs.Promises.{Untouched}
 use Rattle.multi_depot_settling.proofs.Settling.{Settling}
 use Rattle.multi_depot_settling.proofs.settle.Given as goal
 
 abbrev pub invariant-offers : goal.invariant-offers
-invariant-offers g l = Kept l.initial.marks l.initial.fleet l.initial.tables.stops l.initial.tables.ends l.initial.tables.vehicles l.marks l.fleet l.tables.stops l.tables.ends l.tables.vehicles × (Settling l.sheet l.at × (Marks l.sheet l.marks (planned_at l.sheet l.at).aside × ((length l.before ≡ rows_of l.sheet) × (l.any ≡ false → Untouched l.initial.at l.initial.marks l.initial.tables.stops l.initial.tables.ends l.initial.tables.vehicles l.at l.marks l.tables.stops l.tables.ends l.tables.vehicles))))
+invariant-offers g l = record {
+  as_long : AsLong l.initial.tables.stops l.initial.tables.ends l.initial.tables.vehicles l.tables.stops l.tables.ends l.tables.vehicles;
+  settling : Settling l.sheet l.at;
+  marks : Marks l.sheet l.marks (planned_at l.sheet l.at).aside;
+  untouched : l.any ≡ false → Untouched l.initial.at l.initial.marks l.initial.tables.stops l.initial.tables.ends l.initial.tables.vehicles l.at l.marks l.tables.stops l.tables.ends l.tables.vehicles;
+}
 
 abbrev pub decreases-offers : goal.decreases-offers
 decreases-offers g l = attempts_left l.sheet l.at

@@ -7,6 +7,6 @@ use Rattle.multi_depot_settling.proofs.update_marks.Goals as goal
 pub plan_depot-requires : goal.plan_depot-requires
 plan_depot-requires g c = let p = c.requires in (search rules, (p.planning_tables, (next_alone _ _ _ p.depot_bound.0, omega (arith, p.depot_bound.1, c.clear.auto.marks))))
 
-pub returns : goal.returns
-returns g c = let p = c.requires in
-    record { marks_updated = remarked c.args.depot p.planning_tables.rows (omega (arith, p.depot_bound.1, c.clear.auto.marks)) p.depot_bound.0 c.clear.ensures c.plan_depot.ensures.added.turned; as_long = c.plan_depot.ensures.as_long }
+pub returns-clause-marks_updated : goal.returns-clause-marks_updated
+returns-clause-marks_updated g c = let p = c.requires in
+    remarked c.args.depot p.planning_tables.rows (omega (arith, p.depot_bound.1, c.clear.auto.marks)) p.depot_bound.0 c.clear.ensures c.plan_depot.ensures.added.turned

@@ -1,10 +1,11 @@
 -- Every round of nn_tw keeps its vehicle's capacity and is feasible; every round of the nearest neighbour keeps capacity.
 use Rattle.std.specs.Prelude.{◌≡◌, refl, ℕ, ◌+◌, ◌*◌, ◌≤◌, ◌<◌, Bool, true, false, not, ◌&&◌, cond, List, [], ◌∷◌, ◌++◌, T, Float, length, get_or, Option, Some, None}
-use Rattle.std.proofs.Common.{sym, ◌∙◌, subst, zero-le, arith, leb→le, length-append}
+use Rattle.std.proofs.Common.{sym, ◌∙◌, subst, zero-le, arith, leb→le}
 use Rattle.std.proofs.Math.Path.{ap}
 use Rattle.std.specs.Float.{binary64}
 use Rattle.std.specs.Float.Ieee.{lt, fits}
 use Rattle.std.specs.Float.Ieee.Fits.{and_l, and_r, add-fits}
+use Rattle.std.proofs.lemmas.List.{length_push}
 use Rattle.lists.specs.Every.{Every}
 use Rattle.lists.specs.Laws.Every.{every_of, every_at}
 use Rattle.lists.specs.Laws.Moved.{without_length, without_every}
@@ -153,9 +154,6 @@ record Walked (s : List ℕ) (depot : ℕ) (trip : Trip) : Type 0 where
 started_walked : (s : List ℕ) (depot : ℕ) → depot < rows_of s → Walked s depot (empty_trip depot)
 started_walked s depot h = record { current = refl; here = h; travelled = refl; label = at_depot; served = refl; timed = refl; bounded = start_bounded }
 
-snoc_length : (stops : List ℕ) (i : ℕ) → length (stops ++ (i ∷ [])) ≡ length stops + 1
-snoc_length stops i = length-append stops (i ∷ [])
-
 module _ (s : List ℕ) (depot : ℕ) (fine : Accepted s) (trip : Trip) (i : ℕ) (I : i < rows_of s) (few : length trip.stops < most_rows) (w : Walked s depot trip)
     (m : T (not (missed (stop_of s i).gate (late_at (stop_of s i).gate (arrival_at s trip i))))) where
   leg : Times 1 (time_of s trip.current i)
@@ -192,7 +190,7 @@ module _ (s : List ℕ) (depot : ℕ) (fine : Accepted s) (trip : Trip) (i : ℕ
   bounded_more : LabelBounded (4 * length (trip.stops ++ (i ∷ []))) (1000 * length (trip.stops ++ (i ∷ []))) next.label
   bounded_more =
       let n = length trip.stops in
-      let e = snoc_length trip.stops i in
+      let e = length_push trip.stops i in
       label_widen (4 * n + 4) (1000 * n + 1000) (4 * length (trip.stops ++ (i ∷ []))) (1000 * length (trip.stops ++ (i ∷ []))) next.label (omega arith) (omega arith)
       (subst (ServedBounded (4 * n + 4) (1000 * n + 1000)) stepped
       (step_bounded (4 * n) (1000 * n) (Some w.label) (time_of s trip.current i) (stop_of s i) (omega arith) (omega arith) w.bounded leg (stop_bounded s fine i I)))
@@ -248,7 +246,7 @@ window_growing s depot soft fine D = record {
       let few : length trip.stops < most_rows = omega (arith, k.room, h) in
       record {
         rows = without_every (λ (i : ℕ). i < rows_of s) left j k.rows;
-        room = omega (arith, k.room, snoc_length trip.stops i, without_length left j h);
+        room = omega (arith, k.room, length_push trip.stops i, without_length left j h);
         loaded = record { load = load_more s trip i k.loaded.load; carried = leb→le (trip.load + demand_of s i) (vehicle_of s v).capacity p.carried };
         walked = walked_more s depot fine trip i I few k.walked p.on_time;
         feasible = λ o. test_feasible s depot fine trip i I few k.walked p.on_time (limits_at s v) (limits_at s v).rest refl p.allowed;

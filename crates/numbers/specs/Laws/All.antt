@@ -3,6 +3,7 @@ use Rattle.std.specs.Prelude.{◌≡◌, refl, ℕ, zero, suc, ◌<◌, Bool, tr
 use Rattle.std.proofs.Common.{sym, ap, ◌∙◌, subst, le_of_suc-le-suc, eq-or-lt_of_le, not-suc-le-zero, lt-suc_self, inl, inr}
 use Rattle.std.proofs.Math.Nat.{le_step}
 use Rattle.std.specs.Float.Ieee.Fits.{and_i, and_l, and_r}
+use Rattle.std.proofs.Math.Bool.{and-false}
 use Rattle.numbers.specs.All.{all}
 
 pub all_at : (p : ℕ → Bool) (n k : ℕ) → k < n → T (all p n) → T (p k)
@@ -25,13 +26,9 @@ pub all_broken : (p : ℕ → Bool) (n k : ℕ) → k < n → p k ≡ false → 
 unfolding all
 all_broken p zero k h e = absurd (not-suc-le-zero h)
 all_broken p (suc n) k h e = elim (eq-or-lt_of_le (le_of_suc-le-suc h)) [
-  | inl i ↦ ap (λ (b : Bool). all p n && b) (ap p (sym i) ∙ e) ∙ and_false (all p n)
+  | inl i ↦ ap (λ (b : Bool). all p n && b) (ap p (sym i) ∙ e) ∙ and-false (all p n)
   | inr l ↦ ap (λ (b : Bool). b && p n) (all_broken p n k l e)
 ]
-  where
-    and_false : (b : Bool) → (b && false) ≡ false
-    and_false true = refl
-    and_false false = refl
 
 pub all_of : (p : ℕ → Bool) (n : ℕ) → ((k : ℕ) → k < n → T (p k)) → T (all p n)
 unfolding all

@@ -4,11 +4,12 @@ use Rattle.std.specs.Prelude.{◌≡◌, refl, ℕ, suc, ◌+◌, ◌-◌, ◌*�
 use Rattle.std.proofs.Common.{sym, ap, ◌∙◌, subst, le_trans, le_of_eq, le_of_lt, mul-one, mul_comm, mul_assoc, mul_right_comm, mul-le-mul, mul-le-mul_right, le_of_mul-le-mul_right, add-mul, add-le-add, sub-le, mul-pos, not-le_of_lt, arith, true≢false, ltb→lt, eqb→eq, pow-add, pow_pos, pow_mono, shl_lt}
 use Rattle.std.proofs.Math.Nat.{mul-mul-mul_comm}
 use Rattle.std.specs.Float.{nan, inf, fin, Format, binary64}
-use Rattle.std.specs.Float.Ieee.{prec, emax, low, up, down, odd, units, round, neg, sum, eq, add, sub, mul, lt, le, is_nan}
+use Rattle.std.specs.Float.Ieee.{prec, emax, low, up, down, odd, units, round, neg, sum, add, sub, mul, lt, le, is_nan}
 use Rattle.std.specs.Float.Ieee.Fits.{down_pos, and_l, round_is}
 use Rattle.std.specs.Float.Ieee.Exact.{HasValue, odd_sign, round_exact}
 use Rattle.std.specs.Float.Ieee.Back.{round_whole}
 use Rattle.std.specs.Float.Ieee.Order.{round_mono}
+use Rattle.std.proofs.lemmas.Float.{le_of_lt as float_le_of_lt}
 
 -- x is finite, its sign is clear (so it is not -0 either), and it is n at most
 abbrev pub Upto : ℕ → Float → Type 0
@@ -169,10 +170,5 @@ sub_units j a b x y h k u v l = sub_upto (a * 2 ^ j) (b * 2 ^ j) (a * 2 ^ j) x y
 pub widen_units : (j a b : ℕ) (x : Float) → a ≤ b → Units j a x → Units j b x
 widen_units j a b x h u = widen (a * 2 ^ j) (b * 2 ^ j) x (mul-le-mul_right (2 ^ j) h) u
 
-or_left : (a b : Bool) → T a → T (a || b)
-or_left true b t = tt
-or_left false b t = absurd t
-
 pub lt→le : (x y : Float) → T (lt x y) → T (le x y)
-unfolding le
-lt→le x y t = or_left (lt x y) (eq x y) t
+lt→le = float_le_of_lt

@@ -1,6 +1,6 @@
 -- Stops chained in a plan, one record at each row: what is read of them, and of all the rest. Assumes nothing.
 use Rattle.std.specs.Prelude.{◌≡◌, refl, ◌⊎◌, ℕ, zero, suc, ◌+◌, ◌*◌, ◌≤◌, ◌<◌, ◌^◌, Bool, true, false, List, [], ◌∷◌, ◌++◌, eqb, ltb, length}
-use Rattle.std.proofs.Common.{sym, ◌∙◌, inl, inr, add-zero, arith, drop_at, ltb-true, ltb-false}
+use Rattle.std.proofs.Common.{sym, ◌∙◌, inl, inr, add-zero, arith, ltb-true, ltb-false}
 use Rattle.std.proofs.Math.Path.{ap}
 use Rattle.std.proofs.Math.ListN.{get_or-append}
 use Rattle.std.proofs.lemmas.Bool.{eqb-false}
@@ -8,7 +8,7 @@ use Rattle.lists.specs.Once.{Stops}
 use Rattle.lists.specs.Laws.Once.{Distinct}
 use Rattle.lists.specs.Count.{one, count}
 use Rattle.wire.specs.Bytes.{le, bytes, write}
-use Rattle.wire.specs.Laws.Bytes.{length_bytes, length_write, le_bytes, le_alike, le_drop, le_in, le_before, le_after}
+use Rattle.wire.specs.Laws.Bytes.{length_bytes, length_write, le_bytes, le_alike, le_in, le_before, le_after}
 use Rattle.sheet.specs.Fields.{rows_of, most_rows}
 use Rattle.evaluator.specs.Record.{visited_of}
 use Rattle.evaluator.specs.declared.Progress.{Progress}
@@ -41,9 +41,6 @@ first_lt n (row ∷ rows) h o = let l = o.0.1 in omega arith
 -- a number in a list of two parts
 pub le_front : (m i : ℕ) (xs ys : List ℕ) → i + m ≤ length xs → le m (xs ++ ys) i ≡ le m xs i
 le_front m i xs ys h = le_alike m (xs ++ ys) xs i (λ j l u. get_or-append xs ys 0 j (omega arith))
-
-pub le_skip : (m i k : ℕ) (xs ys : List ℕ) → length xs ≡ k → le m (xs ++ ys) (k + i) ≡ le m ys i
-le_skip m i k xs ys e = sym (le_drop m k (xs ++ ys) i) ∙ ap (λ (l : List ℕ). le m l i) (drop_at xs ys k e)
 
 pub starts : (m v : ℕ) (rest : List ℕ) → v < 256 ^ m → le m (bytes m v ++ rest) 0 ≡ v
 starts m v rest h = let k = length_bytes m v in le_front m 0 (bytes m v) rest (omega arith) ∙ le_bytes m v h

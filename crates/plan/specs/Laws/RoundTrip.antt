@@ -12,7 +12,7 @@ use Rattle.lists.specs.Count.{count}
 use Rattle.lists.specs.Once.{Stops}
 use Rattle.lists.specs.Laws.Once.{Distinct, AllOff, count_append, split, stops_split, distinct_few}
 use Rattle.wire.specs.Bytes.{le, bytes, write}
-use Rattle.wire.specs.Laws.Bytes.{length_bytes, length_write, le_lt, le_in, le_before, le_after}
+use Rattle.wire.specs.Laws.Bytes.{length_bytes, length_write, le_lt, le_in, le_before, le_after, le_past}
 use Rattle.sheet.specs.Fields.{rows_of, vehicles_of, vehicle_at, id_field, most_rows}
 use Rattle.sheet.specs.Accepted.{Accepted}
 use Rattle.sheet.specs.Values.{vehicle_of}
@@ -28,7 +28,7 @@ use Rattle.plan.specs.Plan.{first_of, round_record_at, row_record_at, round_coun
 use Rattle.plan.specs.Stated.{record_bytes}
 use Rattle.plan.specs.Laws.Plan.{round_long, counts_long, header_long}
 use Rattle.plan.specs.Read.{rounds_at, aside_at, id_at, first_stop_at, next_at, chain_of, rounds_from, read_plan, plan_right}
-use Rattle.plan.specs.Laws.Chained.{Linked, Spread, first_lt, le_front, le_skip, starts, visits_spread, aside_spread, clear_low, clear_next, spread_length, spread_keeps, spread_links, chain_back}
+use Rattle.plan.specs.Laws.Chained.{Linked, Spread, first_lt, le_front, starts, visits_spread, aside_spread, clear_low, clear_next, spread_length, spread_keeps, spread_links, chain_back}
 
 linked_kept : (P Q : List ℕ) (n : ℕ) (ys : List ℕ) → ((r : ℕ) → count r ys ≡ 0 → next_at P n r ≡ next_at Q n r) → (rows : List ℕ) → AllOff rows ys → Linked Q n rows → Linked P n rows
 unfolding AllOff
@@ -103,8 +103,8 @@ module _ (s : List ℕ) (most : rows_of s ≤ most_rows) where
     unfolding first_stop_at round_counts
     round_first =
         round_field 2 8 (omega arith)
-        ∙ le_skip 2 4 4 (bytes 4 v.id) _ (length_bytes 4 v.id)
-        ∙ le_skip 2 0 4 (bytes 4 (build_route s v.depot limits stops).load) _ (length_bytes 4 (build_route s v.depot limits stops).load)
+        ∙ le_past 2 4 4 (bytes 4 v.id) _ (length_bytes 4 v.id)
+        ∙ le_past 2 0 4 (bytes 4 (build_route s v.depot limits stops).load) _ (length_bytes 4 (build_route s v.depot limits stops).load)
         ∙ starts 2 (first_of stops) _ (first_lt (rows_of s) stops most o)
 
     round_links : Distinct stops → Linked visited (rows_of s) stops
@@ -215,7 +215,7 @@ module _ (s : List ℕ) (most : rows_of s ≤ most_rows) where
         rw (x.0.0, index_of_lem r.vehicle h, x.0.1.0, stops_back r.stops x.0.1.1 p.0 e.0, rounds_back off rs (k + 1) x.1 (and_r (ltb r.vehicle (vehicles_of s)) (ids_known s rs) t) p.1 e.1.0)
 
 -- ---- the chain after the rounds
-aside_stops : (n : ℕ) (rs : List Round) (off : List ℕ) → Stops n (chains rs off) → Stops n off
+pub aside_stops : (n : ℕ) (rs : List Round) (off : List ℕ) → Stops n (chains rs off) → Stops n off
 unfolding chains
 aside_stops n [] off o = o
 aside_stops n (r ∷ rs) off o = aside_stops n rs off (stops_split n r.stops (chains rs off) o).1
@@ -300,7 +300,7 @@ module _ (s : List ℕ) (o : Outcome) (cost : Float) (a : Accepted s) (small : (
   aside_first =
       let l = long_header in
       le_in chained 0 header header_room 2 2 (omega arith)
-      ∙ le_skip 2 0 2 (bytes 2 (length o.rounds)) _ (length_bytes 2 (length o.rounds))
+      ∙ le_past 2 0 2 (bytes 2 (length o.rounds)) _ (length_bytes 2 (length o.rounds))
       ∙ starts 2 (first_of o.aside) _ (first_lt (rows_of s) o.aside most (aside_stops (rows_of s) o.rounds o.aside stops))
 
   aside_back : chain_of s plan (first_of o.aside) ≡ o.aside

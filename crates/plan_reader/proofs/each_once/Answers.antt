@@ -14,4 +14,4 @@ pub returns-then-rows-depots : goal.returns-then-rows-depots
 returns-then-rows-depots c = as_many c.args.sheet.now c.args.rows.now c.requires.t (omega arith) c.single.result c.single.ensures
 
 pub returns-else-rows-depots : goal.returns-else-rows-depots
-returns-else-rows-depots c = rw (lt-leb c.rows.result (length c.args.rows.now + c.args.depots) (omega arith)) (too_few c.args.sheet.now c.args.rows.now c.requires.t (omega arith))
+returns-else-rows-depots c = rw (lt-leb c.rows.result (length c.args.rows.now + c.depots.result) (omega arith)) (too_few c.args.sheet.now c.args.rows.now c.requires.t (omega arith))

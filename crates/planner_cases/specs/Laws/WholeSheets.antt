@@ -1,7 +1,9 @@
 -- Sheets of whole numbers without soft windows, told by a test. Assumes nothing.
-use Rattle.std.specs.Prelude.{ℕ, ◌<◌, ◌≡◌, refl, Bool, true, false, not, ◌&&◌, List, T}
+use Rattle.std.specs.Prelude.{ℕ, ◌<◌, ◌≡◌, refl, Bool, not, ◌&&◌, List, T}
 use Rattle.std.specs.Float.Ieee.{of_bits, le, round}
 use Rattle.std.specs.Float.Ieee.Fits.{and_l, and_r}
+use Rattle.std.proofs.Math.Dec.{T_not}
+use Rattle.std.proofs.Math.Facts.{yes_and}
 use Rattle.wire.specs.Bytes.{le as number, bytes, signed, f64_at}
 use Rattle.numbers.specs.Range.{in_range}
 use Rattle.numbers.specs.All.{all}
@@ -29,11 +31,6 @@ whole_vehicle s at = whole_at s (earliest_at at) && (whole_at s (latest_at at) &
 abbrev whole_sheet : List ℕ → Bool
 whole_sheet s = all (λ i. whole_row s (row_at i)) (rows_of s) && (all (λ v. whole_vehicle s (vehicle_at s v)) (vehicles_of s) && all (λ k. whole_at s (entry_at s k)) (entries_of s))
 
-unless_both : (a b : Bool) → T (not (a && b)) → T a → T b → ⊥
-unless_both true true t p q = t
-unless_both true false t p q = q
-unless_both false b t p q = p
-
 module _ (s : List ℕ) (t : T (whole_sheet s)) where
   row_whole : (i : ℕ) → i < rows_of s → WholeRow s (row_at i)
   row_whole i h =
@@ -45,7 +42,7 @@ module _ (s : List ℕ) (t : T (whole_sheet s)) where
         service = and_l (whole_at s (service_at at)) _ a;
         ready = and_l (whole_at s (ready_at at)) _ b;
         due = and_l (whole_at s (due_at at)) _ c;
-        hard = unless_both (marked 2 (row_marks s at)) (marked 4 (row_marks s at)) (and_r (whole_at s (due_at at)) _ c);
+        hard = λ p q. T_not _ (and_r (whole_at s (due_at at)) _ c) (yes_and (marked 2 (row_marks s at)) (marked 4 (row_marks s at)) p q);
       }
 
   vehicle_whole : (v : ℕ) → v < vehicles_of s → WholeVehicle s (vehicle_at s v)

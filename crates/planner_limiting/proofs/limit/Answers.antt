@@ -1,5 +1,4 @@
 -- `planner_limiting::limit` meets its contract. Assumes nothing.
-use native.Mathlib.Omega.{arith}
 use Rattle.std.proofs.Common.{rules}
 use Rattle.std.proofs.lemmas.Result.{err_from_is_err_and}
 use Rattle.sheet.specs.Laws.Told.{number_positive}
@@ -9,11 +8,8 @@ use Rattle.planner_limiting.proofs.limit.Goals as goal
 pub returns-in_err-rounds : goal.returns-in_err-rounds
 returns-in_err-rounds c = let p = err_from_is_err_and c.from_residual.result c.from_residual.ensures.1 in rw (p.1, p.2) (limit_refused _ _ _ _ _ (number_positive _) c.in_err-rounds.ensures)
 
-pub new-requires : goal.new-requires
-new-requires c = c.in_ok-rounds.ensures.read.tables.sheet
-
 pub limit_read-requires : goal.limit_read-requires
-limit_read-requires c = (search rules, rw c.new.ensures (limit_may _ _ c.args.plan_out.now _ _ _ _ c.in_ok-rounds.ensures _ _ (omega arith) (omega arith), limit_fits _ _ c.args.plan_out.now _ _ _ _ c.in_ok-rounds.ensures))
+limit_read-requires c = (search rules, rw c.new.ensures (limit_may _ _ c.args.plan_out.now c.in_ok-rounds.ensures, limit_fits _ _ c.args.plan_out.now c.in_ok-rounds.ensures))
 
 pub returns : goal.returns
-returns c = limit_done _ _ _ _ _ _ _ c.in_ok-rounds.ensures _ _ (rw c.new.ensures at c.limit_read.ensures)
+returns c = limit_done _ _ _ c.in_ok-rounds.ensures _ _ (rw c.new.ensures at c.limit_read.ensures)

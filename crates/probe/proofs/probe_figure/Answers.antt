@@ -15,9 +15,6 @@ unfolding probe_figure of_bits neg
 returns-then-not-round_right c = let d = c.in-Some.ensures in
     rw (d.asked, ← ap (λ (x : Driver). x.rows) d.same, ← c.round_right.ensures, c.if-not-round_right.true)
 
-pub new-requires : goal.new-requires
-new-requires c = c.in-Some.ensures.right.sheet
-
 pub figure-requires : goal.figure-requires
 figure-requires c = let d = c.in-Some.ensures in
     rw (d.same, c.new.ensures) (routed_of _ _ _ d.right (passed (rw d.same at c.round_right.ensures) c.if-not-round_right.false))

@@ -4,6 +4,7 @@ use Rattle.std.proofs.Common.{sym, subst, arith, eq-eqb}
 use Rattle.std.proofs.Math.Bool.{not}
 use Rattle.std.proofs.Math.Dec.{T, leb→le, le→leb, eqb→eq, T_not, not_T}
 use Rattle.std.specs.Float.Ieee.Fits.{and_l, and_r}
+use Rattle.std.proofs.Math.Facts.{yes_and}
 use Rattle.numbers.specs.Range.{whole}
 use Rattle.numbers.specs.Laws.All.{all_at, all_of}
 use Rattle.sheet.specs.Fields.{rows_of, vehicles_of, method_of, times_of, spare_of, row_at, x_field, y_field, demand_field, row_marks, service_at, ready_at, vehicle_at, id_field, depot_field, capacity_field, vehicle_marks, cost_at, fixed_at, max_distance_at, earliest_at, entries_of, entry_at, sheet_length, plan_length, marked, header_size, most_rows, most_vehicles}
@@ -13,10 +14,6 @@ use Rattle.sheet.specs.Refusal.{header_right, counts_right, method_right, length
 use Rattle.sheet.specs.Accepted.{RowRanges, VehicleRanges, Sized, Accepted}
 
 -- ---- a test of several parts, and its parts
-both : (a b : Bool) → T a → T b → T (a && b)
-both true b p q = q
-both false b p q = p
-
 row_ranges : (s : List ℕ) (at : ℕ) → T (row_in_range s at) → RowRanges s at
 unfolding row_in_range serving_in_range
 row_ranges s at t =
@@ -38,12 +35,12 @@ row_ranges s at t =
 ranges_row : (s : List ℕ) (at : ℕ) → RowRanges s at → T (row_in_range s at)
 unfolding row_in_range serving_in_range
 ranges_row s at r =
-    both (coordinate (x_field s at)) _ r.x
-    (both (coordinate (y_field s at)) _ r.y
-    (both (demand (demand_field s at)) _ r.demanded
-    (both (marks (row_marks s at)) _ r.marking
-    (both (amount s (service_at at)) _ r.service
-    (both (interval (marked 2 (row_marks s at)) s (ready_at at)) _ r.window r.penalty)))))
+    yes_and (coordinate (x_field s at)) _ r.x
+    (yes_and (coordinate (y_field s at)) _ r.y
+    (yes_and (demand (demand_field s at)) _ r.demanded
+    (yes_and (marks (row_marks s at)) _ r.marking
+    (yes_and (amount s (service_at at)) _ r.service
+    (yes_and (interval (marked 2 (row_marks s at)) s (ready_at at)) _ r.window r.penalty)))))
 
 vehicle_ranges : (s : List ℕ) (at : ℕ) → T (vehicle_in_range s at) → VehicleRanges s at
 unfolding vehicle_in_range maxima_in_range rest_in_range
@@ -70,14 +67,14 @@ vehicle_ranges s at t =
 ranges_vehicle : (s : List ℕ) (at : ℕ) → VehicleRanges s at → T (vehicle_in_range s at)
 unfolding vehicle_in_range maxima_in_range rest_in_range
 ranges_vehicle s at r =
-    both (ltb (depot_field s at) (depots_of s)) _ (le→leb (suc (depot_field s at)) (depots_of s) r.depot)
-    (both (capacity (capacity_field s at)) _ r.carries
-    (both (vehicle_marking (vehicle_marks s at)) _ r.marking
-    (both (cost_per_distance s (cost_at at)) _ r.cost
-    (both (amount s (fixed_at at)) _ r.fixed
-    (both (maxima_in_range s at) _
-    (both (optional (marked 1 (vehicle_marks s at)) (whole (10 ^ 12)) s (max_distance_at at)) _ r.distance r.duration)
-    (both (interval (marked 4 (vehicle_marks s at)) s (earliest_at at)) _ r.rest r.resting))))))
+    yes_and (ltb (depot_field s at) (depots_of s)) _ (le→leb (suc (depot_field s at)) (depots_of s) r.depot)
+    (yes_and (capacity (capacity_field s at)) _ r.carries
+    (yes_and (vehicle_marking (vehicle_marks s at)) _ r.marking
+    (yes_and (cost_per_distance s (cost_at at)) _ r.cost
+    (yes_and (amount s (fixed_at at)) _ r.fixed
+    (yes_and (maxima_in_range s at) _
+    (yes_and (optional (marked 1 (vehicle_marks s at)) (whole (10 ^ 12)) s (max_distance_at at)) _ r.distance r.duration)
+    (yes_and (interval (marked 4 (vehicle_marks s at)) s (earliest_at at)) _ r.rest r.resting))))))
 
 -- ---- the tests of the table, passed one after the other
 past : (t : Bool) (n k : ℕ) → unless t (suc n) k ≡ 0 → T t × (k ≡ 0)
@@ -87,16 +84,6 @@ past false n k h = absurd (omega arith)
 passes : (t : Bool) (n k : ℕ) → T t → k ≡ 0 → unless t n k ≡ 0
 passes true n k t h = h
 passes false n k t h = absurd t
-
-unless_not : (a b : Bool) → T (not (a && b)) → T a → T b → ⊥
-unless_not true true t p q = t
-unless_not true false t p q = q
-unless_not false b t p q = p
-
-not_both : (a b : Bool) → (T a → T b → ⊥) → T (not (a && b))
-not_both true true f = f tt tt
-not_both true false f = tt
-not_both false b f = tt
 
 -- the ids before v differ from its own, both ways
 module _ (s : List ℕ) (v : ℕ) where
@@ -123,7 +110,7 @@ module _ (s : List ℕ) where
 
   fleet_of_lem : T (fleet_right s) → vehicles_of s ≡ 0 → T (needs_vehicle (method_of s)) → ⊥
   unfolding fleet_right
-  fleet_of_lem t e n = unless_not (eqb (vehicles_of s) 0) (needs_vehicle (method_of s)) t (subst T (sym (eq-eqb (vehicles_of s) 0 e)) tt) n
+  fleet_of_lem t e n = T_not _ t (yes_and (eqb (vehicles_of s) 0) (needs_vehicle (method_of s)) (subst T (sym (eq-eqb (vehicles_of s) 0 e)) tt) n)
 
   pub header_of : T (header_right s) → (header_size ≤ length s) × (times_of s ≤ 1) × (spare_of s ≡ 0)
   unfolding header_right
@@ -179,12 +166,12 @@ module _ (s : List ℕ) (a : Accepted s) where
   header_right_lem : T (header_right s)
   unfolding header_right
   header_right_lem =
-      both (leb header_size (length s)) _ (le→leb header_size (length s) (omega (arith, a.sized.long)))
-      (both (leb (times_of s) 1) _ (le→leb (times_of s) 1 a.sized.times) (subst T (sym (eq-eqb (spare_of s) 0 a.spare)) tt))
+      yes_and (leb header_size (length s)) _ (le→leb header_size (length s) (omega (arith, a.sized.long)))
+      (yes_and (leb (times_of s) 1) _ (le→leb (times_of s) 1 a.sized.times) (subst T (sym (eq-eqb (spare_of s) 0 a.spare)) tt))
 
   counts_right_lem : T (counts_right s)
   unfolding counts_right
-  counts_right_lem = both (leb (rows_of s) most_rows) _ (le→leb (rows_of s) most_rows a.sized.rows) (le→leb (vehicles_of s) most_vehicles a.sized.vehicles)
+  counts_right_lem = yes_and (leb (rows_of s) most_rows) _ (le→leb (rows_of s) most_rows a.sized.rows) (le→leb (vehicles_of s) most_vehicles a.sized.vehicles)
 
   method_right_lem : T (method_right s)
   unfolding method_right
@@ -193,7 +180,7 @@ module _ (s : List ℕ) (a : Accepted s) where
   lengths_right_lem : T (lengths_right s (plan_length s))
   unfolding lengths_right
   lengths_right_lem =
-      both (eqb (length s) (sheet_length s)) _ (subst T (sym (eq-eqb (length s) (sheet_length s) a.sized.long)) tt)
+      yes_and (eqb (length s) (sheet_length s)) _ (subst T (sym (eq-eqb (length s) (sheet_length s) a.sized.long)) tt)
       (subst T (sym (eq-eqb (plan_length s) (plan_length s) refl)) tt)
 
   rows_right : T (rows_in_range s)
@@ -208,11 +195,13 @@ module _ (s : List ℕ) (a : Accepted s) where
   unfolding vehicles_in_range
   vehicles_right =
       all_of (λ (v : ℕ). vehicle_in_range s (vehicle_at s v) && new_id s v) (vehicles_of s)
-      (λ v h. both (vehicle_in_range s (vehicle_at s v)) (new_id s v) (ranges_vehicle s (vehicle_at s v) (a.vehicle v h)) (id_new s v (λ w k. a.ids v w h k)))
+      (λ v h. yes_and (vehicle_in_range s (vehicle_at s v)) (new_id s v) (ranges_vehicle s (vehicle_at s v) (a.vehicle v h)) (id_new s v (λ w k. a.ids v w h k)))
 
   fleet_right_lem : T (fleet_right s)
   unfolding fleet_right
-  fleet_right_lem = not_both (eqb (vehicles_of s) 0) (needs_vehicle (method_of s)) (λ t. a.fleet (eqb→eq (vehicles_of s) 0 t))
+  fleet_right_lem =
+      not_T (eqb (vehicles_of s) 0 && needs_vehicle (method_of s))
+      (λ t. a.fleet (eqb→eq (vehicles_of s) 0 (and_l (eqb (vehicles_of s) 0) _ t)) (and_r (eqb (vehicles_of s) 0) _ t))
 
   pub not_refused : refusal_of s (plan_length s) ≡ 0
   unfolding refusal_of contents

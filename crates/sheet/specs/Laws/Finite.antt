@@ -1,6 +1,6 @@
 -- On an accepted sheet no field is a NaN: each is finite, not negative, and at most the end of its range. So no sum or product of a walk overflows.
 use Rattle.std.specs.Prelude.{◌≡◌, refl, ℕ, ◌+◌, ◌*◌, ◌^◌, ◌≤◌, ◌<◌, Bool, true, false, not, List, T, ltb, ℤ, Float, Option, Some, None}
-use Rattle.std.proofs.Common.{sym, ap, ◌∙◌, subst, add-mul, one-mul, arith, eqb→eq, leb→le, ltb-true, ltb-false}
+use Rattle.std.proofs.Common.{sym, ap, ◌∙◌, subst, add-mul, one-mul, arith, eqb→eq, leb→le, ltb-true, ltb-false, add_assoc}
 use Rattle.std.proofs.Math.Arith.{digits_lt}
 use Rattle.std.specs.Float.{binary64}
 use Rattle.std.specs.Float.Ieee.{of_bits, fits}
@@ -53,12 +53,6 @@ cost_upto : (s : List ℕ) (at : ℕ) → T (cost_per_distance s at) → Upto (1
 unfolding cost_per_distance f64_at
 cost_upto s at t = in_range_upto (u64_at s at) (10 ^ 6) (omega arith) (and_l (in_range (u64_at s at) (whole (10 ^ 6))) _ t)
 
-next : (n : ℕ) → n + 24 + 8 ≡ n + 32
-next n = omega arith
-
-after : (n : ℕ) → n + 48 + 8 ≡ n + 56
-after n = omega arith
-
 -- ---- a record's fields, whatever its marks
 pub record RowFinite (s : List ℕ) (at : ℕ) : Type 0 where
   pub service : Upto (10 ^ 9) (f64_at s (service_at at))
@@ -81,7 +75,7 @@ row_finite s at r =
     record {
       service = amount_upto s (service_at at) r.service;
       ready = w.0;
-      due = subst (λ (n : ℕ). Upto (10 ^ 9) (f64_at s n)) (next at) w.1;
+      due = subst (λ (n : ℕ). Upto (10 ^ 9) (f64_at s n)) (add_assoc at 24 8) w.1;
       penalty = optional_upto (10 ^ 6) (marked 4 (row_marks s at)) s (penalty_at at) (omega arith) r.penalty;
     }
 
@@ -94,7 +88,7 @@ vehicle_finite s at r =
       distance = optional_upto (10 ^ 12) (marked 1 (vehicle_marks s at)) s (max_distance_at at) (omega arith) r.distance;
       duration = optional_upto (10 ^ 12) (marked 2 (vehicle_marks s at)) s (max_duration_at at) (omega arith) r.duration;
       earliest = w.0;
-      latest = subst (λ (n : ℕ). Upto (10 ^ 9) (f64_at s n)) (after at) w.1;
+      latest = subst (λ (n : ℕ). Upto (10 ^ 9) (f64_at s n)) (add_assoc at 48 8) w.1;
       resting = optional_upto (10 ^ 9) (marked 4 (vehicle_marks s at)) s (rest_at at) (omega arith) r.resting;
     }
 

@@ -4,7 +4,7 @@ use Prim.Native.Nat.{◌+◌, ◌*◌}
 use native.Mathlib.Omega.{arith}
 use Rattle.wire.specs.Bytes.{write}
 use Rattle.sheet_writer.proofs.Header.{header_written}
-use Rattle.sheet_writer.proofs.Run.{then, wrote}
+use Rattle.wire.proofs.Run.{then, wrote}
 use Rattle.sheet_writer.proofs.put_header.Goals as goal
 
 pub returns : goal.returns

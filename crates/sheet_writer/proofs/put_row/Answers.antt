@@ -3,7 +3,8 @@ use mathlib.Core.Path.{◌∙◌}
 use mathlib.Core.List.{[], ◌∷◌, append_assoc, append-nil}
 use Rattle.sheet_writer.specs.Sheet.{row_record, records_bytes}
 use native.Mathlib.Omega.{arith}
-use Rattle.sheet_writer.proofs.Run.{then, wrote, wrote_signed, wrote_floats}
+use Rattle.wire.proofs.Run.{then, wrote}
+use Rattle.sheet_writer.proofs.Run.{wrote_signed, wrote_floats}
 use Rattle.sheet_writer.proofs.put_row.Goals as goal
 
 pub returns : goal.returns

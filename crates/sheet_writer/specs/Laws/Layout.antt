@@ -2,8 +2,8 @@
 use Rattle.std.specs.Prelude.{◌≡◌, refl, ℕ, zero, suc, ◌+◌, ◌^◌, ◌≤◌, ◌<◌, List, [], ◌∷◌, ◌++◌, length, get_or}
 use Rattle.std.proofs.Common.{sym, ap, ◌∙◌, subst, arith, length-append}
 use Rattle.wire.specs.Bytes.{le, bytes}
-use Rattle.wire.specs.Laws.Bytes.{length_bytes, le_bytes}
-use Rattle.sheet_writer.specs.Laws.Stands.{Stands, stands, le_past}
+use Rattle.wire.specs.Laws.Bytes.{length_bytes, le_bytes, le_past}
+use Rattle.sheet_writer.specs.Laws.Stands.{Stands, stands}
 
 -- fields by their widths in bytes and their values
 abbrev pub fields_bytes : List (ℕ × ℕ) → List ℕ
@@ -40,7 +40,7 @@ field_bytes (g ∷ []) (suc k) h l = absurd (omega arith)
 field_bytes (g ∷ (e ∷ gs)) zero h l =
     (stands [] (bytes g.0 g.1) (fields_bytes (e ∷ gs)) 0 refl).reads g.0 0 (omega (arith, length_bytes g.0 g.1)) ∙ le_bytes g.0 g.1 l
 field_bytes (g ∷ (e ∷ gs)) (suc k) h l =
-    le_past (field (e ∷ gs) k).0 (offset (e ∷ gs) k) (bytes g.0 g.1) (fields_bytes (e ∷ gs)) g.0 (length_bytes g.0 g.1) ∙ field_bytes (e ∷ gs) k (omega arith) l
+    le_past (field (e ∷ gs) k).0 (offset (e ∷ gs) k) g.0 (bytes g.0 g.1) (fields_bytes (e ∷ gs)) (length_bytes g.0 g.1) ∙ field_bytes (e ∷ gs) k (omega arith) l
 
 -- field k of the fields that stand somewhere
 pub field_back : (s : List ℕ) (at : ℕ) (gs : List (ℕ × ℕ)) → Stands s at (fields_bytes gs) → (k : ℕ) → k < length gs → (w v : ℕ) → field gs k ≡ (w, v) → v < 256 ^ w → le w s (at + offset gs k) ≡ v

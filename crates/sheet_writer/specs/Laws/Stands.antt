@@ -1,12 +1,9 @@
 -- Bytes that stand in a list: every number in them is read there. Assumes nothing.
 use Rattle.std.specs.Prelude.{◌≡◌, ℕ, ◌+◌, ◌≤◌, List, ◌++◌, length}
-use Rattle.std.proofs.Common.{sym, ap, ◌∙◌, zero-add, arith, length-append, drop_at}
+use Rattle.std.proofs.Common.{sym, ap, ◌∙◌, zero-add, arith, length-append}
 use Rattle.std.proofs.Math.ListN.{get_or-append}
 use Rattle.wire.specs.Bytes.{le, write}
-use Rattle.wire.specs.Laws.Bytes.{le_drop, le_alike, le_in, length_write}
-
-pub le_past : (n i : ℕ) (front rest : List ℕ) (at : ℕ) → length front ≡ at → le n (front ++ rest) (at + i) ≡ le n rest i
-le_past n i front rest at e = sym (le_drop n at (front ++ rest) i) ∙ ap (λ (l : List ℕ). le n l i) (drop_at front rest at e)
+use Rattle.wire.specs.Laws.Bytes.{le_alike, le_in, length_write, le_past}
 
 -- xs are the bytes of s from `at` on
 pub record Stands (s : List ℕ) (at : ℕ) (xs : List ℕ) : Type 0 where
@@ -18,7 +15,7 @@ stands front xs more at e =
     record {
       within = simp length-append (omega arith);
       reads = λ n i h.
-          le_past n i front (xs ++ more) at e
+          le_past n i at front (xs ++ more) e
           ∙ le_alike n (xs ++ more) xs i (λ j l u. get_or-append xs more 0 j (omega arith));
     }
 

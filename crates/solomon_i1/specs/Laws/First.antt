@@ -1,5 +1,5 @@
 -- The seed's rule takes none of the other stops left before the seed. Assumes nothing.
-use Rattle.std.specs.Prelude.{◌≡◌, refl, Bool, false, not, ◌&&◌, ◌||◌, cond, T, ltb, eqb, take, drop, Float}
+use Rattle.std.specs.Prelude.{◌≡◌, refl, Bool, false, not, ◌&&◌, cond, T, ltb, eqb, take, drop, Float}
 use Rattle.std.proofs.Math.Path.{sym, ap, subst}
 use Rattle.std.proofs.Common.{◌∙◌, zero-lt-suc, zero-add, add-zero, zero-mul, le_of_suc-le-suc, not-suc-le-zero, length-drop, length-take-le, get_or-take, get_or-drop, ltb-true, eqb-true, le-ltb, ne_eqb}
 use Prim.Native.Nat.{ℕ, zero, suc, ◌+◌, ◌*◌, ◌^◌, ◌<◌, suc-le-suc, zero-le}
@@ -9,7 +9,7 @@ use mathlib.Core.List.{List, [], ◌∷◌}
 use Rattle.std.proofs.Math.ListN.{length, get_or}
 use Rattle.std.specs.Float.{nan, inf, fin}
 use Rattle.std.specs.Float.Ieee.{lt, eq, up, down, is_nan, of_bits, of_fields, odd}
-use Rattle.std.proofs.lemmas.Bool.{eqb-false}
+use Rattle.std.proofs.lemmas.Bool.{eqb-false, true_from_ne_false, or_from, and_right}
 use Rattle.lists.specs.Every.{Every}
 use Rattle.lists.specs.Laws.Every.{every_of, every_at, every_append}
 use Rattle.lists.specs.Moved.{without}
@@ -59,11 +59,6 @@ record Far (s : List ℕ) (depot : ℕ) (left : List ℕ) (n : ℕ) (f : Farthes
   first : (i : ℕ) → i < f.place → lt (leg_at s depot left i) f.distance ≡ true
   own : lt (leg_at s depot left f.place) f.distance ≡ false
 
--- what is not less is told by the contrary
-unless_false : (b : Bool) → (b ≡ false → ⊥) → b ≡ true
-unless_false true f = refl
-unless_false false f = absurd (f refl)
-
 module _ (s : List ℕ) (depot : ℕ) (left : List ℕ) (legs : Every (Leg s depot) left) where
   leg_upto : (i : ℕ) → i < length left → Upto (10 ^ 9) (leg_at s depot left i)
   leg_upto i h = every_at (Leg s depot) 0 left i h legs
@@ -102,7 +97,7 @@ module _ (s : List ℕ) (depot : ℕ) (left : List ℕ) (legs : Every (Leg s dep
         none = λ i l. at (λ (i : ℕ). lt (leg_at s depot left n) (leg_at s depot left i) ≡ false) i l
             (λ i k. lt_through (leg_at s depot left n) f.distance (leg_at s depot left i) r.number (lt_asym f.distance (leg_at s depot left n) e) (r.none i k))
             (same_not_less (leg_at s depot left n));
-        first = λ i l. unless_false (lt (leg_at s depot left i) (leg_at s depot left n))
+        first = λ i l. true_from_ne_false (lt (leg_at s depot left i) (leg_at s depot left n))
             (λ k. true≢false (sym e ∙ lt_through f.distance (leg_at s depot left i) (leg_at s depot left n) (leg_number i (omega (arith, l, h))) (r.none i l) k));
         own = same_not_less (leg_at s depot left n);
       }
@@ -127,13 +122,6 @@ ascending_at (row ∷ rows) a i zero h l = absurd (not-suc-le-zero h)
 ascending_at (row ∷ rows) a zero (suc j) h l = every_at (λ (x : ℕ). row < x) 0 rows j (le_of_suc-le-suc l) a.0
 ascending_at (row ∷ rows) a (suc i) (suc j) h l = ascending_at rows a.1 i j (le_of_suc-le-suc h) (le_of_suc-le-suc l)
 
-nor : (a b c : Bool) → a ≡ false → b && c ≡ false → (a || (b && c)) ≡ false
-nor a b c e f = rw (e, f)
-
-and_false : (b c : Bool) → c ≡ false → b && c ≡ false
-and_false true c e = e
-and_false false c e = refl
-
 module _ (s : List ℕ) (depot : ℕ) (left : List ℕ) (some : 0 < length left) (legs : Every (Leg s depot) left) (rising : Ascending left) where
   abbrev place : ℕ
   place = seed_of s depot left
@@ -149,8 +137,8 @@ module _ (s : List ℕ) (depot : ℕ) (left : List ℕ) (some : 0 < length left)
       let p = seed_place s depot left some in
       let x = leg_at s depot left place in
       let y = leg_at s depot left i in
-      let less : lt y x ≡ true = unless_false (lt y x) (λ e. true≢false (sym (r.first i h) ∙ lt_through y x d (leg_number s depot left legs place p) e r.own)) in
-      nor (lt x y) (eq x y) (ltb (get_or left i 0) (get_or left place 0)) (lt_asym y x less)
+      let less : lt y x ≡ true = true_from_ne_false (lt y x) (λ e. true≢false (sym (r.first i h) ∙ lt_through y x d (leg_number s depot left legs place p) e r.own)) in
+      or_from (lt x y) (eq x y && ltb (get_or left i 0) (get_or left place 0)) (lt_asym y x less)
       (rw (less_not_same (10 ^ 9) (10 ^ 9) y x (leg_upto s depot left legs i (omega (arith, h, p))) (leg_upto s depot left legs place p) less))
 
   behind : (i : ℕ) → place < i → i < length left → NotFirst (get_or left i 0)
@@ -161,8 +149,8 @@ module _ (s : List ℕ) (depot : ℕ) (left : List ℕ) (some : 0 < length left)
       let x = leg_at s depot left place in
       let y = leg_at s depot left i in
       let k = ascending_at left rising place i h l in
-      nor (lt x y) (eq x y) (ltb (get_or left i 0) (get_or left place 0)) (lt_through x d y r.number r.own (r.none i l))
-      (and_false (eq x y) (ltb (get_or left i 0) (get_or left place 0)) (le-ltb (get_or left i 0) (get_or left place 0) (omega (arith, k))))
+      or_from (lt x y) (eq x y && ltb (get_or left i 0) (get_or left place 0)) (lt_through x d y r.number r.own (r.none i l))
+      (and_right (eq x y) (ltb (get_or left i 0) (get_or left place 0)) (le-ltb (get_or left i 0) (get_or left place 0) (omega (arith, k))))
 
   -- the seed's rule takes none of them before it
   pub seed_first_lem : Every NotFirst (without place left)

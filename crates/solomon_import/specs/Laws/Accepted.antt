@@ -8,11 +8,11 @@ use Rattle.std.specs.Float.{binary64}
 use Rattle.std.specs.Float.Ieee.{le}
 use Rattle.std.specs.Float.Ieee.Fits.{and_i}
 use Rattle.std.specs.Float.Ieee.Order.{round_mono}
+use Rattle.sheet.specs.Laws.Stops.{depots_some}
 use Rattle.wire.specs.Bytes.{write, u64_at, f64_at}
 use Rattle.wire.specs.Laws.Bytes.{take_write, drop_write}
 use Rattle.numbers.specs.Range.{whole, fraction, in_range}
 use Rattle.sheet.specs.Fields.{rows_of, vehicles_of, row_at, vehicle_at, entries_of, entry_at, sheet_length, plan_length, marked}
-use Rattle.sheet.specs.Depots.{leading, at_least_one, depots_of}
 use Rattle.sheet.specs.Ranges.{marks, vehicle_marking, amount, zero_bits, optional, interval, cost_per_distance}
 use Rattle.sheet.specs.Refusal.{refusal_of}
 use Rattle.sheet.specs.Accepted.{RowRanges, VehicleRanges, Accepted}
@@ -46,14 +46,6 @@ row_ranges s at i c g r =
     }
 
 -- ---- the vehicle
-some_depot : (s : List ℕ) → 0 < depots_of s
-unfolding depots_of
-some_depot s = one (leading s (rows_of s) 0)
-  where
-    one : (n : ℕ) → 0 < at_least_one n
-    one zero = omega arith
-    one (suc n) = omega arith
-
 or_right : (a b : Bool) → T b → T (a || b)
 or_right true b t = tt
 or_right false b t = t
@@ -70,7 +62,7 @@ unfolding vehicle_fields_of optional interval marked marks vehicle_marking
 vehicle_ranges s at z h r =
     let later : at + 48 + 8 ≡ at + 56 = omega arith in
     record {
-      depot = rw r.depot (some_depot s);
+      depot = rw r.depot (depots_some s);
       carries = rw (r.capacity, capacity_same z (up_to_size 0x7fff_ffff z h)) h;
       marking = rw r.marks tt;
       cost = cost_right s (at + 16) r.cost;

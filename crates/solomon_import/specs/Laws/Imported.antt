@@ -1,10 +1,12 @@
 -- The values of an imported sheet's fields: each row is its customer's, each entry a root, and every field holds its value. Assumes nothing.
 use Rattle.std.specs.Prelude.{◌≡◌, refl, ℕ, zero, suc, ◌+◌, ◌*◌, ◌/◌, ◌%◌, ◌^◌, ◌≤◌, ◌<◌, false, List, [], ◌∷◌, T, ℤ, pos, negsuc, nat_abs, ◌-ℤ◌, length, get_or, Float}
-use Rattle.std.proofs.Common.{sym, ap, ◌∙◌, subst, add-zero, mul-le-mul, zero-lt-suc, mod-lt, div-lt_iff_lt-mul, div-add-mod', arith, leb→le, le→leb, lit≤}
+use Rattle.std.proofs.Common.{sym, ap, ◌∙◌, subst, add-zero, mul-le-mul, div-add-mod', arith, leb→le, le→leb, lit≤}
 use Rattle.std.specs.Int.Signed.{mag}
 use Rattle.std.specs.Float.{binary64}
 use Rattle.std.specs.Float.Ieee.{fits, le}
 use Rattle.std.specs.Float.Ieee.Fits.{round-fits}
+use Rattle.std.specs.Float.Ieee.Positive.{first_pos}
+use Rattle.std.proofs.lemmas.Nat.{div_below, mod_below}
 use Rattle.numbers.specs.Range.{whole}
 use Rattle.lists.specs.Laws.Every.{every_of, every_at}
 use Rattle.solomon_text.specs.Numbers.{is_up_to}
@@ -44,13 +46,12 @@ ranged_at (c ∷ cs) r (suc i) h = ranged_at cs (rest_ranged c cs r) i (omega ar
 
 -- ---- distances
 -- entry k of a table of n rows stands in row k / n, at k % n
-entry_place : (n k : ℕ) → k < n * n → (k / n < n) × (k % n < n)
-entry_place zero k l = absurd (omega arith)
-entry_place (suc n) k l = ((div-lt_iff_lt-mul (zero-lt-suc n)).1 l, mod-lt k (zero-lt-suc n))
-
 module _ (cs : List Customer) (table : List Float) (t : DistancesOf cs table) (k : ℕ) (h : k < length table) where
   place : (k / length cs < length cs) × (k % length cs < length cs)
-  place = entry_place (length cs) k (omega (arith, t.long))
+  place =
+      let n = length cs in
+      let few : 0 < n = first_pos n n (omega (arith, t.long)) in
+      (div_below k n n few (omega (arith, t.long)), mod_below k n few)
 
   abbrev from : Customer
   from = customer_at cs (k / length cs)

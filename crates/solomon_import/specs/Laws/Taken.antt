@@ -2,6 +2,7 @@
 use Rattle.std.specs.Prelude.{◌≡◌, refl, ℕ, suc, ◌≤◌, ◌<◌, Bool, true, false, List, [], ◌∷◌, T, leb, length}
 use Rattle.std.proofs.Common.{ap, ◌∙◌, arith, leb-true, le-leb}
 use Rattle.std.proofs.lemmas.Bool.{false≢true, lt-leb}
+use Rattle.std.proofs.lemmas.Float.{T_from_true}
 use Rattle.sheet.specs.Fields.{most_rows}
 use Rattle.sheet.specs.Refusal.{unless}
 use Rattle.solomon_text.specs.Lines.{number_lines}
@@ -17,10 +18,6 @@ unless_passed false n next h = absurd (omega arith)
 unless_next : (b : Bool) (n next : ℕ) → unless b (suc n) next ≡ 0 → next ≡ 0
 unless_next true n next h = h
 unless_next false n next h = absurd (omega arith)
-
-is_true : (b : Bool) → b ≡ true → T b
-is_true true h = tt
-is_true false h = absurd (false≢true h)
 
 pub record Taken (text : List ℕ) : Type 0 where
   pub form : form_right text ≡ true
@@ -50,8 +47,8 @@ taken text h =
       form = f;
       few = leb-true (length (customers_of text)) most_rows (unless_passed N 11 (unless R 5 (unless C 7 0)) h1);
       some = some_row text (number_lines text) refl f;
-      range = is_true R (unless_passed R 4 (unless C 7 0) h2);
-      capacity = is_true C (unless_passed C 6 0 h3);
+      range = T_from_true R (unless_passed R 4 (unless C 7 0) h2);
+      capacity = T_from_true C (unless_passed C 6 0 h3);
     }
 
 -- ---- the refusal of a text and a buffer

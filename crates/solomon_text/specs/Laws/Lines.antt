@@ -4,6 +4,7 @@ use Rattle.std.specs.List.{list_any}
 use Rattle.std.proofs.Math.Path.{refl}
 use Rattle.std.proofs.Common.{ap, ◌∙◌, zero-le, le_refl, zero-lt-suc, arith, add-one, drop_of_length-le, drop-cons}
 use Rattle.std.proofs.Math.Bool.{and-false}
+use Rattle.std.specs.Float.Ieee.Bits.{is_true}
 use Rattle.solomon_text.specs.Lines.{parts_of, parts_with, keep_part, is_feed, starts_with_feed, unless_return, without_returns, lines_of, after_first, first_line, is_digit, has_digit, digit_lines, is_filled}
 use Rattle.solomon_text.specs.Laws.Parts.{Uncut, one_part, part_first, first_and_rest, first_within}
 
@@ -76,10 +77,6 @@ lines_from_first t = first_and_rest is_feed (without_returns t)
 digit_lines_from : (t : List ℕ) (b : Bool) → has_digit (first_line t) ≡ b → digit_lines (lines_of t) ≡ keep_part b (first_line t) (digit_lines (after_first (lines_of t)))
 unfolding digit_lines parts_with
 digit_lines_from t b e = ap digit_lines (lines_from_first t) ∙ ap (λ (k : Bool). keep_part k (first_line t) (digit_lines (after_first (lines_of t)))) e
-
-is_true : (b : Bool) → T b → b ≡ true
-is_true true h = refl
-is_true false h = absurd h
 
 pub digit_line_first : (t : List ℕ) → T (has_digit (first_line t)) → digit_lines (lines_of t) ≡ first_line t ∷ digit_lines (after_first (lines_of t))
 digit_line_first t h = digit_lines_from t true (is_true (has_digit (first_line t)) h)

@@ -1,7 +1,8 @@
 -- The words of a line, one after another. Assumes nothing.
-use Rattle.std.specs.Prelude.{◌≡◌, refl, ℕ, suc, ◌-◌, ◌≤◌, ◌<◌, Bool, true, false, not, List, [], ◌∷◌, ◌++◌, length, get_or, take, drop, ◌+◌}
+use Rattle.std.specs.Prelude.{◌≡◌, refl, ℕ, suc, ◌-◌, ◌≤◌, ◌<◌, true, false, not, List, [], ◌∷◌, ◌++◌, length, get_or, take, drop, ◌+◌}
 use Rattle.std.proofs.Common.{sym, ap, ◌∙◌, ⊎_elim, eq-or-lt_of_le, arith, true≢false, append-nil, length-drop, drop_of_length-le, drop-cons, length-take-le, add-one}
 use Rattle.std.proofs.Math.Seq.{take-nil}
+use Rattle.std.proofs.lemmas.Bool.{not-true, not-false}
 use Rattle.solomon_text.specs.Lines.{parts_of, parts_with, is_blank, is_filled, words_of}
 use Rattle.solomon_text.specs.Laws.Parts.{Uncut, FirstPart, one_part, part_first, walked_and_left}
 
@@ -43,10 +44,6 @@ blank_passed line i h e = rw (add-one, drop-cons line i 0 h) (blank_skipped (get
 blanks_skipped : (blanks rest : List ℕ) → Uncut (λ (b : ℕ). not (is_blank b)) blanks → words_of (blanks ++ rest) ≡ words_of rest
 blanks_skipped [] rest u = refl
 blanks_skipped (b ∷ blanks) rest u = blank_skipped b (blanks ++ rest) (not-false (is_blank b) u.0) ∙ blanks_skipped blanks rest u.1
-  where
-    not-false : (t : Bool) → not t ≡ false → t ≡ true
-    not-false true e = refl
-    not-false false e = absurd (true≢false e)
 
 -- from the first byte that is no blank
 pub next_word : (line : List ℕ) (at next : ℕ) → FirstPart (λ (b : ℕ). not (is_blank b)) line at next → NextWord line at next
@@ -56,10 +53,6 @@ next_word line at next p =
       same = ap words_of (walked_and_left line at next p.walked.from) ∙ blanks_skipped (take (next - at) (drop at line)) (drop next line) p.walked.uncut;
       word = record { within = p.walked.within; starts = λ h. not-true (is_blank (get_or line next 0)) (p.stops h) };
     }
-  where
-    not-true : (t : Bool) → not t ≡ true → t ≡ false
-    not-true true e = absurd (true≢false (sym e))
-    not-true false e = refl
 
 module _ (line : List ℕ) (at end : ℕ) (s : AtWord line at) (p : FirstPart is_blank line at end) where
   module _ (h : at < length line) where

@@ -6,43 +6,19 @@ use lib.Dec.{le→leb, lit≤}
 use lib.Ieee.{in_float, of_bits, round, of_fields, odd, binary64}
 use Rattle.square_root.specs.ClosestRoot.{ClosestRoot}
 use Rattle.square_root.specs.Laws.Closest.{whole_closest}
-use Rattle.square_root.proofs.Rounding.{scaled_first, scaled_more, power_small, root_large, longer_small, rounded}
+use Rattle.square_root.proofs.Rounding.{scaled_more, power_small, longer_small, rounded}
 use Rattle.square_root.proofs.square_root.Goals as goal
 
 pub returns-then-n-eq0 : goal.returns-then-n-eq0
 unfolding of_bits of_fields odd round
 returns-then-n-eq0 c = let z : c.args.n ≡ 0 = omega arith in subst (λ (n : ℕ). ClosestRoot n (of_bits binary64 0)) (sym z) (whole_closest 0 (lit≤ tt))
 
-pub loop-scaled-init : goal.loop-scaled-init
-loop-scaled-init c = scaled_first c.args.n (omega arith) c.ranges.n.fits
-
-pub overflow_mul-scaled : goal.overflow_mul-scaled
-overflow_mul-scaled c = omega arith
-
-pub overflow_mul-p : goal.overflow_mul-p
-overflow_mul-p c = omega (arith, power_small _ _ _ c.loop-scaled.invariant)
-
-pub loop-scaled-smaller : goal.loop-scaled-smaller
-loop-scaled-smaller c = omega (arith, c.loop-scaled.invariant.least)
-
 pub loop-scaled-preserved : goal.loop-scaled-preserved
 loop-scaled-preserved c = scaled_more _ _ _ (omega arith) c.loop-scaled.invariant
-
-pub whole_root-requires : goal.whole_root-requires
-whole_root-requires c = c.loop-scaled.invariant.least
-
-pub longer_root-r-requires : goal.longer_root-r-requires
-longer_root-r-requires c = let w = c.whole_root in (w.ensures.0, w.ensures.1, root_large _ _ (omega arith) w.ensures.1)
-
-pub overflow_add-result : goal.overflow_add-result
-overflow_add-result c = omega (arith, longer_small _ _ c.loop-scaled.invariant.small c.longer_root-r.ensures)
 
 pub int_to_float-result : goal.int_to_float-result
 unfolding in_float
 int_to_float-result c = omega (arith, le→leb, longer_small _ _ c.loop-scaled.invariant.small c.longer_root-r.ensures)
-
-pub overflow_mul-result : goal.overflow_mul-result
-overflow_mul-result c = omega (arith, power_small _ _ _ c.loop-scaled.invariant)
 
 pub int_to_float-result-2 : goal.int_to_float-result-2
 unfolding in_float

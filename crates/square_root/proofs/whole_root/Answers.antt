@@ -2,24 +2,12 @@
 use Prim.Native.Nat.{◌+◌, ◌/◌}
 use lib.Dec.{lit≤}
 use native.Mathlib.Omega.{arith}
-use Rattle.square_root.proofs.Newton.{step_not_below, root_reached, root_some}
+use Rattle.square_root.proofs.Newton.{step_not_below, root_some}
 use Rattle.square_root.proofs.whole_root.Goals as goal
-
-pub overflow_add-r : goal.overflow_add-r
-overflow_add-r c = omega arith
 
 pub loop-r-init : goal.loop-r-init
 loop-r-init c = (step_not_below c.args.n 0xc000_0000 _ (lit≤ tt) (omega arith), omega arith, omega arith)
 
-pub overflow_add-r-in-loop-r : goal.overflow_add-r-in-loop-r
-overflow_add-r-in-loop-r c = omega arith
-
-pub loop-r-smaller : goal.loop-r-smaller
-loop-r-smaller c = omega arith
-
 pub loop-r-preserved : goal.loop-r-preserved
 loop-r-preserved c = let h = step_not_below c.args.n c.loop-r.r ((c.loop-r.r + c.args.n / c.loop-r.r) / 2) c.loop-r.invariant.1 (omega arith) in
     (h, root_some _ _ c.requires h, omega arith)
-
-pub returns : goal.returns
-returns c = (root_reached _ _ (omega arith), c.loop-r.invariant.0)

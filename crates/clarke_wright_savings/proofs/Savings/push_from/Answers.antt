@@ -3,7 +3,7 @@ use mathlib.Core.Path.{refl}
 use native.Mathlib.Omega.{arith}
 use Rattle.clarke_wright_savings.specs.Savings.{savings_from}
 use Rattle.std.proofs.Common.{rules}
-use Rattle.clarke_wright_savings.proofs.Gathering.{none_yet, from_fits, from_skips, from_takes, gathered}
+use Rattle.clarke_wright_savings.proofs.Gathering.{none_yet, from_fits, from_skips, from_takes}
 use Rattle.clarke_wright_savings.proofs.Savings.push_from.Goals as goal
 
 pub loop-other-init : goal.loop-other-init
@@ -21,9 +21,6 @@ overflow_add-end g c = omega (arith, from_fits _ _ _ c.loop-other.invariant c.lo
 
 pub loop-other-preserved : goal.loop-other-preserved
 loop-other-preserved g c = let p = c.push in from_takes _ _ _ c.loop-other.invariant c.loop-other-test.true (rw (← c.is_paired.ensures, ← c.value_of-value.ensures, c.if-not-is_paired.false) (c.if-not-value.false)) _ _ _ _ (rw (← c.value_of-value.ensures) p.ensures)
-
-pub returns : goal.returns
-returns g c = let both = gathered c.loop-other.invariant c.loop-other-test.false in record { value = both.0; savings_pushed = both.1 }
 
 pub push-requires : goal.push-requires
 push-requires g c = let n = from_fits _ _ _ c.loop-other.invariant c.loop-other-test.true in (search rules, (omega (arith, n _ c.requires.members_in_bounds), omega (arith, n 0xffff (omega (arith, c.requires.members_bound)))))

@@ -12,8 +12,5 @@ offset_bounds-stops-end g c = omega (arith, rounds_end _ _ c.args.aside.now c.la
 pub slice_bounds-copy_from_slice-end : goal.slice_bounds-copy_from_slice-end
 slice_bounds-copy_from_slice-end g c = aside_room _ _ c.args.aside.now c.lay_slots-done.ensures.stored c.lay_slots-done.ensures.value c.requires.aside_in_bounds
 
-pub returns-clause-value : goal.returns-clause-value
-returns-clause-value g c = c.lay_slots-done.ensures.value
-
 pub returns-clause-stored : goal.returns-clause-stored
 returns-clause-stored g c = with_aside _ _ c.args.aside.now c.lay_slots-done.ensures.stored c.lay_slots-done.ensures.value c.requires.aside_in_bounds c.copy_from_slice.new.self c.copy_from_slice.ensures.after

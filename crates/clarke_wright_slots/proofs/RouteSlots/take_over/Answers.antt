@@ -1,10 +1,7 @@
 -- `clarke_wright_slots::RouteSlots::take_over` meets its contract. Assumes nothing.
 use native.Mathlib.Omega.{arith}
-use Rattle.clarke_wright_slots.proofs.Taking.{rows_known, taken}
+use Rattle.clarke_wright_slots.proofs.Taking.{taken}
 use Rattle.clarke_wright_slots.proofs.RouteSlots.take_over.Goals as goal
-
-pub relabel-requires : goal.relabel-requires
-relabel-requires g c = rows_known c.args.self.now.cells c.args.self.now.lens c.args.self.now.slots c.args.from c.requires.roomy.known c.requires.by_index
 
 pub returns-clause-slot_taken : goal.returns-clause-slot_taken
 returns-clause-slot_taken g c = rw c.copy_from_slice.ensures.after (taken c.args.self.now.cells c.args.self.now.lens c.args.self.now.loads c.args.self.now.slots c.args.into c.args.from c.args.stops.now _ (omega (arith, c.requires.roomy, c.requires.stops_len_bound)) c.relabel.ensures)

@@ -1,6 +1,6 @@
 -- `constructive::members::gather` meets its contract. Assumes nothing.
 use Rattle.std.proofs.Common.{sym, ◌<◌, length, arith, true, false}
-use Rattle.constructive.proofs.Gathering.{begins, passes, within, keeps, gathered, gathered_end}
+use Rattle.constructive.proofs.Gathering.{begins, passes, within, keeps}
 use Rattle.constructive.proofs.members.gather.Given.{Over}
 use Rattle.constructive.proofs.members.gather.Goals as goal
 use Rattle.constructive.proofs.members.gather.Goals.{Then-keeps, then-keeps, else-keeps}
@@ -26,9 +26,3 @@ loop-number-preserved g c = let l = c.loop-number in
       | then-keeps w ↦ rw (w.table-is, w.end-is) (keeps _ _ _ _ _ _ _ _ l.invariant (omega arith) (sym (c.requires.1.1.1.0 l.number true w.if-keeps.ensures)))
       | else-keeps w ↦ rw (w.table-is, w.end-is) (passes _ _ _ _ _ _ _ _ l.invariant (omega arith) (sym (c.requires.1.1.1.0 l.number false w.if-keeps.ensures)))
     ]
-
-pub returns : goal.returns
-returns g c = let l = c.loop-number in record {
-  value = gathered_end _ _ _ _ _ _ _ _ l.invariant (omega arith);
-  table_after = gathered _ _ _ _ _ _ _ _ l.invariant (omega arith);
-}

@@ -4,9 +4,6 @@ use Rattle.constructive.specs.Laws.Terms.{unchecked_hard}
 use Rattle.constructive.specs.Terms.{terms_of}
 use Rattle.constructive.proofs.terms.terms_with.Goals as goal
 
-pub soft_rules-soft-requires-clause-routed : goal.soft_rules-soft-requires-clause-routed
-soft_rules-soft-requires-clause-routed c = c.requires.routed
-
 pub soft_rules-soft-requires-clause-members_value : goal.soft_rules-soft-requires-clause-members_value
 soft_rules-soft-requires-clause-members_value c = λ e. unchecked_hard _ _ _ _ (sym c.route_checks_needed-constrained.ensures ∙ e)
 

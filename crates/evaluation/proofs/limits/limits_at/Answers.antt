@@ -13,9 +13,6 @@ stop_at-home-requires c = let p = c.requires in
     let depot = ap (λ (v : Vehicle). v.depot) c.vehicle_at-vehicle.ensures.value in
     omega (arith, depot, p.1, home_row _ _ c.vehicle_at-vehicle.ensures.accepted p.0 p.1)
 
-pub rests_home-at_home-requires : goal.rests_home-at_home-requires
-rests_home-at_home-requires c = c.requires.0
-
 pub returns : goal.returns
 unfolding limits_at
 returns c = c.returning_by.ensures ∙ rw (c.latest_return.ensures, c.rests_home-at_home.ensures, c.stop_at-home.ensures, c.limits_of.ensures, c.vehicle_at-vehicle.ensures.value)

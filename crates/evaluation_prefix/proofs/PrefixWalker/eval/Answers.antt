@@ -4,14 +4,8 @@ use native.Mathlib.Omega.{arith}
 use Rattle.evaluation.specs.Verdict.{eval_of}
 use Rattle.evaluation.specs.Feasible.{route_eval}
 use Rattle.evaluation.proofs.ByRest.{by_rest}
-use Rattle.evaluation_prefix.proofs.WalkingOn.{left_routed, whole}
+use Rattle.evaluation_prefix.proofs.WalkingOn.{whole}
 use Rattle.evaluation_prefix.proofs.PrefixWalker.eval.Goals as goal
-
-pub walk_on-requires-clause-routed : goal.walk_on-requires-clause-routed
-walk_on-requires-clause-routed c = left_routed _ _ _ _ _ c.requires.routed c.requires.knows.from c.requires.knows.place
-
-pub walk_on-requires-clause-depot_bound : goal.walk_on-requires-clause-depot_bound
-walk_on-requires-clause-depot_bound c = c.requires.routed.home
 
 pub returns : goal.returns
 unfolding route_eval

@@ -4,4 +4,4 @@ use Rattle.multi_depot_offers.proofs.depots.is_asked.Goals as goal
 
 pub is_sooner-requires : goal.is_sooner-requires
 is_sooner-requires c = let p = c.requires in
-    (p.row_asked.row, (depot_row _ _ _ p.row_asked c.in-Some.after (p.after_bound c.in-Some.after c.in-Some.is), depot_row _ _ _ p.row_asked c.args.d p.d_lt_depots))
+    (p.row, (depot_row _ _ p.row c.in-Some.after (p.after_bound c.in-Some.after c.in-Some.is), depot_row _ _ p.row c.args.d p.d_lt_depots))

@@ -1,20 +1,20 @@
 -- `multi_depot_offers::depots::next_depot` meets its contract. Assumes nothing.
 use Rattle.std.proofs.Common.{◌≡◌, sym, ◌∙◌, ◌+◌, arith, unwrap_or}
+use Rattle.sheet.specs.Depots.{depots_of}
 use Rattle.multi_depot_offers.specs.ByDepot.{nearer}
 use Rattle.multi_depot_offers.proofs.Asking.{Seeking, begins, taken, not_asked_lem, beaten, goes_on, ends}
 use Rattle.multi_depot_offers.proofs.depots.next_depot.Goals as goal
 use Rattle.multi_depot_offers.proofs.depots.next_depot.Goals.{then-wins+then-is_asked, else-wins, else-wins-via-then-wins+else-is_asked, else-wins-via-else-wins}
 
 pub loop-d-init : goal.loop-d-init
-loop-d-init c = let a = c.args in record {
-  bound = λ x e. cc;
-  seeking = begins a.sheet.now a.stop (unwrap_or a.after a.depots) a.depots c.requires.row_asked.count;
-}
+loop-d-init c = record { bound = λ x e. cc; seeking = begins _ _ _ }
 
 pub loop-d-preserved : goal.loop-d-preserved
-loop-d-preserved c = let a = c.args in
+loop-d-preserved c = let s = c.args.sheet.now in
     let l = c.loop-d in
-    let next : Seeking a.sheet.now a.stop (unwrap_or a.after a.depots) a.depots (nearer a.sheet.now a.stop (unwrap_or a.after a.depots) (unwrap_or l.best a.depots) l.d) (l.d + 1) = goes_on a.sheet.now a.stop (unwrap_or a.after a.depots) a.depots (unwrap_or l.best a.depots) l.d l.invariant.seeking c.loop-d-test.true in
+    let after = unwrap_or c.args.after (depots_of s) in
+    let best = unwrap_or l.best (depots_of s) in
+    let next : Seeking s c.args.stop after (nearer s c.args.stop after best l.d) (l.d + 1) = goes_on _ _ _ _ _ l.invariant.seeking (omega arith) in
     elim c.if-wins.branch [
       | then-wins+then-is_asked w ↦ record {
         bound = λ x e. let q : l.d ≡ x = cc in omega arith;
@@ -30,6 +30,4 @@ loop-d-preserved c = let a = c.args in
     ]
 
 pub returns-clause-value : goal.returns-clause-value
-returns-clause-value c = let a = c.args in
-    let l = c.loop-d in
-    ends a.sheet.now a.stop (unwrap_or a.after a.depots) a.depots (unwrap_or l.best a.depots) l.d l.invariant.seeking c.loop-d-test.false
+returns-clause-value c = ends _ _ _ _ _ c.loop-d.invariant.seeking (omega arith)

@@ -1,6 +1,6 @@
 -- `nearest_neighbor::greedy::lay_rounds` meets its contract. Assumes nothing.
 use Rattle.std.proofs.Common.{rules}
-use Rattle.nearest_neighbor.proofs.Laying.{begins, left_members, known_index, passes_on, close_room, closes, ends_count, ends_laid}
+use Rattle.nearest_neighbor.proofs.Laying.{begins, left_members, passes_on, close_room, closes, ends_count, ends_laid}
 use Rattle.nearest_neighbor.proofs.greedy.lay_rounds.Goals as goal
 
 pub loop-index-init : goal.loop-index-init
@@ -8,9 +8,6 @@ loop-index-init g c = begins c.args.sheet.now c.args.depot (g.R.Rule.which c.arg
 
 pub grow_round-end-requires-clause-members : goal.grow_round-end-requires-clause-members
 grow_round-end-requires-clause-members g c = left_members _ _ _ _ _ _ _ _ _ _ _ _ _ _ _ c.loop-index.invariant
-
-pub grow_round-end-requires-clause-index_bound : goal.grow_round-end-requires-clause-index_bound
-grow_round-end-requires-clause-index_bound g c = known_index _ _ _ _ _ _ _ _ _ _ _ _ _ _ _ c.loop-index.invariant c.loop-index-test.true
 
 pub loop-index-preserved-then-end-start : goal.loop-index-preserved-then-end-start
 loop-index-preserved-then-end-start g c = passes_on _ _ _ _ _ _ _ _ _ _ _ _ _ _ _ c.loop-index.invariant c.loop-index-test.true _ _ c.grow_round-end.ensures.value c.grow_round-end.ensures.stops_after c.if-end-start.true

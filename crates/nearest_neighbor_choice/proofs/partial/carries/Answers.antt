@@ -5,6 +5,3 @@ use Rattle.nearest_neighbor_choice.proofs.partial.carries.Goals as goal
 
 pub overflow_add-result : goal.overflow_add-result
 overflow_add-result c = record { fits = omega (arith, loaded c.args.sheet.now c.args.partial c.args.row _ c.requires.partial_route c.requires.row_bound c.demand.ensures, c.requires.partial_route.few) }
-
-pub returns : goal.returns
-returns c = rw c.demand.ensures

@@ -2,7 +2,7 @@
 use native.Mathlib.Omega.{arith}
 use Rattle.evaluation_clock.specs.Serve.{rest_place}
 use Rattle.plan.specs.Plan.{round_counts}
-use Rattle.plan.proofs.Run.{then, wrote}
+use Rattle.wire.proofs.Run.{then, wrote}
 use Rattle.plan.proofs.records.put_counts.Goals as goal
 
 pub returns : goal.returns

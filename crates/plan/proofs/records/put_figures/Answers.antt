@@ -3,14 +3,8 @@ use native.Mathlib.Omega.{arith}
 use lib.Ieee.{binary64, to_bits}
 use Rattle.evaluation_clock.specs.Serve.{rest_start}
 use Rattle.plan.specs.Plan.{round_figures}
-use Rattle.plan.proofs.Run.{then, wrote}
+use Rattle.wire.proofs.Run.{then, wrote}
 use Rattle.plan.proofs.records.put_figures.Goals as goal
-
-pub put_f64-requires-5-clause-at_in_bounds : goal.put_f64-requires-5-clause-at_in_bounds
-put_f64-requires-5-clause-at_in_bounds c = omega arith
-
-pub put_f64-requires-5-clause-t : goal.put_f64-requires-5-clause-t
-put_f64-requires-5-clause-t c = rw c.rest_start.ensures c.requires.record_writable.start
 
 pub returns : goal.returns
 unfolding round_figures

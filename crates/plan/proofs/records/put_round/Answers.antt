@@ -2,7 +2,7 @@
 use native.Mathlib.Omega.{arith}
 use Rattle.plan.specs.Plan.{round_bytes}
 use Rattle.plan.specs.Laws.Plan.{counts_long, figures_long}
-use Rattle.plan.proofs.Run.{then}
+use Rattle.wire.proofs.Run.{then}
 use Rattle.plan.proofs.records.put_round.Goals as goal
 
 pub returns : goal.returns

@@ -2,7 +2,7 @@
 use native.Mathlib.Omega.{arith}
 use lib.Ieee.{binary64, to_bits}
 use Rattle.plan.specs.Plan.{visit_bytes}
-use Rattle.plan.proofs.Run.{then, wrote}
+use Rattle.wire.proofs.Run.{then, wrote}
 use Rattle.plan.proofs.records.put_visit.Goals as goal
 
 pub returns : goal.returns

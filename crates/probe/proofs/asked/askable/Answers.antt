@@ -1,7 +1,7 @@
 -- `probe::asked::askable` meets its contract. Assumes nothing.
 use borrow.Author.Tests.{le-ltb, lt-ltb}
 use Rattle.probe.specs.Promises.{askable}
-use Rattle.probe.proofs.Right.{accepted_of_lem, headed, passed}
+use Rattle.probe.proofs.Right.{accepted_of_lem, passed}
 use Rattle.probe.proofs.asked.askable.Goals as goal
 
 pub returns-then-not-accepted : goal.returns-then-not-accepted
@@ -14,9 +14,6 @@ returns-then-vehicles-vehicle c = rw (← c.accepted.ensures, c.if-not-accepted.
 
 pub new-sheet-requires : goal.new-sheet-requires
 new-sheet-requires c = accepted_of_lem c.args.sheet.now (passed c.accepted.ensures (c.if-not-accepted.false))
-
-pub vehicle_at-requires : goal.vehicle_at-requires
-vehicle_at-requires c = rw (← c.vehicles.ensures.value) c.if-vehicles-vehicle.false
 
 pub returns : goal.returns
 unfolding askable

@@ -1,19 +1,13 @@
 -- `solomon_i1::growing::lay_rounds` meets its contract. Assumes nothing.
-use mathlib.Core.Path.{refl, sym}
+use mathlib.Core.Path.{refl}
 use native.Mathlib.Omega.{arith}
 use lib.Seq.{length-take-le}
 use Rattle.std.proofs.Common.{rules}
-use Rattle.solomon_i1.proofs.Laying.{begins, starts, within, most, left_routed, seed_in_lem, seed_in_front, total_within, known, goes_aside, left_joinable, left_seed, left_room, grown_some, grown_within, close_room, goes_round, ends_entered, ends_laid}
+use Rattle.solomon_i1.proofs.Laying.{begins, within, most, left_routed, seed_in_lem, seed_in_front, total_within, known, goes_aside, left_joinable, left_seed, left_room, grown_some, grown_within, close_room, goes_round, ends_entered, ends_laid}
 use Rattle.solomon_i1.proofs.growing.lay_rounds.Goals as goal
 
 pub loop-at-init : goal.loop-at-init
 loop-at-init g c = begins c.args.sheet.now c.args.terms c.args.tables.now.stops c.args.tables.now.ends c.args.tables.now.vehicles c.args.trial.now c.args.filled c.args.total c.requires.joinable c.requires.total_bound.0 c.requires.total_bound.1 c.requires.total_in_bounds.0 c.requires.total_in_bounds.1 c.requires.room
-
-pub offset_bounds-stops-at : goal.offset_bounds-stops-at
-offset_bounds-stops-at g c = omega (arith, starts _ _ _ _ _ _ _ _ _ _ _ _ _ _ _ c.loop-at.invariant, most _ _ _ _ _ _ _ _ _ _ _ _ _ _ _ c.loop-at.invariant)
-
-pub slice_bounds-farthest-count : goal.slice_bounds-farthest-count
-slice_bounds-farthest-count g c = starts _ _ _ _ _ _ _ _ _ _ _ _ _ _ _ c.loop-at.invariant
 
 pub slice_bounds-farthest-end : goal.slice_bounds-farthest-end
 slice_bounds-farthest-end g c = within _ _ _ _ _ _ _ _ _ _ _ _ _ _ _ c.loop-at.invariant
@@ -36,41 +30,20 @@ goes_alone-requires g c = let both = known _ _ _ _ _ _ _ _ _ _ _ _ _ _ _ c.loop-
 pub overflow_add-at-then-not-goes_alone : goal.overflow_add-at-then-not-goes_alone
 overflow_add-at-then-not-goes_alone g c = omega (arith, seed_in_lem _ _ _ _ _ _ _ _ _ _ _ _ _ _ _ c.loop-at.invariant c.loop-at-test.true c.farthest-seed.result c.farthest-seed.ensures, most _ _ _ _ _ _ _ _ _ _ _ _ _ _ _ c.loop-at.invariant)
 
-pub slice_bounds-send_last-end : goal.slice_bounds-send_last-end
-slice_bounds-send_last-end g c = sym (length-take-le c.args.total c.loop-at.tables.stops (total_within _ _ _ _ _ _ _ _ _ _ _ _ _ _ _ c.loop-at.invariant))
-
 pub whole_as_front-send_last : goal.whole_as_front-send_last
 whole_as_front-send_last g c = omega (arith, total_within _ _ _ _ _ _ _ _ _ _ _ _ _ _ _ c.loop-at.invariant)
 
 pub send_last-requires : goal.send_last-requires
 send_last-requires g c = rw (length-take-le c.args.total c.loop-at.tables.stops (total_within _ _ _ _ _ _ _ _ _ _ _ _ _ _ _ c.loop-at.invariant)) (seed_in_front _ _ _ _ _ _ _ _ _ _ _ _ _ _ _ c.loop-at.invariant c.loop-at-test.true c.farthest-seed.result c.farthest-seed.ensures)
 
-pub overflow_sub-end : goal.overflow_sub-end
-overflow_sub-end g c = omega (arith, c.loop-at-test.true)
-
-pub loop-at-smaller-then-not-goes_alone : goal.loop-at-smaller-then-not-goes_alone
-loop-at-smaller-then-not-goes_alone g c = omega (arith, c.loop-at-test.true)
-
 pub loop-at-preserved-then-not-goes_alone : goal.loop-at-preserved-then-not-goes_alone
 loop-at-preserved-then-not-goes_alone g c = goes_aside _ _ _ _ _ _ _ _ _ _ _ _ _ _ _ c.loop-at.invariant c.loop-at-test.true c.farthest-seed.result c.farthest-seed.ensures c.goes_alone.result c.goes_alone.ensures (c.if-not-goes_alone.true) _ c.send_last.ensures
-
-pub offset_bounds-left-at : goal.offset_bounds-left-at
-offset_bounds-left-at g c = omega (arith, starts _ _ _ _ _ _ _ _ _ _ _ _ _ _ _ c.loop-at.invariant, most _ _ _ _ _ _ _ _ _ _ _ _ _ _ _ c.loop-at.invariant)
-
-pub slice_bounds-open_round-count : goal.slice_bounds-open_round-count
-slice_bounds-open_round-count g c = starts _ _ _ _ _ _ _ _ _ _ _ _ _ _ _ c.loop-at.invariant
-
-pub slice_bounds-open_round-end : goal.slice_bounds-open_round-end
-slice_bounds-open_round-end g c = within _ _ _ _ _ _ _ _ _ _ _ _ _ _ _ c.loop-at.invariant
 
 pub open_round-at-requires-clause-joinable : goal.open_round-at-requires-clause-joinable
 open_round-at-requires-clause-joinable g c = left_joinable _ _ _ _ _ _ _ _ _ _ _ _ _ _ _ c.loop-at.invariant c.loop-at-test.true c.farthest-seed.result c.farthest-seed.ensures
 
 pub open_round-at-requires-clause-seed_in_bounds : goal.open_round-at-requires-clause-seed_in_bounds
 open_round-at-requires-clause-seed_in_bounds g c = (left_seed _ _ _ _ _ _ _ _ _ _ _ _ _ _ _ c.loop-at.invariant c.loop-at-test.true c.farthest-seed.result c.farthest-seed.ensures, left_room _ _ _ _ _ _ _ _ _ _ _ _ _ _ _ c.loop-at.invariant c.loop-at-test.true c.farthest-seed.result c.farthest-seed.ensures)
-
-pub overflow_add-at-in-loop-at : goal.overflow_add-at-in-loop-at
-overflow_add-at-in-loop-at g c = omega (arith, grown_within _ _ _ _ _ _ _ _ _ _ _ _ _ _ _ c.loop-at.invariant c.loop-at-test.true c.farthest-seed.result c.farthest-seed.ensures c.open_round-at.result c.open_round-at.ensures.value, most _ _ _ _ _ _ _ _ _ _ _ _ _ _ _ c.loop-at.invariant)
 
 pub close_round-done-requires : goal.close_round-done-requires
 close_round-done-requires g c = let both = close_room _ _ _ _ _ _ _ _ _ _ _ _ _ _ _ c.loop-at.invariant c.loop-at-test.true c.farthest-seed.result c.farthest-seed.ensures c.open_round-at.result c.open_round-at.ensures.value in (search rules, both)
@@ -80,9 +53,6 @@ loop-at-smaller g c = omega (arith, c.loop-at-test.true, grown_some _ _ _ _ _ _ 
 
 pub loop-at-preserved : goal.loop-at-preserved
 loop-at-preserved g c = rw c.close_round-done.ensures.stops_kept (goes_round _ _ _ _ _ _ _ _ _ _ _ _ _ _ _ c.loop-at.invariant c.loop-at-test.true c.farthest-seed.result c.farthest-seed.ensures c.open_round-at.result c.open_round-at.ensures.value c.goes_alone.result c.goes_alone.ensures (c.if-not-goes_alone.false) _ _ _ _ _ _ c.open_round-at.ensures.left_after refl c.open_round-at.auto.trial c.close_round-done.ensures.value c.close_round-done.ensures.ends_after.0 c.close_round-done.ensures.ends_after.1)
-
-pub shape_of-trial : goal.shape_of-trial
-shape_of-trial g c = c.loop-at.invariant.tried
 
 pub returns-clause-entered : goal.returns-clause-entered
 returns-clause-entered g c = ends_entered _ _ _ _ _ _ _ _ _ _ _ _ _ _ _ c.loop-at.invariant c.loop-at-test.false

@@ -1,15 +1,7 @@
 -- `solomon_i1::seed::farthest` meets its contract. Assumes nothing.
-use mathlib.Core.Path.{refl}
-use native.Mathlib.Omega.{arith}
 use Rattle.solomon_i1.proofs.Seeking.{is_farther, no_farther, found}
 use Rattle.solomon_i1.proofs.seed.farthest.Goals.{then-most-distance, else-most-distance}
 use Rattle.solomon_i1.proofs.seed.farthest.Goals as goal
-
-pub loop-j-init : goal.loop-j-init
-loop-j-init c = record { last = refl; within = omega arith; same = refl }
-
-pub distance-distance-requires : goal.distance-distance-requires
-distance-distance-requires c = (c.requires.home, c.requires.row c.loop-j.j (omega (arith, c.loop-j.invariant.last)))
 
 pub loop-j-preserved : goal.loop-j-preserved
 loop-j-preserved c =

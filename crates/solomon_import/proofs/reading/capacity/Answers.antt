@@ -11,12 +11,6 @@ use Rattle.solomon_text.specs.Numbers.{number_at}
 use Rattle.solomon_import.specs.Instance.{capacity_of}
 use Rattle.solomon_import.proofs.reading.capacity.Goals as goal
 
-pub line_end-requires : goal.line_end-requires
-line_end-requires c = c.first_number_line-at.ensures.0
-
-pub slice_bounds-line-count : goal.slice_bounds-line-count
-slice_bounds-line-count c = c.line_end.ensures.0
-
 pub value-requires : goal.value-requires
 unfolding capacity_of
 value-requires c = subst (λ (l : List ℕ). nat_abs (number_at l 1) ≤ 0x7fff_ffff) (sym (c.line_end.ensures.2 ∙ vehicle_line c.args.text.now c.first_number_line-at.result c.first_number_line-at.ensures)) (up_to_size 0x7fff_ffff (capacity_of c.args.text.now) c.requires)

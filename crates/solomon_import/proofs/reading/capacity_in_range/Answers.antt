@@ -8,12 +8,6 @@ use Rattle.solomon_import.specs.Instance.{capacity_of}
 use Rattle.solomon_import.specs.Import.{capacity_range}
 use Rattle.solomon_import.proofs.reading.capacity_in_range.Goals as goal
 
-pub line_end-requires : goal.line_end-requires
-line_end-requires c = c.first_number_line-at.ensures.0
-
-pub slice_bounds-line-count : goal.slice_bounds-line-count
-slice_bounds-line-count c = c.line_end.ensures.0
-
 pub returns : goal.returns
 unfolding capacity_of
 returns c = c.is_up_to.ensures ∙ ap (λ (l : List ℕ). capacity_range (number_at l 1)) (c.line_end.ensures.2 ∙ vehicle_line c.args.text.now c.first_number_line-at.result c.first_number_line-at.ensures)

@@ -4,11 +4,5 @@ use Rattle.solomon_import.proofs.Refusing.{vehicle_line}
 use Rattle.solomon_text.specs.Numbers.{holds_numbers}
 use Rattle.solomon_import.proofs.reading.vehicle_line_right.Goals as goal
 
-pub line_end-requires : goal.line_end-requires
-line_end-requires c = c.first_number_line-at.ensures.0
-
-pub slice_bounds-line-count : goal.slice_bounds-line-count
-slice_bounds-line-count c = c.line_end.ensures.0
-
 pub returns : goal.returns
 returns c = c.holds_numbers.ensures ∙ ap (holds_numbers 2) (c.line_end.ensures.2 ∙ vehicle_line c.args.text.now c.first_number_line-at.result c.first_number_line-at.ensures)

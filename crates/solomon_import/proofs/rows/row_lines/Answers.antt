@@ -6,36 +6,12 @@ use Prim.Native.Nat.{ℕ, ◌+◌}
 use Rattle.solomon_import.specs.Instance.{is_row_line, customer_of}
 use Rattle.solomon_import.specs.Import.{customer_range}
 use native.Mathlib.Omega.{arith}
-use Rattle.solomon_import.proofs.RowLines.{RowsRead, Onward, none_read, row_read, row_refused, all_read}
+use Rattle.solomon_import.proofs.RowLines.{RowsRead, Onward, row_read, row_refused, all_read}
 use Rattle.solomon_import.proofs.rows.row_lines.Goals as goal
-
-pub loop-at-init : goal.loop-at-init
-loop-at-init c = none_read c.args.text.now c.args.from c.requires.from_in_bounds c.requires.t
-
-pub line_end-requires : goal.line_end-requires
-line_end-requires c = c.loop-at.invariant.within
-
-pub slice_bounds-line-count : goal.slice_bounds-line-count
-slice_bounds-line-count c = c.line_end.ensures.0
-
-pub is_row_line-requires : goal.is_row_line-requires
-is_row_line-requires c = (let f = c.loop-at.invariant.few in let g = c.loop-at-test.true in let h = c.well_formed.0.1 in omega arith)
 
 pub returns-then-not-is_row_line : goal.returns-then-not-is_row_line
 returns-then-not-is_row_line c = row_refused c.args.text.now c.args.from c.loop-at.at c.loop-at.count c.loop-at.in_range c.loop-at.invariant c.loop-at-test.true
     (ap (is_row_line c.loop-at.count) (sym c.line_end.ensures.2) ∙ sym c.is_row_line.ensures ∙ c.if-not-is_row_line.true)
-
-pub overflow_add-count : goal.overflow_add-count
-overflow_add-count c = (let f = c.loop-at.invariant.few in let g = c.loop-at-test.true in omega arith)
-
-pub next_line-requires : goal.next_line-requires
-next_line-requires c = c.loop-at-test.true
-
-pub next_digit_line-at-requires : goal.next_digit_line-at-requires
-next_digit_line-at-requires c = c.next_line.ensures.1
-
-pub loop-at-smaller : goal.loop-at-smaller
-loop-at-smaller c = (let g = c.next_digit_line-at.ensures.0 in let h = c.next_line.ensures.0 in let l = c.loop-at-test.true in omega arith)
 
 pub loop-at-preserved : goal.loop-at-preserved
 loop-at-preserved c = let text = c.args.text.now in

@@ -13,12 +13,6 @@ overflow_add-tables c = (let f = few_rows c.args.text.now c.args.sheet.now c.arg
 pub overflow_add-tables-2 : goal.overflow_add-tables-2
 overflow_add-tables-2 c = (let f = few_rows c.args.text.now c.args.sheet.now c.args.rows 0 (taken c.args.text.now c.requires.text_value.0) c.requires.text_value.1 c.requires.rows_in_bounds in omega arith)
 
-pub write_records-requires-clause-text_value : goal.write_records-requires-clause-text_value
-write_records-requires-clause-text_value c = c.requires.text_value
-
-pub write_records-requires-clause-rows_in_bounds : goal.write_records-requires-clause-rows_in_bounds
-write_records-requires-clause-rows_in_bounds c = c.requires.rows_in_bounds
-
 pub write_distances-requires : goal.write_distances-requires
 write_distances-requires c = distances_room c.args.text.now c.args.sheet.now c.args.rows 0 (taken c.args.text.now c.requires.text_value.0) c.requires.text_value.1 c.requires.rows_in_bounds c.write_records.new.sheet c.write_records.ensures
 

@@ -1,10 +1,7 @@
 -- `solomon_text::number::size` meets its contract. Assumes nothing.
 use Rattle.solomon_text.specs.Numbers.{without_minus}
-use Rattle.solomon_text.specs.Laws.Numbers.{size_begins, size_goes_on, size_ends}
+use Rattle.solomon_text.specs.Laws.Numbers.{size_goes_on, size_ends}
 use Rattle.solomon_text.proofs.number.size.Goals as goal
-
-pub loop-b-init : goal.loop-b-init
-loop-b-init c = size_begins (without_minus c.args.word.now)
 
 pub loop-b-preserved : goal.loop-b-preserved
 loop-b-preserved c =

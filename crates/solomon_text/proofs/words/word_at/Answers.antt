@@ -1,7 +1,7 @@
 -- `solomon_text::words::word_at` meets its contract. Assumes nothing.
 use native.Mathlib.Omega.{arith}
 use Rattle.solomon_text.specs.Laws.Words.{next_word}
-use Rattle.solomon_text.proofs.WordWalk.{seeking_begins, seeking_goes_on, seeking_in_vain, seeking_ends}
+use Rattle.solomon_text.proofs.WordWalk.{seeking_begins, seeking_goes_on, seeking_in_vain}
 use Rattle.solomon_text.proofs.words.word_at.Goals as goal
 
 pub loop-init : goal.loop-init
@@ -12,6 +12,3 @@ returns-then-at-line c = let l = c.loop in (l.invariant.word, seeking_in_vain c.
 
 pub loop-preserved : goal.loop-preserved
 loop-preserved c = let l = c.loop in seeking_goes_on c.args.line.now c.args.n l.at l.counter c.word_end-end.result c.word_start-at-in-loop.result (omega arith) (omega arith) l.invariant c.word_end-end.ensures (next_word _ _ _ c.word_start-at-in-loop.ensures)
-
-pub returns : goal.returns
-returns c = let l = c.loop in (l.invariant.word, seeking_ends c.args.line.now c.args.n l.at l.counter (omega arith) l.invariant)

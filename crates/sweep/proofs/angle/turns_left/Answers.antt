@@ -1,14 +1,8 @@
 -- `sweep::angle::turns_left` meets its contract. Assumes nothing.
 use lib.Signed.{lt_z}
 use Rattle.sweep.specs.Angle.{turns_left}
-use Rattle.sweep.proofs.Signed.{product_fits, product_read}
+use Rattle.sweep.proofs.Signed.{product_read}
 use Rattle.sweep.proofs.angle.turns_left.Goals as goal
-
-pub overflow_mul-result : goal.overflow_mul-result
-overflow_mul-result c = product_fits c.args.a.dy c.args.b.dx c.requires.0.along c.requires.1.across
-
-pub overflow_mul-result-2 : goal.overflow_mul-result-2
-overflow_mul-result-2 c = product_fits c.args.a.dx c.args.b.dy c.requires.0.across c.requires.1.along
 
 pub returns : goal.returns
 unfolding turns_left

@@ -7,12 +7,6 @@ use Rattle.nearest_neighbor_choice.proofs.Judging.{loses, stays_out, is_taken}
 use Rattle.nearest_neighbor_choice.proofs.nn_tw.NearestNeighborTwRule.nearer.Goals.{else-wins-via-else-wins, else-wins-via-then-wins+else-takes}
 use Rattle.nearest_neighbor_choice.proofs.nn_tw.NearestNeighborTwRule.nearer.Goals as goal
 
-pub candidate_at-seen-requires-clause-partial_route : goal.candidate_at-seen-requires-clause-partial_route
-candidate_at-seen-requires-clause-partial_route c = c.requires.partial_route
-
-pub candidate_at-seen-requires-clause-row_bound : goal.candidate_at-seen-requires-clause-row_bound
-candidate_at-seen-requires-clause-row_bound c = c.requires.row_bound.0
-
 pub returns-then-takes : goal.returns-then-takes
 unfolding offer_by window_by
 returns-then-takes c = is_taken c.args.best c.args.j (takes_by c.args.sheet.now c.args.depot c.args.vehicle c.args.limits c.args.self.soft c.args.partial c.args.row (candidate_of c.args.sheet.now c.args.partial c.args.row)) (candidate_of c.args.sheet.now c.args.partial c.args.row).key c.candidate_at-seen.result.key (ap (λ (l : Candidate). l.key) c.candidate_at-seen.ensures) (sym c.wins.ensures ∙ c.if-wins.true) (ap (λ (l : Candidate). takes_by c.args.sheet.now c.args.depot c.args.vehicle c.args.limits c.args.self.soft c.args.partial c.args.row l) (sym c.candidate_at-seen.ensures) ∙ sym c.takes.ensures ∙ c.if-takes.true)

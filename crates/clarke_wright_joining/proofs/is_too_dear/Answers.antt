@@ -1,9 +1,0 @@
--- `clarke_wright_joining::is_too_dear` meets its contract. Assumes nothing.
-use borrow.Author.Tests.{not-true, not-false}
-use Rattle.clarke_wright_joining.proofs.is_too_dear.Goals as goal
-
-pub returns-then-not-terms : goal.returns-then-not-terms
-returns-then-not-terms c = rw (not-true c.args.terms.soft c.if-not-terms.true)
-
-pub returns : goal.returns
-returns c = rw (not-false c.args.terms.soft c.if-not-terms.false, c.effective_cost-3.ensures, c.effective_cost-2.ensures, c.effective_cost.ensures)

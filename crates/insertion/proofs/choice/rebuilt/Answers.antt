@@ -1,6 +1,0 @@
--- `insertion::choice::rebuilt` meets its contract. Assumes nothing.
-use mathlib.Core.Path.{sym}
-use Rattle.insertion.proofs.choice.rebuilt.Goals as goal
-
-pub returns-in-Some : goal.returns-in-Some
-returns-in-Some c = sym c.in-Some.is
