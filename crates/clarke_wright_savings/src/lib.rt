@@ -17,7 +17,8 @@ use sheet::Sheet;
 use terms::Directed;
 
 // The savings: from where, to where, what each saves, and the places in which they are tried. How many there are is what `rank`
-// answers: a Vec would know it, and takes a heap. The values stand by themselves, as the keys that are sorted by.
+// answers: a Vec would know it, and takes a heap. The values stand by themselves, as the keys that are sorted by; and the rows from
+// and to in two tables, as the definition of the legs has them.
 #[derive(Drop)]
 pub struct Savings<const N: usize> {
     pub from: [u16; N],

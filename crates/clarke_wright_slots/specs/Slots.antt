@@ -35,7 +35,7 @@ pub record Routes (s : List ℕ) (routes : List (List ℕ)) : Type 0 where
   pub once : (x : ℕ) → count_in_routes x routes ≤ 1
   pub rows : Every (Every (λ (i : ℕ). i < rows_of s)) routes
 
--- room for n slots, and for each row's slot
+-- room for n slots, and for each row's slot (a clause: n members take less room than the most)
 pub record Roomy (n : ℕ) (cells lens loads slots : List ℕ) : Type 0 where
   pub most : n ≤ most_rows
   pub celled : n * most_rows ≤ length cells

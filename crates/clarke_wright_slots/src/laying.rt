@@ -23,7 +23,7 @@ impl<const CELLS: usize> RouteSlots<CELLS> {
     {
         let cells = &self.cells[..];
         let mut done = filled;
-        // k is the slot, by which the stops stand in `cells` too.
+        // k is the slot, by which the stops stand in `cells` too; over the lengths with `enumerate` each goal kept a `take`.
         for k in 0..count {
             let n = self.lens[k] as usize;
             if n == 0 {

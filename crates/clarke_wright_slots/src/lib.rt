@@ -12,7 +12,8 @@ ghost use Rattle.clarke_wright_slots.specs.Slots.{slot_at, Roomy, or_reversed, e
 
 // The stops of slot k stand in `cells` from 101 times k on, `lens` says how many they are, `loads` what they ask of a vehicle,
 // and `slots` has the slot of each row. A row with no round has the number of slots there: a u16 for each row is all it takes.
-// That number goes beside them, as the number of members; without a heap there is no Vec of rounds.
+// That number goes beside them, as the number of members; without a heap there is no Vec of rounds. Lengths and loads are two
+// tables: a round is read by the one, a merge is tried by the other, and together they would take a third as much again.
 #[derive(Drop)]
 pub struct RouteSlots<const CELLS: usize> {
     pub cells: [u16; CELLS],

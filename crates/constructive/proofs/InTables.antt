@@ -26,10 +26,6 @@ module _ (s stops ends vehicles : List ℕ) (n total : ℕ) (ok : Tables s stops
   start_in_lem (suc k) h = ok.within k h
 
   module _ (k : ℕ) (h : k < n) where
-    -- the round lies within the stops
-    pub part : (start : ℕ) → start ≡ start_in ends k → (start ≤ get_or ends k 0) × (get_or ends k 0 ≤ length stops)
-    part start e = let a = ok.ascending k h in let w = ok.within k h in let l = ok.all in (omega arith, omega arith)
-
     abbrev route : List ℕ
     route = take (get_or ends k 0 - start_in ends k) (drop (start_in ends k) stops)
 

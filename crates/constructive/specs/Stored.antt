@@ -28,7 +28,7 @@ pub record Stored (stops ends vehicles : List ℕ) (f : Filled) (o : Outcome) (s
   pub ended : ends' ≡ write ends f.rounds (ends_from f.routed o.rounds)
   pub driven : vehicles' ≡ write vehicles f.rounds (vehicles_from o.rounds)
 
--- room in the tables for a round of each stop that is not on one yet
+-- room in the tables for a round of each stop that is not on one yet (a clause, and why: `Filled`)
 pub record Room (ends vehicles : List ℕ) (f : Filled) (total : ℕ) : Type 0 where
   pub rounds : f.rounds ≤ f.routed
   pub ended : total ≤ length ends

@@ -9,7 +9,7 @@ pub fn mark(marks: &mut [u16], stops: &[u16], from: usize, total: usize)
     requires by_index { (k : ℕ) → from ≤ k → k < total → get_or stops.now k 0 < length marks.old }
     ensures { marks.new ≡ marked_by marks.old (part stops.now from total) }
 {
-    // Over numbers: where `from` is past `total` there is no slice.
+    // Over numbers: where `from` is past `total` there is no slice, and to skip in one counts as well.
     for i in from..total {
         let stop = stops[i] as usize;
         marks[stop] = 1;

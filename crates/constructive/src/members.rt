@@ -7,7 +7,8 @@ ghost use Rattle.constructive.specs.Members.{members_of, Gathers};
 
 use sheet::Sheet;
 
-// The numbers from `start` up to `stop` that pass a test, in a table from `from` on; answers where they end.
+// The numbers from `start` up to `stop` that pass a test, in a table from `from` on; answers where they end. By a loop over them,
+// since they are what is kept.
 pub fn gather<F: Fn(usize) -> bool>(
     start: usize,
     stop: usize,

@@ -2,18 +2,20 @@
 ghost use Rattle.std.specs.Prelude.{◌≡◌, [], ◌∷◌, ◌++◌, ◌+◌, ◌-◌, ◌≤◌, ◌<◌, length, get_or, replicate, take, drop};
 ghost use Rattle.sheet.specs.Fields.{most_rows};
 ghost use Rattle.wire.specs.Bytes.{write};
+ghost use Rattle.constructive.specs.Members.{part};
 ghost use Rattle.constructive.specs.Outcome.{start_in};
 
 // How far the tables are filled: so many rounds, with so many stops in all. It goes beside them, since a Vec, which would know how
 // long it is, takes a heap; and it is what each constructor answers. That there are no more rounds than stops is a clause of who
 // adds rounds (`Room`): as an invariant it would have `close_round` ask for a stop in each round, which it does not.
-#[derive(Clone, Copy)]
+#[derive(Clone, Copy, Default)]
 pub struct Filled {
     pub rounds: usize,
     pub routed: usize,
 }
 
-// Tables of N stops and N rounds at most. A part of one is taken of a slice of it: the borrow checker takes none of an array
+// Tables of N stops and N rounds at most. Ends and vehicles are two of them: loads are summed by the one alone, and definitions and
+// proofs go by each. A part of one is taken of a slice of it: the borrow checker takes none of an array
 // whose length is a parameter.
 #[derive(Drop)]
 pub struct RouteTables<const N: usize> {
@@ -64,6 +66,16 @@ impl<const N: usize> RouteTables<N> {
         ensures { result ≡ get_or self.now.ends k 0 }
     {
         self.ends[k] as usize
+    }
+
+    // Its stops.
+    pub fn route(&self, k: usize) -> &[u16]
+        requires k_bound { k < length self.now.ends }
+        requires route_within { (start_in self.now.ends k ≤ get_or self.now.ends k 0) × (get_or self.now.ends k 0 ≤ length self.now.stops) }
+        ensures { result.now ≡ part self.now.stops (start_in self.now.ends k) (get_or self.now.ends k 0) }
+    {
+        let stops = &self.stops[..];
+        &stops[self.start_of(k)..self.end_of(k)]
     }
 
     // Its vehicle, by the index in the sheet.

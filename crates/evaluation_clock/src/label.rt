@@ -45,7 +45,7 @@ pub fn start() -> Label
     }
 }
 
-// The later of two times; the first where one is no number, as `f64::max` would not have it.
+// The later of two times; the first where one is no number, or both are zeros of either sign, as `f64::max` would not have it.
 pub fn later(a: f64, b: f64) -> f64
     ensures { result ≡ later_of a b }
 {

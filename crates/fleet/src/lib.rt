@@ -14,10 +14,7 @@ pub type Pick = Option<(usize, usize, usize, f64)>;
 fn cheaper(cost: f64, best: Pick) -> bool
     ensures { result ≡ cheaper cost best }
 {
-    match best {
-        None => true,
-        Some((_, _, _, least)) => cost < least,
-    }
+    best.is_none_or(|(_, _, _, least)| cost < least)
 }
 
 // The better of the pick so far and the cheapest insertion of the stop at place j of those pending.

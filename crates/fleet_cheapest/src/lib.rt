@@ -148,25 +148,22 @@ fn cheapest_insertion<const N: usize>(
     requires most_rows_in_bounds { most_rows ≤ length trial.old }
     ensures { result ≡ cheapest_insertion sheet.now windows.soft (rounds_in tables.now.stops tables.now.ends tables.now.vehicles n 0 0) row }
 {
-    let stops = &tables.stops[..];
     let mut best = None;
-    let mut start: usize = 0;
     // by rounds: one stands in two tables, and the choice names it by i
     for i in 0..n {
-        let end = tables.end_of(i);
-        let room = end - start + 1;
+        let route = tables.route(i);
+        let room = route.len() + 1;
         let next = try_round(
             sheet,
             windows,
             tables.vehicle_of(i),
-            &stops[start..end],
+            route,
             row,
             &mut trial[..room],
             best,
             i,
         );
         best = choice::rebuilt(next);
-        start = end;
     }
     best
 }

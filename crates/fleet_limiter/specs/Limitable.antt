@@ -6,6 +6,7 @@ use Rattle.constructive.specs.Outcome.{outcome_in}
 use Rattle.constructive.specs.Right.{outcome_right}
 use Rattle.constructive.specs.Tables.{Tables}
 
+-- what the limiter asks of an outcome's tables (a clause, as `Tables`)
 pub record Limitable (s stops ends vehicles : List ℕ) (rounds total : ℕ) : Type 0 where
   pub tables : Tables s stops ends vehicles rounds total
   pub right : T (outcome_right s (outcome_in stops ends vehicles rounds total))

@@ -1,19 +1,13 @@
 -- One place judged: skipped, passed without a walk, or walked. Assumes nothing.
 use Rattle.std.specs.Prelude.{Option, Some, None, is_some}
-use mathlib.Core.Path.{◌≡◌, refl, sym, ap, ◌∙◌}
-use Prim.Native.Nat.{ℕ, zero, suc, ◌-◌, ◌≤◌, ◌<◌}
-use native.Mathlib.Omega.{arith}
-use mathlib.Core.Bool.{Bool, true, false, not, cond}
+use mathlib.Core.Path.{◌≡◌, sym, ap, ◌∙◌}
+use Prim.Native.Nat.{ℕ}
+use mathlib.Core.Bool.{Bool, true, false, not}
 use mathlib.Core.List.{List, [], ◌∷◌}
-use lib.Dec.{eqb}
-use lib.ListN.{length, get_or}
 use lib.Ieee.{Float, le}
-use borrow.Author.Tests.{eqb-false}
 use lib.Ieee.Bits.{is_true}
 use Rattle.lists.specs.Moved.{inserted}
 use Rattle.lists.specs.Laws.Moved.{inserted_every}
-use Rattle.sheet.specs.Fields.{rows_of}
-use Rattle.evaluation.specs.Routed.{Routed}
 use Rattle.evaluation_clock.specs.Sums.{◌⊖◌}
 use Rattle.evaluation.specs.Feasible.{route_eval, priced_distance, cost_of, effective_cost}
 use Rattle.evaluation.specs.Laws.Verdict.{allowed_feasible}
@@ -23,21 +17,9 @@ use Rattle.constructive.specs.Laws.Unchecked.{free_feasible}
 use Rattle.constructive.specs.declared.terms.Terms.{Terms}
 use Rattle.insertion.specs.Choice.{Choice}
 use Rattle.insertion.specs.declared.place.Prices.{Prices}
-use Rattle.insertion.specs.Place.{feasible_in, row_before, row_after, detour, costs, judged, judge, wins, better_place}
+use Rattle.insertion.specs.Place.{feasible_in, detour, costs, judged, judge, wins, better_place}
 use Rattle.insertion.specs.Laws.Judging.{hard_judge, dear_skipped, cheap_walked}
 use Rattle.insertion.specs.Trial.{Joinable, prices_of, judge_trial}
-
-module _ (s : List ℕ) (depot : ℕ) (route : List ℕ) (ok : Routed s depot route) where
-  pub before_row : (k : ℕ) → k ≤ length route → row_before depot route k < rows_of s
-  before_row zero h = ok.home
-  before_row (suc k) h = ok.row k h
-
-  pub behind_row : (k : ℕ) → k ≤ length route → row_after depot route k < rows_of s
-  behind_row k h = go (eqb k (length route)) refl
-    where
-      go : (b : Bool) → eqb k (length route) ≡ b → cond b depot (get_or route k 0) < rows_of s
-      go true e = ok.home
-      go false e = ok.row k (omega (arith, eqb-false k (length route) e))
 
 -- ---- without soft windows
 module _ (s : List ℕ) (t : Terms) (route : List ℕ) (row k : ℕ) (hard : t.soft ≡ false) (c : Choice) (j : ℕ) (cost : Float) (e : cost ≡ detour s t.depot route row k) where

@@ -1,10 +1,10 @@
 -- The round on trial: what it holds once it is laid out, written over and slid. Assumes nothing.
-use mathlib.Core.Path.{◌≡◌, refl, sym, ap, ◌∙◌, subst}
+use mathlib.Core.Path.{◌≡◌, sym, ap, ◌∙◌, subst}
 use Prim.Native.Nat.{ℕ, suc, ◌+◌, ◌≤◌, ◌<◌}
 use native.Mathlib.Omega.{arith}
 use mathlib.Core.List.{List, [], ◌∷◌, ◌++◌}
-use lib.ListN.{length, get_or, set, take, drop, length-drop, take-append-drop}
-use lib.Seq.{length-take-le, take-append-le, take-take, drop-length, take_at, get_or_at, set_at, drop-append-add}
+use lib.ListN.{length, get_or, set, take, drop, take-append-drop}
+use lib.Seq.{length-take-le, take-append-le, take-take, take_at, get_or_at, set_at, drop-append-add}
 use Rattle.lists.specs.Every.{Every}
 use Rattle.lists.specs.Laws.Every.{every_of, every_at}
 use Rattle.lists.specs.Moved.{without, inserted}
@@ -33,9 +33,6 @@ module _ (route : List ℕ) (row at : ℕ) (trial : List ℕ) (g : Trial route r
       ∙ ap (λ (r : List ℕ). r ++ drop at route) (take_at (take at route) (row ∷ drop at route) at front)
       ∙ take-append-drop at route
 
-  pub any_stop : Trial route (get_or trial at 0) at trial
-  any_stop = rw stop_there g
-
   -- another stop at the same place
   pub written : (x : ℕ) → Trial route x at (set trial at x)
   written x = record {
@@ -49,28 +46,6 @@ module _ (route : List ℕ) (row at : ℕ) (trial : List ℕ) (g : Trial route r
     place = h;
     holds = e ∙ ap (λ (x : ℕ). inserted k x (without at trial)) stop_there ∙ ap (inserted k row) others;
   }
-
--- the round, and one place more
-single : (l : List ℕ) → length l ≡ 1 → l ≡ get_or l 0 0 ∷ []
-single [] h = absurd (omega arith)
-single (x ∷ []) h = refl
-single (x ∷ y ∷ l) h = absurd (omega arith)
-
-module _ (route trial copied : List ℕ) (room : length trial ≡ length route + 1) (e : copied ≡ take (length (take (length route) trial)) route) where
-  abbrev n : ℕ
-  n = length route
-
-  abbrev x : ℕ
-  x = get_or (drop n trial) 0 0
-
-  laid : copied ++ drop n trial ≡ inserted n x route
-  laid =
-      let long : length (take n trial) ≡ n = length-take-le n trial (omega arith) in
-      ap (λ (l : List ℕ). l ++ drop n trial) (e ∙ ap (λ (m : ℕ). take m route) long)
-      ∙ ap (λ (l : List ℕ). take n route ++ l) (single (drop n trial) (length-drop n trial ∙ omega arith) ∙ ap (λ (l : List ℕ). x ∷ l) (sym (drop-length route)))
-
-  pub laid_out : Trial route (get_or (copied ++ drop n trial) n 0) n (copied ++ drop n trial)
-  laid_out = any_stop route x n (copied ++ drop n trial) (record { place = omega arith; holds = laid })
 
 -- ---- the round and the round with the stop in it
 module _ (route : List ℕ) (row k : ℕ) (trial : List ℕ) (g : Trial route row k trial) where

@@ -9,10 +9,7 @@ pub type Choice = Option<(usize, usize, f64)>;
 pub fn wins(cost: f64, best: Choice) -> bool
     ensures { result ≡ wins cost best }
 {
-    match best {
-        None => true,
-        Some((_, _, least)) => cost < least,
-    }
+    best.is_none_or(|(_, _, least)| cost < least)
 }
 
 // The better of it and a place that the stop may have at such a cost.

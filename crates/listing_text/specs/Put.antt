@@ -2,7 +2,7 @@
 use Rattle.std.specs.Prelude.{◌≡◌, ℕ, ◌+◌, ◌≤◌, List, length}
 use Rattle.wire.specs.Bytes.{write}
 
--- the buffer has room for the text from `at` on
+-- the buffer has room for the text from `at` on (a clause: of the buffer, a place in it and the text)
 abbrev pub TextRoom : List ℕ → ℕ → List ℕ → Type 0
 TextRoom out at xs = at + length xs ≤ length out
 

@@ -1,4 +1,4 @@
-// A depot's members given to the constructor that the method's number names, with the depot's vehicles.
+// A depot's members given to the constructor of the sheet's method, with the depot's vehicles.
 #![tactic(auto)]
 
 ghost use Rattle.std.specs.Prelude.{◌≡◌, true, false, ℕ, ◌-◌, ◌≤◌, ◌<◌, length};
@@ -37,7 +37,7 @@ pub fn by_savings<const N: usize>(
     clarke_wright::clarke_wright_savings(sheet, depot, fleet[0], tables, filled, total)
 }
 
-// One vehicle for all rounds: savings of few members, insertion or sweep, by the method's number.
+// One vehicle for all rounds: savings of few members, insertion or sweep, by the method.
 fn with_vehicle<const N: usize>(
     sheet: &Sheet,
     depot: usize,

@@ -1,4 +1,6 @@
-// Rounds of offers: where each row goes at first, and where it goes once it is turned down.
+// Rounds of offers: where each row goes at first, and where it goes once it is turned down. `at` has the depot of each row, `marks`
+// a 1 for those turned down: two tables, since each step reads one and writes the other, and of u16, since the limiter gathers by
+// marks as by depots.
 #![tactic(auto)]
 
 ghost use Rattle.std.specs.Prelude.{◌≡◌, ◌≢◌, false, ◌≤◌, ◌<◌, length, IfSome, unwrap_or};

@@ -74,10 +74,7 @@ pub fn plan_depots<const N: usize>(
 {
     let depots = sheet.depots();
     marks.fill(0);
-    let mut filled = Filled {
-        rounds: 0,
-        routed: 0,
-    };
+    let mut filled = Filled::default();
     // Over numbers: a depot is a row of the sheet, and no slice stands behind it.
     for depot in 0..depots {
         filled = plan_depot(sheet, at, marks, tables, depot, filled);
@@ -95,10 +92,7 @@ pub fn one_depot<const N: usize>(
     ensures { HoldsOutcome tables.new.stops tables.new.ends tables.new.vehicles result (rows_of sheet.now - depots_of sheet.now) (planned_of sheet.now 0 (all_stops sheet.now)) }
 {
     at.fill(0);
-    let filled = Filled {
-        rounds: 0,
-        routed: 0,
-    };
+    let filled = Filled::default();
     let (done, _) = lay_depot(sheet, at, tables, 0, filled);
     done
 }

@@ -27,10 +27,7 @@ fn update_marks<const N: usize>(
     ensures as_long { AsLong tables.old.stops tables.old.ends tables.old.vehicles tables.new.stops tables.new.ends tables.new.vehicles }
 {
     multi_depot_offers::clear(at, marks, depot);
-    let filled = Filled {
-        rounds: 0,
-        routed: 0,
-    };
+    let filled = Filled::default();
     multi_depot_planning::plan_depot(sheet, at, marks, tables, depot, filled);
 }
 

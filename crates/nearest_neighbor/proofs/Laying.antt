@@ -13,7 +13,7 @@ use Rattle.lists.specs.Laws.Every.{every_of, every_at}
 use Rattle.wire.specs.Bytes.{write}
 use Rattle.wire.specs.Laws.Bytes.{length_write}
 use Rattle.wire.specs.Laws.Overwrite.{write_same, part_write, write_over}
-use Rattle.sheet.specs.Fields.{rows_of, vehicles_of}
+use Rattle.sheet.specs.Fields.{rows_of}
 use Rattle.constructive.specs.declared.tables.Filled.{Filled}
 use Rattle.constructive.specs.Outcome.{Round, Outcome, chains}
 use Rattle.constructive.specs.Members.{part, Members, Fleet}
@@ -132,9 +132,6 @@ module _ (s : List ℕ) (depot : ℕ) (h : Heuristic) (fleet stops₀ ends₀ ve
 
     abbrev grown : Grown
     grown = vehicle_round (rule_of s depot h index) depot g.left
-
-    pub known_index : index < vehicles_of s
-    known_index = g.known k (omega (arith, g.last))
 
     long : length grown.stops + length grown.left ≡ length g.left
     long = round_long (rule_of s depot h index) (joins s depot h index) depot g.left

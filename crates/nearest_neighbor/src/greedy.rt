@@ -6,13 +6,14 @@ ghost use Rattle.sheet.specs.Values.{vehicle_of};
 ghost use Rattle.constructive.specs.Stored.{Stored, Room, filled_by};
 ghost use Rattle.constructive.specs.Members.{part, Members, Fleet};
 ghost use Rattle.nearest_neighbor.specs.Greedy.{vehicle_round, greedy};
-ghost use Rattle.nearest_neighbor_choice.specs.Partial.{PartialRoute};
+ghost use Rattle.nearest_neighbor_choice.specs.Partial.{pushed_by, ClockKept, PartialRoute};
 ghost use Rattle.nearest_neighbor.specs.Heuristic.{limits_by, rule_of, onward_by};
 
 use constructive::tables;
 use constructive::tables::{Filled, RouteTables};
 use evaluation::limits;
 use evaluation::limits::RouteLimits;
+use evaluation_clock::clock::BreakClock;
 use nearest_neighbor_choice::partial::Partial;
 use nearest_neighbor_choice::rule::Rule;
 use nearest_neighbor_choice::{partial, rule};
@@ -31,6 +32,17 @@ fn limits_for<R: Rule>(sheet: &Sheet, rule: R, vehicle: Vehicle, index: usize) -
     limits::limits_at(sheet, index)
 }
 
+// The clock driven on to `row`.
+#[tactic(auto, unfolding(nearest_neighbor_choice::specs::Partial::pushed_by))]
+fn pushed_by(sheet: &Sheet, kept: Option<BreakClock>, row: usize) -> Option<BreakClock>
+    requires clock_kept { ClockKept sheet.now kept }
+    requires row_bound { row < rows_of sheet.now }
+    ensures { result ≡ pushed_by sheet.now kept row }
+{
+    let clock = kept?;
+    Some(clock.next(sheet, row))
+}
+
 // The round one stop further.
 fn drive_on<R: Rule>(sheet: &Sheet, rule: R, partial: Partial, row: usize) -> Partial
     requires partial_route { PartialRoute sheet.now partial }
@@ -43,7 +55,7 @@ fn drive_on<R: Rule>(sheet: &Sheet, rule: R, partial: Partial, row: usize) -> Pa
         load: partial.load + sheet.demand(row),
         travelled: partial.travelled + sheet.distance(partial.current, row),
         clock: rule.clock_at(sheet, partial, row),
-        rest: partial::pushed_by(sheet, partial.rest, row),
+        rest: pushed_by(sheet, partial.rest, row),
     }
 }
 
@@ -67,8 +79,7 @@ fn grow_round<R: Rule>(
     let limits = limits_for(sheet, rule, vehicle, index);
     let rest = limits.rest;
     let mut partial = partial::empty_partial(rest, depot);
-    let mut end = start;
-    while end < total {
+    for end in start..total {
         let Some((j, _)) = rule::nearest(
             rule,
             sheet,
@@ -83,9 +94,8 @@ fn grow_round<R: Rule>(
         let from = end + j;
         partial = drive_on(sheet, rule, partial, stops[from] as usize);
         tables::bring(stops, end, from);
-        end = end + 1;
     }
-    end
+    total
 }
 
 // Lays down the rounds of the fleet over the members, which stand in `stops` from where the tables are filled up to `total`.

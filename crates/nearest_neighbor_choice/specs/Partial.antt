@@ -106,7 +106,7 @@ window_by s depot v limits soft partial i = let seen = candidate_of s partial i 
 abbrev pub window_clock : List ℕ → Partial → ℕ → Float
 window_clock s partial i = service_start (stop_of s i).gate (arrival_at s (trip_of partial) i) ⊕ (stop_of s i).service
 
--- ---- what its steps ask
+-- ---- what its steps ask: clauses, as `Clocked`
 abbrev pub ClockKept : List ℕ → Option BreakClock → Type 0
 ClockKept s None = Unit
 ClockKept s (Some c) = Clocked s c

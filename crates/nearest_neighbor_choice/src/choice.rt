@@ -9,8 +9,5 @@ pub type StopChoice = Option<(usize, f64)>;
 pub fn wins(key: f64, best: StopChoice) -> bool
     ensures { result ≡ wins_of key best }
 {
-    match best {
-        None => true,
-        Some((_, least)) => key < least,
-    }
+    best.is_none_or(|(_, least)| key < least)
 }

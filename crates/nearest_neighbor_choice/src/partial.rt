@@ -2,7 +2,7 @@
 ghost use Rattle.std.specs.Prelude.{◌≡◌, ◌<◌};
 ghost use Rattle.sheet.specs.Fields.{rows_of};
 ghost use Rattle.nearest_neighbor_choice.specs.Offers.{there_and_home};
-ghost use Rattle.nearest_neighbor_choice.specs.Partial.{trip_of, empty_partial, clock_for, pushed_by, allows_by, allows_on_way, allows_home, partial_carries, PartialRoute, ClockKept};
+ghost use Rattle.nearest_neighbor_choice.specs.Partial.{trip_of, empty_partial, clock_for, allows_by, allows_on_way, allows_home, partial_carries, PartialRoute, ClockKept};
 
 use evaluation::keeping;
 use evaluation::limits::RouteLimits;
@@ -24,10 +24,7 @@ pub struct Partial {
 fn clock_for(rest: Option<VehicleBreak>, depot: usize) -> Option<BreakClock>
     ensures { result ≡ clock_for rest depot }
 {
-    match rest {
-        None => None,
-        Some(b) => Some(BreakClock::new(b, depot)),
-    }
+    rest.map(|b| BreakClock::new(b, depot))
 }
 
 // At the depot at 0, with nothing loaded.
@@ -42,18 +39,6 @@ pub fn empty_partial(rest: Option<VehicleBreak>, depot: usize) -> Partial
         travelled: 0.0,
         clock: 0.0,
         rest: clock,
-    }
-}
-
-// The clock driven on to `row`.
-pub fn pushed_by(sheet: &Sheet, kept: Option<BreakClock>, row: usize) -> Option<BreakClock>
-    requires clock_kept { ClockKept sheet.now kept }
-    requires row_bound { row < rows_of sheet.now }
-    ensures { result ≡ pushed_by sheet.now kept row }
-{
-    match kept {
-        None => None,
-        Some(clock) => Some(clock.next(sheet, row)),
     }
 }
 

@@ -136,21 +136,17 @@ fn write_rounds<const N: usize>(
     ensures value { result ≡ price_of sheet.now price_start (rounds_in tables.now.stops tables.now.ends tables.now.vehicles rounds 0 0) }
     ensures plan_after { plan.new ≡ with_rounds sheet.now 0 (rounds_in tables.now.stops tables.now.ends tables.now.vehicles rounds 0 0) plan.old }
 {
-    let stops = &tables.stops[..];
     let mut cost = evaluator::price_start();
-    let mut start: usize = 0;
     // by rounds: one stands in two tables, and its record at a place told by k
     for k in 0..rounds {
-        let end = tables.end_of(k);
         cost = write_priced(
             plan,
             sheet,
             k,
             tables.vehicle_of(k) as usize,
-            &stops[start..end],
+            tables.route(k),
             cost,
         );
-        start = end;
     }
     cost
 }

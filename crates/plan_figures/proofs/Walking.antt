@@ -1,13 +1,14 @@
 -- The loop over the rounds: the figures of those that are walked. Assumes nothing.
 use Rattle.std.proofs.Common.{◌≡◌, refl, ap, sym, ◌∙◌, arith}
 use Rattle.std.proofs.lemmas.List.{map-append}
-use Prim.Native.Nat.{ℕ, zero, suc, ◌+◌, ◌-◌, ◌≤◌, ◌<◌}
+use Prim.Native.Nat.{ℕ, zero, suc, ◌+◌, ◌≤◌, ◌<◌}
 use native.Mathlib.Nat.{add-zero, zero-add}
 use native.Mathlib.Numerals.{add-one}
 use mathlib.Core.List.{List, []}
 use Rattle.std.specs.Prelude.{map}
-use lib.ListN.{length, take, drop, get_or, set, length-set}
+use lib.ListN.{length, take, get_or, set, length-set}
 use lib.Seq.{take-suc, take-suc-set, take_all}
+use Rattle.constructive.specs.Members.{part}
 use Rattle.constructive.specs.Outcome.{Round, rounds_in, start_in, round_at}
 use Rattle.constructive.specs.Laws.Stored.{length_rounds}
 use Rattle.plan_figures.specs.declared.RouteFigures.{RouteFigures}
@@ -15,7 +16,7 @@ use Rattle.plan_figures.specs.Walked.{route_figures}
 
 -- ---- the k-th round, as it stands in the tables
 abbrev standing : List ℕ → List ℕ → List ℕ → ℕ → Round
-standing stops ends vehicles k = record { vehicle = get_or vehicles k 0; stops = take (get_or ends k 0 - start_in ends k) (drop (start_in ends k) stops) }
+standing stops ends vehicles k = record { vehicle = get_or vehicles k 0; stops = part stops (start_in ends k) (get_or ends k 0) }
 
 module _ (stops ends vehicles : List ℕ) where
   stands : (m start k j : ℕ) → start ≡ start_in ends k → j < m → round_at (rounds_in stops ends vehicles m start k) j ≡ standing stops ends vehicles (k + j)
@@ -28,26 +29,19 @@ module _ (stops ends vehicles : List ℕ) where
   rounds n = rounds_in stops ends vehicles n 0 0
 
   -- after k rounds
-  pub record Walking (s : List ℕ) (n : ℕ) (figures : List RouteFigures) (start k : ℕ) : Type 0 where
-    pub from : start ≡ start_in ends k
+  pub record Walking (s : List ℕ) (n : ℕ) (figures : List RouteFigures) (k : ℕ) : Type 0 where
     pub long : length figures ≡ n
     pub walked : take k figures ≡ map (route_figures s) (take k (rounds n))
 
   module _ (s : List ℕ) (n : ℕ) (figures : List RouteFigures) where
-    pub begins : length figures ≡ n → Walking s n figures 0 0
-    begins l = record { from = refl; long = l; walked = refl }
-
-    module _ (start k : ℕ) (g : Walking s n figures start k) where
-      pub goes_on : (f : RouteFigures) → k < n → f ≡ route_figures s (record { vehicle = get_or vehicles k 0; stops = take (get_or ends k 0 - start) (drop start stops) })
-          → Walking s n (set figures k f) (get_or ends k 0) (k + 1)
+    module _ (k : ℕ) (g : Walking s n figures k) where
+      pub goes_on : (f : RouteFigures) → k < n → f ≡ route_figures s (standing stops ends vehicles k) → Walking s n (set figures k f) (k + 1)
       goes_on f h e =
           let l = length_rounds stops ends vehicles n 0 0 in
           let stood : get_or (rounds n) k (record { vehicle = 0; stops = [] }) ≡ standing stops ends vehicles k = stands n 0 0 k refl h ∙ rw zero-add in
-          let w : f ≡ route_figures s (standing stops ends vehicles k) = rw (← g.from) e in
           record {
-            from = rw add-one;
             long = length-set figures k f ∙ g.long;
-            walked = rw (add-one, take-suc-set figures k f (omega (arith, g.long)), take-suc (rounds n) k (record { vehicle = 0; stops = [] }) (omega (arith, l)), map-append, g.walked, stood, w) refl;
+            walked = rw (add-one, take-suc-set figures k f (omega (arith, g.long)), take-suc (rounds n) k (record { vehicle = 0; stops = [] }) (omega (arith, l)), map-append, g.walked, stood, e) refl;
           }
 
       pub done : n ≤ k → figures ≡ map (route_figures s) (rounds n)

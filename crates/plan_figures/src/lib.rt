@@ -39,12 +39,8 @@ fn walk_rounds<const N: usize>(sheet: &Sheet, tables: &RouteTables<N>, figures: 
     requires { RoundTables sheet.now tables.now.stops tables.now.ends tables.now.vehicles (length figures.old) }
     ensures { figures.new ≡ map (route_figures sheet.now) (rounds_in tables.now.stops tables.now.ends tables.now.vehicles (length figures.old) 0 0) }
 {
-    let stops = &tables.stops[..];
-    let mut start: usize = 0;
     for (k, place) in figures.iter_mut().enumerate() {
-        let end = tables.end_of(k);
-        *place = built(sheet, tables.vehicle_of(k) as usize, &stops[start..end]);
-        start = end;
+        *place = built(sheet, tables.vehicle_of(k) as usize, tables.route(k));
     }
 }
 

@@ -37,17 +37,16 @@ fn eval_figure(eval: Option<Schedule>, which: usize) -> f64
     requires { which < 6 }
     ensures { result ≡ eval_figure eval which }
 {
-    match eval {
-        Some(s) => six(
+    eval.map_or(-1.0, |s| {
+        six(
             s.distance,
             s.duration,
             s.lateness,
             s.lateness_cost,
             s.rest,
             which,
-        ),
-        None => -1.0,
-    }
+        )
+    })
 }
 
 fn record_figure(built: Record, which: usize) -> f64

@@ -27,7 +27,7 @@ pub extern "C" fn probe_rounds(sheet: &[u8], stops: &[u16], len: u32, vehicle: u
     rounds::passed(&Sheet::new(sheet), stops, rows, driver.depot, driver.limits)
 }
 
-// One figure of a round of at most 101 rows, by its number (specs/Figures.antt): 0 to 5 are `route_eval`'s, -1.0 where the round is
+// One figure of a round of at most 101 rows, by its number, as C has it (specs/Figures.antt): 0 to 5 are `route_eval`'s, -1.0 where the round is
 // not allowed, 6 to 12 `build_route`'s, 13 on its stops', three each. -2.0 where the question is not right.
 #[unsafe(no_mangle)]
 pub extern "C" fn probe_figure(sheet: &[u8], route: &[u16], vehicle: u32, which: u32) -> f64

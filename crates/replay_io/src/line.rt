@@ -38,7 +38,7 @@ fn print_bytes<W: Write>(out: &mut W, bytes: &[u8]) -> io::Result<()>
     out.write_all(b"\n")
 }
 
-// `refused N`, or the bytes where the number is 0.
+// `refused N`, or the bytes where the number is 0. It is the number that the line shows, of which the enum takes some alone.
 pub fn print_answer<W: Write>(out: &mut W, number: u32, bytes: &[u8]) -> io::Result<()>
     ensures { OnOk result (Appends (W.contents out.old) (W.contents out.new) (answer_line number bytes.now)) }
 {

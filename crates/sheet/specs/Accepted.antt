@@ -28,7 +28,8 @@ pub record VehicleRanges (s : List ℕ) (at : ℕ) : Type 0 where
   pub rest : T (interval (marked 4 (vehicle_marks s at)) s (earliest_at at))
   pub resting : T (optional (marked 4 (vehicle_marks s at)) (whole (10 ^ 9)) s (rest_at at))
 
--- the counts are in range and the length is theirs: every field lies within the bytes
+-- the counts are in range and the length is theirs: every field lies within the bytes (a clause: before the check there are bytes
+-- alone, and no type of what is known of them so far)
 pub record Sized (s : List ℕ) : Type 0 where
   pub rows : rows_of s ≤ most_rows
   pub vehicles : vehicles_of s ≤ most_vehicles

@@ -97,7 +97,7 @@ impl<'a> Sheet<'a> {
         }
     }
 
-    // What the type says, for a function that reads nothing of the sheet and has to hand it on. It does nothing.
+    // What the type says, for a function that has to hand it on to a proof. It does nothing.
     #[inline(always)]
     pub fn accepted(&self)
         ensures { Accepted self.now }

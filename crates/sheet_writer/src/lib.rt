@@ -37,7 +37,8 @@ pub struct VehicleFields {
     pub rest_duration: f64,
 }
 
-// The counts fit their fields; method and time byte are written as one number.
+// The counts fit their fields; method and time byte are written as one number. The method is any byte, so that a damaged sheet can
+// be written too: the enum would ask more.
 pub fn put_header(sheet: &mut [u8], rows: usize, vehicles: usize, method: u8, times: u8)
     requires header_size_in_bounds { header_size ≤ length sheet.old }
     requires rows_bound { rows < 65536 }

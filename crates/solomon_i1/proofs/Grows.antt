@@ -5,7 +5,7 @@ use Prim.Native.Nat.{ℕ, zero, suc, ◌+◌, ◌-◌, ◌≤◌, ◌<◌}
 use native.Mathlib.Omega.{arith}
 use mathlib.Core.List.{List, [], ◌∷◌, ◌++◌, append_assoc}
 use lib.ListN.{length, get_or, take, drop, length-append, length-drop}
-use lib.Seq.{length-take-le, take_all, take_at, drop_at, drop-cons, take-append-le, take-append-add, drop-append-le, drop-append-add, get_or-append-add}
+use lib.Seq.{take_at, drop_at, drop-cons, take-append-le, take-append-add, drop-append-le, drop-append-add, get_or-append-add}
 use lib.Ieee.{Float}
 use Rattle.lists.specs.Every.{Every}
 use Rattle.lists.specs.Laws.Every.{every_of, every_at, every_drop}
@@ -35,23 +35,6 @@ rows_of_lem s depot rows r = every_of (Row s) 0 rows r.row
 
 pub routed_of : (s : List ℕ) (depot : ℕ) (rows : List ℕ) → Accepted s → depot < rows_of s → length rows ≤ 101 → Every (Row s) rows → Routed s depot rows
 routed_of s depot rows a h few e = record { sheet = a; home = h; few = few; row = λ k l. every_at (Row s) 0 rows k l e }
-
--- ---- one choice: the parts of the table that it is made of
-module _ (stops trial : List ℕ) (end : ℕ) (h : end < length stops) (room : length stops ≤ length trial) where
-  pub front_long : end ≡ length (take end stops)
-  front_long = sym (length-take-le end stops (omega arith))
-
-  pub trial_long : end + 1 ≡ length (take (end + 1) trial)
-  trial_long = sym (length-take-le (end + 1) trial (omega arith))
-
-  pub back_part : take (length stops - end) (drop end stops) ≡ drop end stops
-  back_part = take_all (length stops - end) (drop end stops) (omega (arith, length-drop end stops))
-
-  pub joining : (s : List ℕ) (t : Terms) → Joinable s t (take end stops) (drop end stops) → Joinable s t (take end stops) (take (length stops - end) (drop end stops))
-  joining s t j = rw back_part j
-
-  pub trial_room : length (take (end + 1) trial) ≡ length (take end stops) + 1
-  trial_room = omega (arith, trial_long, front_long)
 
 -- ---- a stop that moves from those left into the round
 pub without_behind : (front back : List ℕ) (j : ℕ) → without (length front + j) (front ++ back) ≡ front ++ without j back
@@ -130,17 +113,6 @@ module _ (s : List ℕ) (t : Terms) (left₀ trial₀ left trial : List ℕ) (en
   back : drop end left ≡ g.rest
   back = rw g.laid (drop_at g.route g.rest end (sym g.at))
 
-  pub joinable : end < length left → Joinable s t (take end left) (drop end left)
-  joinable h = rw (front, back) (record {
-    round = routed_of s t.depot g.route g.sheet g.home (omega (arith, g.at, g.all, g.few)) g.routed;
-    unrouted = routed_of s t.depot g.rest g.sheet g.home (omega (arith, g.all, g.few)) g.unrouted;
-    room = omega (arith, g.at, g.few, left_long);
-    unwalked = g.unwalked;
-  })
-
-  pub room : length left ≤ length trial
-  room = omega (arith, left_long, g.wide, g.tried)
-
   -- the choice is the definition's
   module _ (c : Choice) (e : c ≡ best_of s t (take end left) (drop end left)) where
     chosen : best_of s t g.route g.rest ≡ c
@@ -216,9 +188,9 @@ module _ (s : List ℕ) (t : Terms) (left₀ trial₀ left trial : List ℕ) (en
       }
 
   -- no stop is left
-  pub grown_out : length left ≤ end → (route_in round ≡ g.route) × (left_in round ≡ g.rest)
+  pub grown_out : length left₀ ≤ end → (route_in round ≡ g.route) × (left_in round ≡ g.rest)
   unfolding grow_on
-  grown_out h = let n : length g.rest ≡ 0 = omega (arith, g.all, left_long) in rw (g.same, n) (refl, refl)
+  grown_out h = let n : length g.rest ≡ 0 = omega (arith, g.all) in rw (g.same, n) (refl, refl)
 
   -- where the round is grown
   module _ (told : (route_in round ≡ g.route) × (left_in round ≡ g.rest)) where

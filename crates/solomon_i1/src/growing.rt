@@ -42,15 +42,14 @@ fn grow_round(sheet: &Sheet, terms: Terms, left: &mut [u16], trial: &mut [u16]) 
     ensures value { result ≡ length (route_in (round_from sheet.now terms (get_or left.old 0 0) (drop 1 left.old))) }
     ensures left_after { left.new ≡ growth_stops (round_from sheet.now terms (get_or left.old 0 0) (drop 1 left.old)) }
 {
-    let mut end = 1;
-    while end < left.len() {
+    let count = left.len();
+    for end in 1..count {
         let Some((j, k, _)) = best_joining(sheet, terms, left, end, trial) else {
             return end;
         };
         tables::bring(left, k, end + j);
-        end = end + 1;
     }
-    end
+    count
 }
 
 // The same for the seed at a place among the stops left.

@@ -40,7 +40,7 @@ fn alone_cost(sheet: &Sheet, terms: Terms, row: u16) -> f64
     place::soft_cost(sheet, terms, &lone) + terms.fixed
 }
 
-// What was tried, with its choice put together anew.
+// What was tried, with its choice put together anew, which then goes from stop to stop in registers.
 fn rebuilt(tried: Tried) -> Tried
     ensures { result ≡ tried }
 {

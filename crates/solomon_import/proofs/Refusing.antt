@@ -1,25 +1,23 @@
 -- The first of a text's lines that count, and the refusals by what is found of the others. Assumes nothing.
-use mathlib.Core.Path.{◌≡◌, refl, sym, ap, ◌∙◌, subst}
+use mathlib.Core.Path.{◌≡◌, refl, sym, ap, ◌∙◌}
 use Prim.Native.Nat.{ℕ, suc, ◌≤◌, ◌<◌}
 use native.Mathlib.Omega.{arith}
 use mathlib.Core.Logic.{◌⊎◌, inl, inr}
 use native.Mathlib.Nat.{eq-or-lt_of_le}
 use mathlib.Core.Bool.{Bool, true, false, ◌&&◌, and-true, false≢true}
 use mathlib.Core.List.{List, [], ◌∷◌, map}
-use lib.Dec.{T, leb, ltb}
+use lib.Dec.{T, ltb}
 use lib.ListN.{length, drop, length-map}
 use lib.Seq.{drop-length}
 use borrow.Author.Tests.{lt-ltb}
-use Rattle.sheet.specs.Fields.{most_rows}
-use Rattle.sheet.specs.Refusal.{unless}
 use Rattle.solomon_text.specs.Lines.{lines_of, first_or, after_first, first_line, has_digit, digit_lines, number_lines, without_returns, parts_of, parts_with, words_of}
 use Rattle.solomon_text.specs.Numbers.{all_whole_numbers, holds_numbers}
 use Rattle.solomon_text.specs.Laws.Lines.{digit_line_first, no_digit_line}
 use Rattle.solomon_import.specs.declared.rows.RowLines.{RowLines}
 use Rattle.solomon_import.specs.Instance.{are_row_lines, is_instance, form_right, customer_of, customers_of, capacity_of}
 use Rattle.solomon_import.specs.Import.{capacity_range}
-use Rattle.solomon_import.specs.Reading.{lines_from, InForm, text_refusal, rows_refusal}
-use Rattle.solomon_import.proofs.RowLines.{Onward, line_and_rest}
+use Rattle.solomon_import.specs.Reading.{lines_from, Onward, InForm, text_refusal, rows_refusal}
+use Rattle.solomon_import.proofs.RowLines.{line_and_rest}
 
 -- a place of a text's lines that count: the text's end, or a line with a digit
 abbrev pub Starts : List ℕ → ℕ → Type 0

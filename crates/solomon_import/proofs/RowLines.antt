@@ -11,7 +11,7 @@ use Rattle.solomon_text.specs.Lines.{lines_of, first_line, after_first, has_digi
 use Rattle.solomon_text.specs.Laws.Lines.{digit_line_first, no_digit_line}
 use Rattle.solomon_import.specs.Instance.{is_row_line, are_row_lines, customer_of}
 use Rattle.solomon_import.specs.Import.{customer_range, customers_range}
-use Rattle.solomon_import.specs.Reading.{lines_from, InForm}
+use Rattle.solomon_import.specs.Reading.{lines_from, Onward, InForm}
 
 -- the lines from `from` to `at` are row lines, so many, and whether they are in range
 pub record RowsRead (text : List ℕ) (from at count : ℕ) (in_range_lem : Bool) : Type 0 where
@@ -21,13 +21,6 @@ pub record RowsRead (text : List ℕ) (from at count : ℕ) (in_range_lem : Bool
   pub counted : length (lines_from text from) ≡ count + length (lines_from text at)
   pub range : customers_range (map customer_of (lines_from text from)) ≡ (in_range_lem && customers_range (map customer_of (lines_from text at)))
   pub few : count ≤ at
-
--- where a line is left behind and the next one with a digit is found
-pub record Onward (text : List ℕ) (at next : ℕ) : Type 0 where
-  pub further : at < next
-  pub within : next ≤ length text
-  pub lines : digit_lines (after_first (lines_of (drop at text))) ≡ lines_from text next
-  pub digit : next < length text → T (has_digit (first_line (drop next text)))
 
 pub line_and_rest : (text : List ℕ) (at next : ℕ) → T (has_digit (first_line (drop at text))) → Onward text at next → lines_from text at ≡ first_line (drop at text) ∷ lines_from text next
 line_and_rest text at next d o = digit_line_first (drop at text) d ∙ ap (λ (ls : List (List ℕ)). first_line (drop at text) ∷ ls) o.lines

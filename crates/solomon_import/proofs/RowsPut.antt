@@ -18,9 +18,9 @@ use Rattle.solomon_text.specs.Lines.{lines_of, first_line, after_first, has_digi
 use Rattle.solomon_text.specs.Laws.Lines.{digit_line_first, no_digit_line}
 use Rattle.solomon_import.specs.Instance.{customer_of}
 use Rattle.solomon_import.specs.Import.{customer_range, customers_range, marks_at, row_fields_of, rows_fields_from}
-use Rattle.solomon_import.specs.Reading.{lines_from}
+use Rattle.solomon_import.specs.Reading.{lines_from, Onward}
 use Rattle.solomon_import.specs.Laws.Ranged.{first_ranged, rest_ranged}
-use Rattle.solomon_import.proofs.RowLines.{Onward, line_and_rest}
+use Rattle.solomon_import.proofs.RowLines.{line_and_rest}
 
 -- the rows of the lines from `from` to `at` stand in the sheet, so many
 pub record RowsPut (text : List ℕ) (from : ℕ) (lent : List ℕ) (sheet : List ℕ) (at place marks : ℕ) : Type 0 where

@@ -1,10 +1,10 @@
 -- What is read of a text before anything is written.
-use Rattle.std.specs.Prelude.{◌≡◌, ℕ, Bool, true, false, List, Option, None, Some, map, leb, ltb, length, drop, Result, Ok, Err}
+use Rattle.std.specs.Prelude.{◌≡◌, ℕ, ◌≤◌, ◌<◌, Bool, T, true, false, List, Option, None, Some, map, leb, ltb, length, drop, Result, Ok, Err}
 use Rattle.sheet.specs.Fields.{most_rows}
 use Rattle.sheet.specs.declared.refusal.Refusal.{Refusal}
 use Rattle.sheet.specs.Told.{number_of}
 use Rattle.sheet.specs.Refusal.{unless}
-use Rattle.solomon_text.specs.Lines.{lines_of, digit_lines}
+use Rattle.solomon_text.specs.Lines.{lines_of, first_line, after_first, has_digit, digit_lines}
 use Rattle.solomon_import.specs.declared.rows.RowLines.{RowLines}
 use Rattle.solomon_import.specs.Instance.{are_row_lines, customer_of, form_right, customers_of, capacity_of}
 use Rattle.solomon_import.specs.Import.{customers_range, capacity_range}
@@ -12,6 +12,13 @@ use Rattle.solomon_import.specs.Import.{customers_range, capacity_range}
 -- the lines that count, from the one at `at` on
 abbrev pub lines_from : List ℕ → ℕ → List (List ℕ)
 lines_from text at = digit_lines (lines_of (drop at text))
+
+-- where a line is left behind and the next one with a digit is found
+pub record Onward (text : List ℕ) (at next : ℕ) : Type 0 where
+  pub further : at < next
+  pub within : next ≤ length text
+  pub lines : digit_lines (after_first (lines_of (drop at text))) ≡ lines_from text next
+  pub digit : next < length text → T (has_digit (first_line (drop next text)))
 
 -- what is found of row lines in form: how many there are, and whether they are in range
 pub record InForm (lines : List (List ℕ)) (found : RowLines) : Type 0 where

@@ -3,6 +3,7 @@
 
 mod reading;
 mod rows;
+mod walk;
 mod writing;
 
 ghost use Rattle.std.specs.Prelude.{◌≡◌, ◌^◌, ◌≤◌, ◌<◌, IfOk};

@@ -2,39 +2,27 @@
 ghost use Rattle.std.specs.Prelude.{◌≡◌, ◌≤◌, ◌<◌, T, length, drop};
 ghost use Rattle.sheet.specs.Told.{told};
 ghost use Rattle.solomon_text.specs.Lines.{first_or, after_first, first_line, has_digit, number_lines};
-ghost use Rattle.solomon_text.specs.Numbers.{holds_numbers};
 ghost use Rattle.solomon_import.specs.Instance.{capacity_of};
 ghost use Rattle.solomon_import.specs.Import.{capacity_range};
 ghost use Rattle.solomon_import.specs.Reading.{lines_from, rows_refusal, TextRead};
 
-use crate::rows;
 use crate::rows::RowLines;
+use crate::{rows, walk};
 use sheet::refusal::Refusal;
 use solomon_text::{lines, words};
 
-fn vehicle_line_right(text: &[u8]) -> bool
-    ensures { result ≡ holds_numbers 2 (first_or (number_lines text.now)) }
+// The first line with a digit past the name line; empty if there is none.
+fn vehicle_line(text: &[u8]) -> &[u8]
+    ensures { result.now ≡ first_or (number_lines text.now) }
 {
-    let at = lines::first_number_line(text);
-    let line = &text[at..lines::line_end(text, at)];
-    words::holds_numbers(line, 2)
-}
-
-fn capacity_in_range(text: &[u8]) -> bool
-    ensures { result ≡ capacity_range (capacity_of text.now) }
-{
-    let at = lines::first_number_line(text);
-    let line = &text[at..lines::line_end(text, at)];
-    words::is_up_to(line, 1, 0x7fff_ffff)
+    walk::line_at(text, lines::first_number_line(text))
 }
 
 pub fn capacity(text: &[u8]) -> i32
     requires { T (capacity_range (capacity_of text.now)) }
     ensures { result ≡ capacity_of text.now }
 {
-    let at = lines::first_number_line(text);
-    let line = &text[at..lines::line_end(text, at)];
-    words::value(line, 1)
+    words::value(vehicle_line(text), 1)
 }
 
 // Where the first row line starts; the text's end if there is none.
@@ -46,7 +34,7 @@ pub fn first_row_line(text: &[u8]) -> usize
     if at == text.len() {
         return at;
     }
-    lines::next_digit_line(text, lines::next_line(text, at))
+    walk::line_after(text, at)
 }
 
 #[tactic(auto, unfolding(crate::specs::Reading::rows_refusal))]
@@ -72,12 +60,13 @@ fn rows_refusal(found: RowLines, capacity: bool) -> Result<(), Refusal>
 pub fn read(text: &[u8]) -> Result<usize, Refusal>
     ensures { TextRead text.now result }
 {
-    if !vehicle_line_right(text) {
+    let vehicle = vehicle_line(text);
+    if !words::holds_numbers(vehicle, 2) {
         return Err(Refusal::Text);
     }
     let Some(found) = rows::row_lines(text, first_row_line(text)) else {
         return Err(Refusal::Text);
     };
-    rows_refusal(found, capacity_in_range(text))?;
+    rows_refusal(found, words::is_up_to(vehicle, 1, 0x7fff_ffff))?;
     Ok(found.count)
 }

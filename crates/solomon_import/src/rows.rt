@@ -6,7 +6,8 @@ ghost use Rattle.solomon_import.specs.Instance.{is_row_line, customer_of};
 ghost use Rattle.solomon_import.specs.Import.{window_range, customer_range};
 ghost use Rattle.solomon_import.specs.Reading.{lines_from, RowLinesFound};
 
-use solomon_text::{lines, words};
+use crate::walk;
+use solomon_text::words;
 
 // What is found of row lines in form.
 #[derive(Clone, Copy)]
@@ -53,13 +54,13 @@ pub fn row_lines(text: &[u8], from: usize) -> Option<RowLines>
     let mut count: usize = 0;
     let mut in_range = true;
     while at < text.len() {
-        let line = &text[at..lines::line_end(text, at)];
+        let line = walk::line_at(text, at);
         if !is_row_line(line, count) {
             return None;
         }
         in_range &= customer_in_range(line);
         count += 1;
-        at = lines::next_digit_line(text, lines::next_line(text, at));
+        at = walk::line_after(text, at);
     }
     Some(RowLines { count, in_range })
 }

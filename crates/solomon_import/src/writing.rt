@@ -10,10 +10,10 @@ ghost use Rattle.solomon_import.specs.Import.{customer_range, customers_range, r
 ghost use Rattle.solomon_import.specs.Reading.{lines_from, text_refusal};
 ghost use Rattle.solomon_import.specs.Writing.{records_of};
 
-use crate::reading;
+use crate::{reading, walk};
 use sheet::customer;
 use sheet_writer::{RowFields, VehicleFields};
-use solomon_text::{lines, words};
+use solomon_text::words;
 
 fn row_fields(line: &[u8], marks: u32) -> RowFields
     requires { T (customer_range (customer_of line.now)) }
@@ -60,11 +60,11 @@ fn write_rows(text: &[u8], from: usize, sheet: &mut [u8])
     let mut place = sheet::HEADER_SIZE;
     let mut marks = customer::DEPOT | customer::WINDOW;
     while at < text.len() {
-        let line = &text[at..lines::line_end(text, at)];
+        let line = walk::line_at(text, at);
         sheet_writer::put_row(sheet, place, row_fields(line, marks));
         place += sheet::ROW_SIZE;
         marks = customer::WINDOW;
-        at = lines::next_digit_line(text, lines::next_line(text, at));
+        at = walk::line_after(text, at);
     }
 }
 

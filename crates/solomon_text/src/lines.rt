@@ -1,4 +1,5 @@
-// Lines of a text, by where they start and end.
+// Lines of a text, by where they start and end: a refusal and the rows go by places of the whole text, which a slice of it would
+// have lost. That a place lies within the text is a clause, of both.
 ghost use Rattle.std.specs.Prelude.{◌≡◌, ◌-◌, ◌≤◌, ◌<◌, T, length, take, drop};
 ghost use Rattle.std.specs.List.{list_any};
 ghost use Rattle.solomon_text.specs.Lines.{is_digit, is_feed, lines_of, first_line, after_first, has_digit, digit_lines, number_lines};

@@ -53,7 +53,7 @@ pub fn holds_numbers(line: &[u8], n: usize) -> bool
     count == n
 }
 
-// Where the word counted n from 0 starts; the line's end if there are fewer.
+// Where the word counted n from 0 starts; the line's end if there are fewer. n words are passed over, and the number leads nowhere.
 fn word_at(line: &[u8], n: usize) -> usize
     ensures { AtWord line.now result × (word_at line.now n ≡ get_or (words_of (drop result line.now)) 0 []) }
 {

@@ -23,6 +23,10 @@ use Rattle.constructive.specs.TableContents.{HoldsRounds, HoldsOutcome}
 abbrev pub empty : Filled
 empty = record { rounds = 0; routed = 0 }
 
+-- as `Filled::default` tells
+pub is_empty : {f : Filled} → (f.rounds ≡ 0) × (f.routed ≡ 0) → f ≡ empty
+is_empty {f} e = let told : ◌≡◌ {A = Filled} (record { rounds = f.rounds; routed = f.routed }) empty = rw (e.0, e.1) in told
+
 -- ---- they hold nothing at first, and more after a constructor
 pub holds_none : (stops ends vehicles : List ℕ) → HoldsRounds stops ends vehicles empty []
 unfolding chains ends_from vehicles_from routed_in

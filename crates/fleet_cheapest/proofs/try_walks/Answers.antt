@@ -2,14 +2,10 @@
 use native.Mathlib.Omega.{arith}
 use lib.Ieee.{of_bits}
 use borrow.Author.Tests.{not-true}
-use Rattle.insertion.proofs.Trying.{trial_long, written}
+use Rattle.insertion.proofs.Trying.{written}
 use Rattle.fleet_cheapest.specs.Promises.{terms_at}
 use Rattle.fleet_cheapest.proofs.Judged.{handed, prices_so, summed, over, barred, taken, free}
-use Rattle.std.proofs.Common.{rules}
 use Rattle.fleet_cheapest.proofs.try_walks.Goals as goal
-
-pub load_of-requires : goal.load_of-requires
-load_of-requires c = (0, search rules)
 
 pub overflow_add-load_of : goal.overflow_add-load_of
 overflow_add-load_of c = omega (arith, summed c.args.sheet.now c.args.windows c.args.index c.args.route.now c.args.row c.requires.windows_of c.requires.row_bound.1 c.requires.routed c.requires.row_bound.0 _ _ c.load_of.ensures c.demand.ensures c.requires.route_len_bound.0)
@@ -19,9 +15,6 @@ returns-then-terms-load_of c = over c.args.sheet.now c.args.windows c.args.index
 
 pub try_free-requires-clause-joinable : goal.try_free-requires-clause-joinable
 try_free-requires-clause-joinable c = handed c.args.sheet.now c.args.windows c.args.index c.args.route.now c.args.row c.requires.windows_of c.requires.row_bound.1 c.requires.routed c.requires.row_bound.0 _ c.terms_at-terms.ensures c.requires.route_len_bound.0
-
-pub try_free-requires-clause-constrained_value : goal.try_free-requires-clause-constrained_value
-try_free-requires-clause-constrained_value c = not-true _ c.if-not-terms.true
 
 pub returns-then-not-terms : goal.returns-then-not-terms
 returns-then-not-terms c = free c.args.sheet.now c.args.windows c.args.index c.args.route.now c.args.row c.requires.windows_of c.requires.row_bound.1 c.requires.routed c.requires.row_bound.0 _ c.terms_at-terms.ensures _ _ c.load_of.ensures c.demand.ensures _ _ c.if-terms-load_of.false c.requires.route_len_bound.0 ((handed c.args.sheet.now c.args.windows c.args.index c.args.route.now c.args.row c.requires.windows_of c.requires.row_bound.1 c.requires.routed c.requires.row_bound.0 _ c.terms_at-terms.ensures c.requires.route_len_bound.0).unwalked.hard (not-true _ c.if-not-terms.true)) _ c.try_free.ensures
@@ -34,15 +27,6 @@ pub returns-then-round : goal.returns-then-round
 unfolding of_bits
 returns-then-round c = barred c.args.sheet.now c.args.windows c.args.index c.args.route.now c.args.row c.requires.windows_of c.requires.row_bound.1 c.requires.routed c.requires.row_bound.0 _ c.terms_at-terms.ensures _ _ c.load_of.ensures c.demand.ensures _ _ c.if-terms-load_of.false _ c.soft_cost-round.ensures c.if-round.true
 
-pub lay_out-requires : goal.lay_out-requires
-lay_out-requires c = c.requires.route_len_bound.1
-
-pub offset_bounds-trial-end : goal.offset_bounds-trial-end
-offset_bounds-trial-end c = omega (arith, c.requires.route_len_bound.0)
-
-pub bounds-trial-end : goal.bounds-trial-end
-bounds-trial-end c = omega (arith, trial_long _ _ _ _ c.lay_out.ensures)
-
 pub try_places-done-requires-clause-joinable : goal.try_places-done-requires-clause-joinable
 unfolding of_bits
 try_places-done-requires-clause-joinable c = handed c.args.sheet.now c.args.windows c.args.index c.args.route.now c.args.row c.requires.windows_of c.requires.row_bound.1 c.requires.routed c.requires.row_bound.0 _ c.terms_at-terms.ensures c.requires.route_len_bound.0
@@ -54,9 +38,6 @@ try_places-done-requires-clause-trial c = written _ _ _ _ c.lay_out.ensures _
 pub try_places-done-requires-clause-prices_value : goal.try_places-done-requires-clause-prices_value
 unfolding of_bits
 try_places-done-requires-clause-prices_value c = prices_so c.args.sheet.now c.args.windows c.args.index c.args.route.now c.args.row c.requires.windows_of c.requires.row_bound.1 c.requires.routed c.requires.row_bound.0 _ c.terms_at-terms.ensures _ c.soft_cost-round.ensures
-
-pub shape_of-trial : goal.shape_of-trial
-shape_of-trial c = let e = trial_long _ _ _ _ c.try_places-done.ensures.trial_2 in omega (arith, e, c.requires.route_len_bound.1)
 
 pub returns : goal.returns
 unfolding of_bits

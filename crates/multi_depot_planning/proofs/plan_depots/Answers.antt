@@ -1,12 +1,13 @@
 -- `multi_depot_planning::plan_depots` meets its contract. Assumes nothing.
 use native.Mathlib.Omega.{arith}
+use Rattle.constructive.specs.Laws.TableContents.{is_empty}
 use Rattle.multi_depot_planning.proofs.Plans.{next_there, planned_more, planned_none}
 use Rattle.std.proofs.Common.{rules}
 use Rattle.multi_depot_planning.proofs.plan_depots.Goals as goal
 
 pub loop-depot-init : goal.loop-depot-init
 loop-depot-init g c = let a = c.args in
-    record { as_long = search rules; planned = rw (c.fill.ensures.after (λ y e. e)) (planned_none a.sheet.now a.at.now a.marks.now a.tables.now.stops a.tables.now.ends a.tables.now.vehicles c.requires.sheet_in_bounds) }
+    record { as_long = search rules; planned = rw (c.fill.ensures.after (λ y e. e), is_empty c.default-filled.ensures) (planned_none a.sheet.now a.at.now a.marks.now a.tables.now.stops a.tables.now.ends a.tables.now.vehicles c.requires.sheet_in_bounds) }
 
 pub plan_depot-filled-requires : goal.plan_depot-filled-requires
 plan_depot-filled-requires g c = let i = c.loop-depot.invariant.planned in

@@ -13,9 +13,6 @@ unfolding probe_rounds
 returns-then-not-rounds_right c = let d = c.in-Some.ensures in
     rw (d.asked, ← rw d.same at c.rounds_right.ensures, c.if-not-rounds_right.true)
 
-pub new-requires : goal.new-requires
-new-requires c = c.in-Some.ensures.right.sheet
-
 pub passed-requires : goal.passed-requires
 passed-requires c = let d = c.in-Some.ensures in
     let l : Lengths c.args.stops.now c.args.len (rows_of c.args.sheet.now) = lengths_of _ _ _ (passed (rw d.same at c.rounds_right.ensures) c.if-not-rounds_right.false) in record {

@@ -1,6 +1,6 @@
 -- `solomon_import::import` meets its contract (`Answering.antt`). Assumes nothing.
-use mathlib.Core.Path.{sym, subst}
-use Prim.Native.Nat.{ℕ, ◌≤◌, ◌<◌}
+use mathlib.Core.Path.{subst}
+use Prim.Native.Nat.{ℕ, ◌<◌}
 use native.Mathlib.Omega.{arith}
 use lib.ListN.{length}
 use Rattle.std.proofs.lemmas.Result.{err_from_is_err_and}
@@ -21,12 +21,6 @@ returns-then-sheet-long c =
     let e = c.in_ok-rows.ensures in
     let r = short_answer c.args.text.now c.args.sheet.now _ e.0 e.1 (subst (λ (k : ℕ). length c.args.sheet.now < k) c.import_length-long.ensures c.if-sheet-long.true) in
     record { import_answered = r.0; import_accepted = r.1; import_long = tt }
-
-pub write_sheet-requires-clause-text_value : goal.write_sheet-requires-clause-text_value
-write_sheet-requires-clause-text_value c = let e = c.in_ok-rows.ensures in (sym e.0, e.1)
-
-pub write_sheet-requires-clause-rows_in_bounds : goal.write_sheet-requires-clause-rows_in_bounds
-write_sheet-requires-clause-rows_in_bounds c = subst (λ (k : ℕ). k ≤ length c.args.sheet.now) c.import_length-long.ensures c.if-sheet-long.false
 
 pub returns : goal.returns
 returns c =

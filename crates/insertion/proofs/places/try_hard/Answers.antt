@@ -1,17 +1,10 @@
 -- `insertion::places::try_hard` meets its contract. Assumes nothing.
 use mathlib.Core.Path.{sym, ap, ◌∙◌}
-use native.Mathlib.Omega.{arith}
 use Rattle.insertion.specs.Place.{feasible_in}
-use Rattle.insertion.proofs.Trying.{trial_long, slides, joins, routed}
+use Rattle.insertion.proofs.Trying.{slides, routed}
 use Rattle.insertion.proofs.Judged.{hard_lost, hard_out, hard_won}
 use Rattle.insertion.proofs.Trying.{front_alike, trial_grown}
 use Rattle.insertion.proofs.places.try_hard.Goals as goal
-
-pub detour-cost-requires-clause-routed : goal.detour-cost-requires-clause-routed
-detour-cost-requires-clause-routed b c = c.requires.joinable.round
-
-pub detour-cost-requires-clause-row_bound : goal.detour-cost-requires-clause-row_bound
-detour-cost-requires-clause-row_bound b c = (joins _ _ _ _ c.requires.joinable, c.requires.soft_value.1.1)
 
 pub returns-then-not-wins : goal.returns-then-not-wins
 returns-then-not-wins b c = let a = c.args in record {
@@ -19,18 +12,6 @@ returns-then-not-wins b c = let a = c.args in record {
   trial_2 = c.requires.trial;
   knows_2 = (c.requires.knows, c.requires.soft_value.1.0);
 }
-
-pub slide-requires : goal.slide-requires
-slide-requires b c = (omega (arith, trial_long _ _ _ _ c.requires.trial, c.requires.trial.place), omega (arith, trial_long _ _ _ _ c.requires.trial, c.requires.soft_value.1.1))
-
-pub towards-next-requires-clause-routed : goal.towards-next-requires-clause-routed
-towards-next-requires-clause-routed b c = c.requires.joinable.round
-
-pub towards-next-requires-clause-knows : goal.towards-next-requires-clause-knows
-towards-next-requires-clause-knows b c = c.requires.knows
-
-pub towards-next-requires-clause-reach : goal.towards-next-requires-clause-reach
-towards-next-requires-clause-reach b c = (c.requires.soft_value.1.0, c.requires.soft_value.1.1)
 
 pub feasible-requires : goal.feasible-requires
 feasible-requires b c = let g = slides _ _ _ _ c.requires.trial _ _ c.requires.soft_value.1.1 c.slide.ensures in record {

@@ -1,36 +1,11 @@
 -- `insertion::places::try_place` meets its contract. Assumes nothing.
 use mathlib.Core.Path.{ap, ◌∙◌}
-use native.Mathlib.Omega.{arith}
-use borrow.Author.Tests.{not-true, not-false}
+use borrow.Author.Tests.{not-false}
 use Rattle.insertion.specs.Place.{better_place}
-use Rattle.insertion.proofs.Trying.{trial_long, slides, routed}
+use Rattle.insertion.proofs.Trying.{slides, routed}
 use Rattle.insertion.proofs.Judged.{soft_told}
 use Rattle.insertion.proofs.Trying.{front_alike, trial_grown}
 use Rattle.insertion.proofs.places.try_place.Goals as goal
-
-pub try_hard-requires-clause-joinable : goal.try_hard-requires-clause-joinable
-try_hard-requires-clause-joinable b c = c.requires.joinable
-
-pub try_hard-requires-clause-trial : goal.try_hard-requires-clause-trial
-try_hard-requires-clause-trial b c = c.requires.trial
-
-pub try_hard-requires-clause-knows : goal.try_hard-requires-clause-knows
-try_hard-requires-clause-knows b c = c.requires.knows
-
-pub try_hard-requires-clause-soft_value : goal.try_hard-requires-clause-soft_value
-try_hard-requires-clause-soft_value b c = (not-true _ c.if-not-terms.true, c.requires.prices_value.1)
-
-pub slide-requires : goal.slide-requires
-slide-requires b c = (omega (arith, trial_long _ _ _ _ c.requires.trial, c.requires.trial.place), omega (arith, trial_long _ _ _ _ c.requires.trial, c.requires.prices_value.1.1))
-
-pub towards-next-requires-clause-routed : goal.towards-next-requires-clause-routed
-towards-next-requires-clause-routed b c = c.requires.joinable.round
-
-pub towards-next-requires-clause-knows : goal.towards-next-requires-clause-knows
-towards-next-requires-clause-knows b c = c.requires.knows
-
-pub towards-next-requires-clause-reach : goal.towards-next-requires-clause-reach
-towards-next-requires-clause-reach b c = (c.requires.prices_value.1.0, c.requires.prices_value.1.1)
 
 pub weigh-choice-requires : goal.weigh-choice-requires
 weigh-choice-requires b c = let g = slides _ _ _ _ c.requires.trial _ _ c.requires.prices_value.1.1 c.slide.ensures in record {

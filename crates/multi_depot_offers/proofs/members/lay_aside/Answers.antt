@@ -8,7 +8,3 @@ unfolding aside_by_marks
 gather-requires c κs within =
     let p = c.requires in
     (search rules, (omega (arith, p.gathers.rows, p.gathers.sheet.sized.rows), (search rules, (search rules, rw (c.depots-depots.ensures.value, p.gathers.rows) p.marks_in_bounds))))
-
-pub returns : goal.returns
-unfolding aside_by_marks
-returns c = let p = c.requires in rw (← c.depots-depots.ensures.value, ← p.gathers.rows) c.gather.ensures.table_after

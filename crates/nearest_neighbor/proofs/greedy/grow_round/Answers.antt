@@ -6,23 +6,8 @@ use Rattle.nearest_neighbor_choice.specs.Partial.{empty_partial}
 use Rattle.nearest_neighbor.proofs.Growing.{begins, length_same, routed, rides, grown_full, inside, stop_row, goes_on, grown_out, ends_at, ends_laid}
 use Rattle.nearest_neighbor.proofs.greedy.grow_round.Goals as goal
 
-pub vehicle_at-vehicle-requires : goal.vehicle_at-vehicle-requires
-vehicle_at-vehicle-requires g c = c.requires.index_bound
-
-pub limits_for-limits-requires : goal.limits_for-limits-requires
-limits_for-limits-requires g c = let p = c.requires in record {
-  index_bound = (p.index_bound, omega (arith, p.members.routed.home));
-  vehicle_value = c.vehicle_at-vehicle.ensures.value;
-}
-
 pub loop-end-init : goal.loop-end-init
 loop-end-init g c = ((c.vehicle_at-vehicle.ensures.value, c.limits_for-limits.ensures), begins c.args.sheet.now c.args.depot (g.R.Rule.which c.args.rule) c.args.index c.args.stops.now c.args.start c.args.total _ c.requires.members (c.empty_partial-partial.ensures ∙ ap (λ (l : RouteLimits). empty_partial l.rest c.args.depot) c.limits_for-limits.ensures))
-
-pub offset_bounds-stops-end : goal.offset_bounds-stops-end
-offset_bounds-stops-end g c = omega (arith, c.loop-end.invariant.1.members.most)
-
-pub slice_bounds-nearest-count : goal.slice_bounds-nearest-count
-slice_bounds-nearest-count g c = omega arith
 
 pub slice_bounds-nearest-end : goal.slice_bounds-nearest-end
 slice_bounds-nearest-end g c = omega (arith, c.loop-end.invariant.1.members.within, length_same _ _ _ _ _ _ _ _ _ _ c.loop-end.invariant.1)
@@ -51,9 +36,6 @@ offset_bounds-stops-from g c = omega (arith, inside _ _ _ _ _ _ _ _ _ _ c.loop-e
 pub bounds-stops-from : goal.bounds-stops-from
 bounds-stops-from g c = omega (arith, inside _ _ _ _ _ _ _ _ _ _ c.loop-end.invariant.1 c.nearest.result _ _ c.loop-end.invariant.0.0 c.loop-end.invariant.0.1 c.nearest.ensures _ _ c.in-Some.is, c.loop-end.invariant.1.all, c.loop-end.invariant.1.members.within, length_same _ _ _ _ _ _ _ _ _ _ c.loop-end.invariant.1)
 
-pub overflow_cast-stops : goal.overflow_cast-stops
-overflow_cast-stops g c = omega (arith, stop_row _ _ _ _ _ _ _ _ _ _ c.loop-end.invariant.1 c.nearest.result _ _ c.loop-end.invariant.0.0 c.loop-end.invariant.0.1 c.nearest.ensures _ _ c.in-Some.is, c.loop-end.invariant.1.members.routed.sheet.sized.rows)
-
 pub drive_on-partial-requires-clause-partial_route : goal.drive_on-partial-requires-clause-partial_route
 drive_on-partial-requires-clause-partial_route g c = rides _ _ _ _ _ _ _ _ _ _ c.loop-end.invariant.1 c.loop-end-test.true
 
@@ -63,12 +45,6 @@ drive_on-partial-requires-clause-row_bound g c = stop_row _ _ _ _ _ _ _ _ _ _ c.
 pub bring-requires : goal.bring-requires
 bring-requires g c = (omega arith, omega (arith, inside _ _ _ _ _ _ _ _ _ _ c.loop-end.invariant.1 c.nearest.result _ _ c.loop-end.invariant.0.0 c.loop-end.invariant.0.1 c.nearest.ensures _ _ c.in-Some.is, c.loop-end.invariant.1.all, c.loop-end.invariant.1.members.within, length_same _ _ _ _ _ _ _ _ _ _ c.loop-end.invariant.1))
 
-pub overflow_add-end : goal.overflow_add-end
-overflow_add-end g c = omega (arith, c.loop-end.invariant.1.members.most)
-
-pub loop-end-smaller : goal.loop-end-smaller
-loop-end-smaller g c = omega arith
-
 pub loop-end-preserved : goal.loop-end-preserved
 loop-end-preserved g c = (c.loop-end.invariant.0, goes_on _ _ _ _ _ _ _ _ _ _ c.loop-end.invariant.1 c.nearest.result _ _ c.loop-end.invariant.0.0 c.loop-end.invariant.0.1 c.nearest.ensures _ _ c.in-Some.is _ _ c.bring.ensures c.drive_on-partial.ensures)
 
@@ -77,6 +53,6 @@ shape_of-stops g c = length_same _ _ _ _ _ _ _ _ _ _ c.loop-end.invariant.1
 
 pub returns : goal.returns
 returns g c = let o = c.loop-end.invariant.1 in let t = grown_out _ _ _ _ _ _ _ _ _ _ o c.loop-end-test.false in record {
-  value = ends_at _ _ _ _ _ _ _ _ _ _ o t;
+  value = omega (arith, ends_at _ _ _ _ _ _ _ _ _ _ o t, o.all);
   stops_after = ends_laid _ _ _ _ _ _ _ _ _ _ o t;
 }

@@ -1,11 +1,6 @@
 -- `solomon_i1::growing::grow_round` meets its contract. Assumes nothing.
-use Prim.Native.Nat.{◌-◌}
-use lib.ListN.{length}
 use Rattle.solomon_i1.proofs.Grows.{Growing}
 use Rattle.solomon_i1.proofs.growing.grow_round.Given as goal
 
 abbrev pub invariant-loop-end : goal.invariant-loop-end
 invariant-loop-end l = Growing l.sheet l.terms l.initial.left l.initial.trial l.left l.trial l.end
-
-abbrev pub decreases-loop-end : goal.decreases-loop-end
-decreases-loop-end l = length l.left - l.end

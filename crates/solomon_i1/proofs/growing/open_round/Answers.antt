@@ -1,6 +1,5 @@
 -- `solomon_i1::growing::open_round` meets its contract. Assumes nothing.
 use mathlib.Core.Path.{◌∙◌, ap}
-use native.Mathlib.Omega.{arith}
 use lib.ListN.{length}
 use Rattle.solomon_i1.specs.Insertion.{Growth, route_in}
 use Rattle.solomon_i1.specs.Tabled.{growth_stops}
@@ -9,9 +8,6 @@ use Rattle.solomon_i1.proofs.growing.open_round.Goals as goal
 
 pub grow_round-requires-clause-joinable : goal.grow_round-requires-clause-joinable
 grow_round-requires-clause-joinable c = opens c.args.sheet.now c.args.terms c.args.left.now c.args.seed c.requires.seed_in_bounds.0 c.bring.new.stops c.bring.ensures c.requires.joinable
-
-pub grow_round-requires-clause-left_nonzero : goal.grow_round-requires-clause-left_nonzero
-grow_round-requires-clause-left_nonzero c = (omega (arith, c.bring.auto.stops, c.requires.seed_in_bounds.0), omega (arith, c.bring.auto.stops, c.requires.seed_in_bounds.1))
 
 pub returns : goal.returns
 returns c = let e = opened c.args.sheet.now c.args.terms c.args.left.now c.args.seed c.requires.seed_in_bounds.0 c.bring.new.stops c.bring.ensures in record {

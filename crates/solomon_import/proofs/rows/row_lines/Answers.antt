@@ -6,25 +6,19 @@ use Prim.Native.Nat.{ℕ, ◌+◌}
 use Rattle.solomon_import.specs.Instance.{is_row_line, customer_of}
 use Rattle.solomon_import.specs.Import.{customer_range}
 use native.Mathlib.Omega.{arith}
-use Rattle.solomon_import.proofs.RowLines.{RowsRead, Onward, row_read, row_refused, all_read}
+use Rattle.solomon_import.proofs.RowLines.{RowsRead, row_read, row_refused, all_read}
 use Rattle.solomon_import.proofs.rows.row_lines.Goals as goal
 
 pub returns-then-not-is_row_line : goal.returns-then-not-is_row_line
 returns-then-not-is_row_line c = row_refused c.args.text.now c.args.from c.loop-at.at c.loop-at.count c.loop-at.in_range c.loop-at.invariant c.loop-at-test.true
-    (ap (is_row_line c.loop-at.count) (sym c.line_end.ensures.2) ∙ sym c.is_row_line.ensures ∙ c.if-not-is_row_line.true)
+    (ap (is_row_line c.loop-at.count) (sym c.line_at-line.ensures) ∙ sym c.is_row_line.ensures ∙ c.if-not-is_row_line.true)
 
 pub loop-at-preserved : goal.loop-at-preserved
 loop-at-preserved c = let text = c.args.text.now in
-    let e = c.line_end.ensures.2 in
-    let o : Onward text c.loop-at.at c.next_digit_line-at.result = record {
-      further = (let g = c.next_digit_line-at.ensures.0 in let h = c.next_line.ensures.0 in omega arith);
-      within = c.next_digit_line-at.ensures.1;
-      lines = c.next_line.ensures.2 ∙ c.next_digit_line-at.ensures.2;
-      digit = c.next_digit_line-at.ensures.3;
-    } in
-    subst (RowsRead text c.args.from c.next_digit_line-at.result (c.loop-at.count + 1))
+    let e = c.line_at-line.ensures in
+    subst (RowsRead text c.args.from c.line_after-at.result (c.loop-at.count + 1))
     (ap (λ (b : Bool). c.loop-at.in_range && b) (ap (λ (line : List ℕ). customer_range (customer_of line)) (sym e) ∙ sym c.customer_in_range-in_range.ensures))
-    (row_read text c.args.from c.loop-at.at c.loop-at.count c.loop-at.in_range c.loop-at.invariant c.loop-at-test.true c.next_digit_line-at.result o
+    (row_read text c.args.from c.loop-at.at c.loop-at.count c.loop-at.in_range c.loop-at.invariant c.loop-at-test.true c.line_after-at.result c.line_after-at.ensures
     (ap (is_row_line c.loop-at.count) (sym e) ∙ sym c.is_row_line.ensures ∙ c.if-not-is_row_line.false))
 
 pub returns : goal.returns

@@ -14,24 +14,17 @@ use Rattle.solomon_import.specs.Laws.Ranged.{ranged}
 use Rattle.solomon_import.proofs.Made.{row_numbered}
 use native.Mathlib.Omega.{arith}
 use lib.ListN.{drop}
-use Rattle.solomon_import.proofs.RowLines.{Onward}
-use Rattle.solomon_import.proofs.RowsPut.{none_put, all_put, put_long, line_ranged, place_fits_lem, row_put}
+use Rattle.solomon_import.proofs.RowsPut.{none_put, all_put, line_ranged, place_fits_lem, row_put}
 use Rattle.solomon_import.proofs.writing.write_rows.Goals as goal
 
 pub loop-at-init : goal.loop-at-init
 loop-at-init c = (none_put c.args.text.now c.args.from c.args.sheet.now c.requires.from_in_bounds.0 c.requires.from_in_bounds.1 c.requires.t c.requires.from_in_bounds_2)
 
-pub line_end-requires : goal.line_end-requires
-line_end-requires c = c.loop-at.invariant.within
-
-pub slice_bounds-line-count : goal.slice_bounds-line-count
-slice_bounds-line-count c = c.line_end.ensures.0
-
 pub row_fields-requires : goal.row_fields-requires
-row_fields-requires c = subst (λ (line : List ℕ). T (customer_range (customer_of line))) (sym c.line_end.ensures.2) (line_ranged c.args.text.now c.args.from c.args.sheet.now c.loop-at.sheet c.loop-at.at c.loop-at.place c.loop-at.marks c.loop-at.invariant c.loop-at-test.true)
+row_fields-requires c = subst (λ (line : List ℕ). T (customer_range (customer_of line))) (sym c.line_at-line.ensures) (line_ranged c.args.text.now c.args.from c.args.sheet.now c.loop-at.sheet c.loop-at.at c.loop-at.place c.loop-at.marks c.loop-at.invariant c.loop-at-test.true)
 
 pub put_row-requires : goal.put_row-requires
-put_row-requires c = let e = c.line_end.ensures.2 in
+put_row-requires c = let e = c.line_at-line.ensures in
     let text = c.args.text.now in
     let m = c.loop-at.marks in
     let g = line_ranged c.args.text.now c.args.from c.args.sheet.now c.loop-at.sheet c.loop-at.at c.loop-at.place c.loop-at.marks c.loop-at.invariant c.loop-at-test.true in
@@ -40,31 +33,10 @@ put_row-requires c = let e = c.line_end.ensures.2 in
       row_numbered = subst RowNumbered (sym (c.row_fields.ensures ∙ ap (λ (line : List ℕ). row_fields_of m (customer_of line)) e)) (row_numbered m (customer_of (first_line (drop c.loop-at.at text))) (ranged (customer_of (first_line (drop c.loop-at.at text))) g));
     }
 
-pub overflow_add-place : goal.overflow_add-place
-overflow_add-place c = (let g = place_fits_lem c.args.text.now c.args.from c.args.sheet.now c.loop-at.sheet c.loop-at.at c.loop-at.place c.loop-at.marks c.loop-at.invariant c.loop-at-test.true in let n = put_long c.args.text.now c.args.from c.args.sheet.now c.loop-at.sheet c.loop-at.at c.loop-at.place c.loop-at.marks c.loop-at.invariant in let h = c.well_formed in omega arith)
-
-pub next_line-requires : goal.next_line-requires
-next_line-requires c = c.loop-at-test.true
-
-pub next_digit_line-at-requires : goal.next_digit_line-at-requires
-next_digit_line-at-requires c = c.next_line.ensures.1
-
-pub loop-at-smaller : goal.loop-at-smaller
-loop-at-smaller c = (let g = c.next_digit_line-at.ensures.0 in let h = c.next_line.ensures.0 in let l = c.loop-at-test.true in omega arith)
-
 pub loop-at-preserved : goal.loop-at-preserved
 loop-at-preserved c = let text = c.args.text.now in
-    let o : Onward text c.loop-at.at c.next_digit_line-at.result = record {
-      further = (let g = c.next_digit_line-at.ensures.0 in let h = c.next_line.ensures.0 in omega arith);
-      within = c.next_digit_line-at.ensures.1;
-      lines = c.next_line.ensures.2 ∙ c.next_digit_line-at.ensures.2;
-      digit = c.next_digit_line-at.ensures.3;
-    } in
-    row_put c.args.text.now c.args.from c.args.sheet.now c.loop-at.sheet c.loop-at.at c.loop-at.place c.loop-at.marks c.loop-at.invariant c.loop-at-test.true c.next_digit_line-at.result o c.put_row.new.sheet
-    (c.put_row.ensures ∙ ap (λ (r : RowFields). write c.loop-at.sheet c.loop-at.place (row_record r)) (c.row_fields.ensures ∙ ap (λ (line : List ℕ). row_fields_of c.loop-at.marks (customer_of line)) c.line_end.ensures.2))
-
-pub shape_of-sheet : goal.shape_of-sheet
-shape_of-sheet c = put_long c.args.text.now c.args.from c.args.sheet.now c.loop-at.sheet c.loop-at.at c.loop-at.place c.loop-at.marks c.loop-at.invariant
+    row_put c.args.text.now c.args.from c.args.sheet.now c.loop-at.sheet c.loop-at.at c.loop-at.place c.loop-at.marks c.loop-at.invariant c.loop-at-test.true c.line_after-at.result c.line_after-at.ensures c.put_row.new.sheet
+    (c.put_row.ensures ∙ ap (λ (r : RowFields). write c.loop-at.sheet c.loop-at.place (row_record r)) (c.row_fields.ensures ∙ ap (λ (line : List ℕ). row_fields_of c.loop-at.marks (customer_of line)) c.line_at-line.ensures))
 
 pub returns : goal.returns
 returns c = (all_put c.args.text.now c.args.from c.args.sheet.now c.loop-at.sheet c.loop-at.at c.loop-at.place c.loop-at.marks c.loop-at.invariant (omega arith))
