@@ -16,22 +16,21 @@ use clarke_wright_slots::RouteSlots;
 use constructive::tables::{Filled, RouteTables};
 use sheet::Sheet;
 
-// The members' rounds in the slots, once no saving is left; answers how many stops are set aside.
-fn merge_members<const PAIRS: usize, const CELLS: usize>(
+// The members' rounds in the slots, once no saving is left; answers the stops that are set aside.
+fn merge_members<'a, const PAIRS: usize, const CELLS: usize>(
     sheet: &Sheet,
     terms: Directed,
     members: &[u16],
     savings: &mut Savings<PAIRS>,
     slots: &mut RouteSlots<CELLS>,
-    aside: &mut [u16],
-) -> usize
+    aside: &'a mut [u16],
+) -> &'a [u16]
     requires routed { Routed sheet.now terms.common.depot members.now }
     requires by_index { (x : ℕ) → count x members.now ≤ 1 }
     requires members_in_bounds { length members.now * length members.now ≤ PAIRS }
     requires roomy { Roomy (length members.now) slots.old.cells slots.old.lens slots.old.loads slots.old.slots }
     requires most_rows_in_bounds { most_rows ≤ length aside.old }
-    ensures value { result ≡ length (aside_of sheet.now terms.common members.now) }
-    ensures aside_after { take result aside.new ≡ aside_of sheet.now terms.common members.now }
+    ensures value { result.now ≡ aside_of sheet.now terms.common members.now }
     ensures slotted { Slotted sheet.now (length members.now) slots.new.cells slots.new.lens slots.new.loads slots.new.slots }
     ensures lens_after { slots_in (length members.now) slots.new.cells slots.new.lens ≡ routes_of sheet.now terms members.now }
 {
@@ -66,7 +65,7 @@ pub fn plan_by<const PAIRS: usize, const CELLS: usize, const N: usize>(
     let stops = &tables.stops[..];
     let members = &stops[start..total];
     let terms = terms::directed_of(sheet, depot, vehicle, members);
-    let mut aside = [0u16; sheet::MOST_ROWS];
-    let left = merge_members(sheet, terms, members, savings, slots, &mut aside);
-    slots.lay(total - start, &aside[..left], vehicle, tables, filled)
+    let mut table = [0u16; sheet::MOST_ROWS];
+    let aside = merge_members(sheet, terms, members, savings, slots, &mut table);
+    slots.lay(total - start, aside, vehicle, tables, filled)
 }

@@ -6,7 +6,7 @@ use native.Mathlib.Omega.{arith}
 use mathlib.Core.Bool.{Bool, true, false}
 use mathlib.Core.List.{List, [], ◌∷◌, ◌++◌, reverse, append_assoc, append-nil}
 use lib.ListN.{length, get_or, set, take, drop, length-append, length-drop, length-reverse, drop_of_length-le}
-use lib.Seq.{length-take-le, take_all, take-suc, take-length, drop-drop, set_at}
+use lib.Seq.{length-take-le, take_all, take-suc, drop-drop, set_at}
 use Rattle.std.proofs.lemmas.List.{reverse-append}
 use Rattle.wire.specs.Bytes.{write}
 use Rattle.wire.specs.Laws.Bytes.{length_write, take_write, write_write, write_none}
@@ -38,9 +38,6 @@ module _ (route to₀ : List ℕ) (n : ℕ) (to : List ℕ) (i : ℕ) (g : Copyi
   back_front : length (reverse (take i route)) ≡ i
   back_front = length-reverse (take i route) ∙ length-take-le i route (omega (arith, g.last, g.within))
 
-  pub back_long : length to ≡ length to₀
-  back_long = ap length g.laid ∙ length_write to₀ (n - i) (reverse (take i route)) (omega (arith, back_front, g.room, g.last, g.within))
-
   pub back_goes_on : i < n → CopyingBack route to₀ n (set to (n - 1 - i) (get_or route i 0)) (i + 1)
   back_goes_on h =
       let x = get_or route i 0 in
@@ -57,12 +54,6 @@ module _ (route to₀ : List ℕ) (n : ℕ) (to : List ℕ) (i : ℕ) (g : Copyi
             ∙ ap (write to₀ at) (sym (ap reverse (ap (λ (m : ℕ). take m route) (add-one i) ∙ take-suc route i 0 (omega (arith, g.last))) ∙ reverse-append (take i route) (x ∷ [])))
             ∙ ap (λ (m : ℕ). write to₀ m (reverse (take (i + 1) route))) f;
       }
-
-  pub back_ends : n ≤ i → to ≡ write to₀ 0 (reverse route)
-  back_ends h =
-      let e : i ≡ length route = omega (arith, g.last, g.within) in
-      let f : n - i ≡ 0 = omega arith in
-      g.laid ∙ ap (λ (m : ℕ). write to₀ m (reverse (take i route))) f ∙ ap (λ (l : List ℕ). write to₀ 0 (reverse l)) (ap (λ (m : ℕ). take m route) e ∙ take-length route)
 
 -- ---- a part that was lent
 -- what was written over the front of the rest of a list, said of the whole

@@ -1,13 +1,13 @@
 -- The slots of the rows of a round, set one after another. Assumes nothing.
 use mathlib.Core.Path.{◌≡◌, refl, ap, ◌∙◌}
-use Prim.Native.Nat.{ℕ, ◌+◌, ◌≤◌, ◌<◌}
+use Prim.Native.Nat.{ℕ, ◌+◌, ◌<◌}
 use native.Mathlib.Numerals.{add-one}
 use native.Mathlib.Omega.{arith}
 use mathlib.Core.Bool.{Bool, true, false, cond}
 use mathlib.Core.List.{List, [], ◌∷◌}
 use lib.Dec.{ltb, eqb}
 use lib.ListN.{length, get_or, set, take, length-set}
-use lib.Seq.{take-suc, take-length, get_or-set_same, get_or-set_other}
+use lib.Seq.{take-suc, get_or-set_same, get_or-set_other}
 use borrow.Author.Tests.{lt-ltb, eqb-true, eqb-false}
 use Rattle.lists.specs.Count.{one, count}
 use Rattle.lists.specs.Laws.Once.{count_append}
@@ -46,6 +46,3 @@ module _ (slots₀ route : List ℕ) (slot : ℕ) (slots : List ℕ) (i : ℕ) (
       go x l false e =
           let same : count x (take (i + 1) route) ≡ count x (take i route) = omega (arith, count_more h x, ap one e) in
           rw same (get_or-set_other slots (get_or route i 0) x slot 0 (eqb-false x (get_or route i 0) e) ∙ g.known x l)
-
-  pub ends : length route ≤ i → i ≤ length route → (x : ℕ) → x < length slots₀ → get_or slots x 0 ≡ labelled slots₀ route slot x
-  ends h k x l = let e : i ≡ length route = omega arith in g.known x l ∙ ap (λ (r : List ℕ). labelled slots₀ r slot x) (ap (λ (n : ℕ). take n route) e ∙ take-length route)

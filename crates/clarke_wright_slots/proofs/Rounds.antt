@@ -159,12 +159,6 @@ module _ {n : ℕ} {cells lens : List ℕ} {v : ℕ} {stops₀ ends₀ vehicles�
         let at : 101 * k ≡ k * 101 = omega arith in
         ap (λ (i : ℕ). take i (drop (101 * k) cells)) m ∙ ap (λ (i : ℕ). take many (drop i cells)) at
 
-    -- as much is lent of the stops
-    pub copy_room : length (take (f.routed + many - f.routed) (drop f.routed stops)) ≡ length (take (101 * k + many - 101 * k) (drop (101 * k) cells))
-    copy_room =
-        let n : length (take (f.routed + many - f.routed) (drop f.routed stops)) ≡ f.routed + many - f.routed = length-take-le (f.routed + many - f.routed) (drop f.routed stops) (omega (arith, length-drop f.routed stops, fits.1)) in
-        omega (arith, n, ap length lent, long_route)
-
     -- a slot without stops makes no round
     module _ (none : many ≡ 0) where
       passed : rounds_of v (slots_in (k + 1) cells lens) ≡ done
@@ -228,17 +222,7 @@ module _ {n : ℕ} {cells lens : List ℕ} {v : ℕ} {stops₀ ends₀ vehicles�
       closes copied ends' vehicles' f' p u q r =
           let e : copied ≡ route = p ∙ lent in
           closed _ ends' vehicles' f' (rw e (put_part stops f.routed (f.routed + many - f.routed) route (omega (arith, long_route)))) u q r
-
-  -- ---- all slots are through
-  module _ (over : n ≤ k) where
-    through : k ≡ n
-    through = omega (arith, g.within)
-
-    pub ends_count : f ≡ filled_by f₀ (rounds_of v (slots_in n cells lens))
-    ends_count = g.count ∙ ap (λ (m : ℕ). filled_by f₀ (rounds_of v (slots_in m cells lens))) through
-
-    pub ends_laid : Stored stops₀ ends₀ vehicles₀ f₀ (laid_so (rounds_of v (slots_in n cells lens)) []) stops ends vehicles
-    ends_laid = rw (sym through) g.laid
+      -- ---- all slots are through
 
 -- ---- the stops set aside, behind the rounds
 module _ (v : ℕ) (routes : List (List ℕ)) (aside : List ℕ) {stops₀ ends₀ vehicles₀ : List ℕ} {f₀ : Filled} {stops ends vehicles : List ℕ} {f : Filled}

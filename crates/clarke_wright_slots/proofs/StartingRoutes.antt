@@ -331,12 +331,6 @@ module _ {s : List ℕ} {t : Terms} {members aside₀ : List ℕ} {n : ℕ} {cel
     done : take k members ≡ members
     done = take_all k members (omega (arith, g.all))
 
-    pub ends_many : end ≡ length (aside_of s t members)
-    ends_many = g.many ∙ ap (λ (l : List ℕ). length (aside_of s t l)) done
-
-    pub ends_left : take end aside ≡ aside_of s t members
-    ends_left = g.left ∙ ap (aside_of s t) done
-
     through : k ≡ length members
     through = omega (arith, g.all, g.within)
 

@@ -24,20 +24,19 @@ impl<const CELLS: usize> RouteSlots<CELLS> {
         self.slots[row as usize] = slot as u16;
     }
 
-    // A slot for each member, in order; the stops that no round can take stand in `aside`. Answers how many those are.
-    pub fn start(
+    // A slot for each member, in order. Answers the stops that no round can take, in `aside`, which is lent.
+    pub fn start<'a>(
         &mut self,
         sheet: &Sheet,
         terms: Terms,
         members: &[u16],
-        aside: &mut [u16],
-    ) -> usize
+        aside: &'a mut [u16],
+    ) -> &'a [u16]
         requires routed { Routed sheet.now terms.depot members.now }
         requires by_index { (x : ℕ) → count x members.now ≤ 1 }
         requires roomy { Roomy (length members.now) self.old.cells self.old.lens self.old.loads self.old.slots }
         requires most_rows_in_bounds { most_rows ≤ length aside.old }
-        ensures value { result ≡ length (aside_of sheet.now terms members.now) }
-        ensures aside_after { take result aside.new ≡ aside_of sheet.now terms members.now }
+        ensures value { result.now ≡ aside_of sheet.now terms members.now }
         ensures slotted { Slotted sheet.now (length members.now) self.new.cells self.new.lens self.new.loads self.new.slots }
         ensures lens_after { slots_in (length members.now) self.new.cells self.new.lens ≡ starts_of sheet.now terms members.now }
     {
@@ -54,6 +53,6 @@ impl<const CELLS: usize> RouteSlots<CELLS> {
             aside[end] = row;
             end += 1;
         }
-        end
+        &aside[..end]
     }
 }

@@ -73,8 +73,3 @@ module _ (stops₀ : List ℕ) (to from : ℕ) (stops : List ℕ) (carried i end
             ∙ sym (get_or-drop to stops₀ done 0)
             ∙ ap (λ (k : ℕ). get_or line k 0) (sym more);
       }
-
-  pub ends : end ≤ i → stops ≡ write stops₀ to (get_or stops₀ from 0 ∷ take (from - to) (drop to stops₀))
-  ends h =
-      let e : done ≡ suc (from - to) = omega (arith, g.last, g.within, g.order) in
-      g.laid ∙ ap (λ (k : ℕ). write stops₀ to (take k line)) e

@@ -67,13 +67,3 @@ module _ (p : ℕ → Bool) (n i : ℕ) (table₀ : List ℕ) (from : ℕ) (tabl
             ∙ rw (longer, g.same, g.last) (write_write table₀ from (filtered p (k - i) i) (omega (arith, fits)) (k ∷ []) (omega (arith, fits)));
         last = omega (arith, g.last, ap length longer, length-append (filtered p (k - i) i) (k ∷ []));
       }
-
-  module _ (h : i + n ≤ k) where
-    all : k - i ≡ n
-    all = omega (arith, g.most)
-
-    pub gathered : table ≡ write table₀ from (filtered p n i)
-    gathered = g.same ∙ rw all
-
-    pub gathered_end : end ≡ from + length (filtered p n i)
-    gathered_end = g.last ∙ rw all

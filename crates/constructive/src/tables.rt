@@ -7,7 +7,9 @@ ghost use Rattle.constructive.specs.Outcome.{start_in};
 
 // How far the tables are filled: so many rounds, with so many stops in all. It goes beside them, since a Vec, which would know how
 // long it is, takes a heap; and it is what each constructor answers. That there are no more rounds than stops is a clause of who
-// adds rounds (`Room`): as an invariant it would have `close_round` ask for a stop in each round, which it does not.
+// adds rounds (`Room`): as an invariant it would have `close_round` ask for a stop in each round, which it does not. Nor does one
+// struct take the sheet, the depot, the tables, this and the end of the members, which go through all constructors: the first three
+// are each lent apart, and it would be made anew for every call.
 #[derive(Clone, Copy, Default)]
 pub struct Filled {
     pub rounds: usize,

@@ -11,7 +11,8 @@ use evaluation::{checks, limits};
 use sheet::{Sheet, vehicle};
 
 // The vehicle by its index; whether rounds are checked, and by the soft rules; the vehicle's capacity, its fixed cost in
-// distance and its limits.
+// distance and its limits. `constrained` and `soft` are two flags for three cases, since a soft window is a window too. Most
+// places ask one of them alone, and the definitions take each as a Bool: an enum would be compared at each.
 #[derive(Clone, Copy)]
 pub struct Terms {
     pub depot: usize,

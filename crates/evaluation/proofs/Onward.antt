@@ -14,9 +14,8 @@ use Rattle.sheet.specs.declared.vehicle.VehicleBreak.{VehicleBreak}
 use Rattle.evaluation_clock.specs.declared.clock.BreakClock.{BreakClock}
 use Rattle.evaluation_clock.specs.declared.clock.Schedule.{Schedule}
 use Rattle.evaluation_clock.specs.Sums.{◌⊕◌}
-use Rattle.evaluation_clock.specs.Clocked.{Clocked}
 use Rattle.evaluation.specs.Routed.{Routed}
-use Rattle.evaluation_clock.specs.Clock.{started, moved_of, alive_of, unrested, finish_of, clock_of, break_clock, next_of, next_by}
+use Rattle.evaluation_clock.specs.Clock.{started, moved_of, alive_of, unrested, finish_of, clock_of, break_clock, next_by}
 use Rattle.evaluation.specs.Walk.{Position, drive_to, walked_over, home_from, scheduled_of}
 use Rattle.evaluation.specs.Soonest.{sooner_of, soonest_of}
 use Rattle.evaluation.specs.Laws.Walk.{dead_over, dead_home, walked_rest, walked_place, plain_from, plain_walk}
@@ -39,9 +38,6 @@ module _ (s route : List ℕ) (depot : ℕ) (p : Position) (c : BreakClock) (dis
 
   pub in_range_lem : i < length route → row < rows_of s
   in_range_lem h = g.routed.row i (omega arith)
-
-  pub clocked : Clocked s c
-  clocked = record { sheet = g.routed.sheet; from = g.from; room = omega (arith, g.count, g.within, g.routed.few) }
 
   module _ (q : BreakClock) (h : i < length route) (e : q ≡ next_by s c row) where
     on : walked_over s p route ≡ walked_over s (position_at q (distance ⊕ distance_of s c.prev row)) (drop (i + 1) route)

@@ -7,7 +7,7 @@ use mathlib.Core.Bool.{Bool, true, false, cond}
 use mathlib.Core.List.{List}
 use lib.ListN.{length, drop, get_or}
 use lib.Ieee.{Float}
-use Rattle.lists.specs.Laws.Fold.{fold_turn, fold_done}
+use Rattle.lists.specs.Laws.Fold.{fold_turn}
 use Rattle.sheet.specs.Fields.{rows_of}
 use Rattle.sheet.specs.Values.{stop_of, distance_of, time_of}
 use Rattle.sheet.specs.declared.customer.Gate.{Gate}
@@ -21,7 +21,6 @@ use Rattle.evaluation.specs.Routed.{Routed}
 use Rattle.evaluation_clock.specs.Serve.{leaving_at, late_by, departure_of, pass, serve_of}
 use Rattle.evaluation_clock.specs.Clock.{step_of, taken_of, moved_of, alive_of}
 use Rattle.evaluation.specs.Walk.{Position, drive_to, walked_over}
-use Rattle.evaluation.specs.Underway.{position_of}
 use Rattle.evaluation.specs.Laws.Walk.{dead_over}
 
 -- ---- a visit takes no rest
@@ -99,16 +98,3 @@ module _ (s rows : List ℕ) (l₀ : Label) (d₀ : Float) (p₀ : ℕ) (l : Lab
   pub stops : i < length rows → serve_of l (time_of s prev row) (stop_of s row) ≡ None → (place : ℕ) → alive_of (walked_over s (plain_at (Some l₀) d₀ p₀ place) rows).clock ≡ false
   unfolding alive_of
   stops h e place = rw (visited None h e place) (dead_over s (plain_at None (distance ⊕ distance_of s prev row) row (place + (i + 1))) (drop (i + 1) rows) refl)
-
-  pub ends : length rows ≤ i → (place : ℕ) → walked_over s (plain_at (Some l₀) d₀ p₀ place) rows ≡ plain_at (Some l) distance prev (place + length rows)
-  ends h place =
-      let e : i ≡ length rows = omega (arith, g.within) in
-      g.same place
-      ∙ fold_done (drive_to s) (plain_at (Some l) distance prev (place + i)) rows i (omega (arith, e))
-      ∙ ap (λ (k : ℕ). plain_at (Some l) distance prev (place + k)) e
-
-  -- and where the loop leaves off
-  pub arrives : length rows ≤ i → (place : ℕ) → walked_over s (plain_at (Some l₀) d₀ p₀ place) rows ≡ position_of (record { prev = prev; distance = distance; time = l.time; lateness = l.lateness; lateness_cost = l.lateness_cost }) (place + length rows)
-  arrives h place =
-      ends h place
-      ∙ ap (λ (x : RestAnswer). plain_at (Some (record { time = l.time; lateness = l.lateness; lateness_cost = l.lateness_cost; rest = x })) distance prev (place + length rows)) g.unrested

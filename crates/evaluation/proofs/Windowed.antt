@@ -7,7 +7,6 @@ use mathlib.Core.Bool.{Bool, true, false}
 use mathlib.Core.List.{List}
 use lib.ListN.{length, drop, get_or}
 use lib.Seq.{drop-cons, drop-length}
-use Rattle.sheet.specs.Fields.{rows_of}
 use Rattle.evaluation.specs.Routed.{Routed}
 use Rattle.evaluation.specs.Checks.{row_windowed, some_windowed, any_windowed}
 
@@ -20,9 +19,6 @@ pub record Looking (soft : Bool) (s : List ℕ) (depot : ℕ) (members : List �
 module _ (soft : Bool) (s : List ℕ) (depot : ℕ) (members : List ℕ) (i : ℕ) (g : Looking soft s depot members i) where
   abbrev row : ℕ
   row = get_or members i 0
-
-  pub in_range_lem : i < length members → row < rows_of s
-  in_range_lem h = g.routed.row i (omega arith)
 
   pub goes_on : i < length members → row_windowed soft s row ≡ false → Looking soft s depot members (i + 1)
   unfolding some_windowed

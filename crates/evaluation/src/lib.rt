@@ -111,6 +111,7 @@ pub fn priced_distance(figures: Schedule) -> f64
     figures.distance + figures.lateness_cost
 }
 
+// Not by `map_or`: a closure over a function with a contract tells of its result only by clauses of its own.
 fn cost(eval: Option<Schedule>) -> f64
     ensures { result ≡ cost_of eval }
 {

@@ -7,6 +7,8 @@ use sheet::Sheet;
 use sheet::customer::Gate;
 use sheet::vehicle::{Vehicle, VehicleBreak};
 
+// `at_home` says that the rest may be taken at the depot on return, and a sheet may say so only of a vehicle with a rest. It stands
+// beside the rest: the clocks take the rest alone, and who reads the flag has the rest or its clock in hand already.
 #[derive(Clone, Copy)]
 pub struct RouteLimits {
     pub max_distance: Option<f64>,

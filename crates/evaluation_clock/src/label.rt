@@ -78,12 +78,10 @@ fn leaving(label: Label, time: f64) -> Label
 fn late_by(label: Label, penalty: f64, late: f64) -> Label
     ensures { result ≡ late_by label penalty late }
 {
-    let rest = label.rest;
     Label {
-        time: label.time,
         lateness: label.lateness + late,
         lateness_cost: label.lateness_cost + penalty * late,
-        rest,
+        ..label
     }
 }
 
@@ -129,12 +127,7 @@ fn rested(label: Label, place: u16, start: f64) -> Label
     ensures { result ≡ rested_at label place start }
 {
     let rest = Some((place, start));
-    Label {
-        time: label.time,
-        lateness: label.lateness,
-        lateness_cost: label.lateness_cost,
-        rest,
-    }
+    Label { rest, ..label }
 }
 
 // One stop with the rest before it. It is a function of its own and not a case of `serve`: each then holds one visit, and is inlined.

@@ -10,7 +10,8 @@ pub fn violated(w: Window, arrival: f64) -> bool
     w.due < arrival
 }
 
-// How long an early vehicle waits. Added to the arrival it may come out other than `ready`.
+// How long an early vehicle waits. Added to the arrival it may come out other than `ready`. Here and in `lateness` not by `max`,
+// for the reason that stands at `label::later`.
 pub fn waiting(w: Window, arrival: f64) -> f64
     ensures { result ≡ waiting_of w arrival }
 {

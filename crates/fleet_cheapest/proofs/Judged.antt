@@ -1,22 +1,25 @@
 -- Places are judged as the limiter has it: the terms say that going alone costs without end, so no stop is too dear. Assumes nothing.
+use Rattle.std.specs.Prelude.{Option, Some, None, is_some}
 use mathlib.Core.Path.{◌≡◌, refl, sym, ap, ◌∙◌}
 use Prim.Native.Nat.{ℕ, zero, suc, ◌+◌, ◌≤◌, ◌<◌}
 use native.Mathlib.Omega.{arith}
-use mathlib.Core.Bool.{Bool, true, false, not, ◌&&◌, ◌||◌, cond, true≢false}
+use mathlib.Core.Bool.{Bool, true, false, not, ◌&&◌, ◌||◌, true≢false}
 use mathlib.Core.List.{List, [], ◌∷◌}
 use lib.Dec.{T, leb}
 use lib.ListN.{length, get_or}
 use lib.Ieee.{Float, inf, le}
-use borrow.Author.Tests.{lt-leb, le-leb, not-true, not-false}
+use borrow.Author.Tests.{lt-leb, le-leb}
 use Rattle.lists.specs.Laws.Every.{every_of}
 use Rattle.lists.specs.Moved.{inserted}
-use Rattle.numbers.specs.Laws.Range.{zero_upto}
 use Rattle.sheet.specs.Fields.{rows_of, vehicles_of}
 use Rattle.sheet.specs.Laws.Finite.{demand_bounded}
-use Rattle.sheet.specs.Values.{nought, demand_of, vehicle_of}
+use Rattle.sheet.specs.Values.{demand_of, vehicle_of}
 use Rattle.evaluation_clock.specs.Sums.{◌⊕◌, ◌⊖◌}
 use Rattle.evaluation.specs.Limits.{limits_at, is_unlimited}
 use Rattle.evaluation.specs.Routed.{Routed}
+use Rattle.evaluation.specs.Feasible.{priced_distance, route_eval, cost_of, effective_cost}
+use Rattle.evaluation.specs.Laws.Verdict.{allowed_feasible}
+use Rattle.evaluation_clock.specs.declared.clock.Schedule.{Schedule}
 use Rattle.constructive.specs.Load.{load_of}
 use Rattle.constructive.specs.Unchecked.{Windowless}
 use Rattle.constructive.specs.declared.terms.Terms.{Terms}
@@ -25,13 +28,13 @@ use Rattle.constructive.specs.Rounds.{passes}
 use Rattle.insertion.specs.Choice.{Choice}
 use Rattle.insertion.specs.Place.{judged, judge, better_place, try_places}
 use Rattle.insertion.specs.Laws.Judging.{hard_judge}
-use Rattle.insertion.specs.Trial.{Joinable, soft_cost, alone_cost, prices_of}
+use Rattle.insertion.specs.Trial.{Joinable, alone_cost, prices_of}
 use Rattle.insertion.specs.declared.place.Prices.{Prices}
 use Rattle.insertion.proofs.Trying.{routed}
 use Rattle.fleet.specs.Cheapest.{priced_of, judge_at, places_from, takes, in_round}
 use Rattle.fleet_cheapest.specs.declared.Windows.{Windows}
 use Rattle.fleet_cheapest.specs.Promises.{WindowsOf, terms_at}
-use Rattle.fleet_cheapest.proofs.Priced.{number_below, plus_endless, endless, alone_endless, added_below}
+use Rattle.fleet_cheapest.proofs.Priced.{alone_endless, added_below}
 
 -- where no check is asked
 unchecked : (any free : Bool) → (any || not free) ≡ false → (any ≡ false) × T free
@@ -68,18 +71,18 @@ module _ (s : List ℕ) (w : Windows) (v : ℕ) (route : List ℕ) (row : ℕ) (
 
   endless_alone : alone_cost s (terms_at s w v) row ≡ inf false
   unfolding terms_at
-  endless_alone = go w.soft
-    where
-      go : (b : Bool) → cond b (priced_of s v (row ∷ [])) nought ⊕ inf false ≡ inf false
-      go true = alone_endless s v own (row ∷ []) lone
-      go false = plus_endless 0 nought (zero_upto 0)
+  endless_alone = alone_endless s v own (row ∷ []) lone
 
   module _ (t : Terms) (told : t ≡ terms_at s w v) where
     pub handed : length route < 101 → Joinable s t route (row ∷ [])
     handed room = rw told (joinable room)
 
-    pub prices_so : (cost : Float) → cost ≡ soft_cost s t route → ◌≡◌ {A = Prices} (record { round = cost; alone = inf false }) (prices_of s t route row)
-    prices_so cost e = rw (e, told, endless_alone)
+    pub prices_so : t.soft ≡ true → (x : Option Schedule) → x ≡ route_eval s t.depot t.limits route → (figures : Schedule) → x ≡ Some figures → (cost : Float) → cost ≡ priced_distance figures
+        → ◌≡◌ {A = Option Prices} (Some (record { round = cost; alone = inf false })) (prices_of s t route row)
+    unfolding effective_cost cost_of
+    prices_so soft x e figures f cost g =
+        let endless : alone_cost s t row ≡ inf false = rw told endless_alone in
+        rw (soft, endless, ← e, f, g)
 
   -- ---- one place
   hard_so : (k : ℕ) → w.soft ≡ false → judge s (terms_at s w v) route row k ≡ judge_at s w.soft v route row k
@@ -117,14 +120,6 @@ module _ (s : List ℕ) (w : Windows) (v : ℕ) (route : List ℕ) (row : ℕ) (
   pub summed : (load demand : ℕ) → load ≡ load_of s route → demand ≡ demand_of s row → length route < 101 → load + demand ≤ 101000000
   summed load demand carried asked room = omega (arith, load_few s known.sheet route (every_of (λ (k : ℕ). k < rows_of s) 0 route round.row), demand_bounded s known.sheet row inside)
 
-  stands : le (inf false) (soft_cost s (terms_at s w v) route) ≡ not (not w.soft || passes s 0 v route)
-  unfolding terms_at
-  stands = go w.soft
-    where
-      go : (b : Bool) → le (inf false) (cond b (priced_of s v route) nought) ≡ not (not b || passes s 0 v route)
-      go true = endless s v own route round
-      go false = number_below 0 nought (zero_upto 0)
-
   module _ (t : Terms) (told : t ≡ terms_at s w v) (load demand : ℕ) (carried : load ≡ load_of s route) (asked : demand ≡ demand_of s row) (c : Choice) (i : ℕ) where
     abbrev into : Choice
     into = in_round s w.soft row c i (record { vehicle = v; stops = route })
@@ -137,25 +132,36 @@ module _ (s : List ℕ) (w : Windows) (v : ℕ) (route : List ℕ) (row : ℕ) (
     unfolding in_round takes
     over h = rw (lt-leb (load_of s route + demand_of s row) (vehicle_of s v).capacity (omega (arith, room_for)))
 
-    module _ (h : load + demand ≤ t.capacity) (cost : Float) (e : cost ≡ soft_cost s t route) where
+    soft_told : t.soft ≡ w.soft
+    unfolding terms_at
+    soft_told = ap (λ (x : Terms). x.soft) told
+
+    module _ (h : load + demand ≤ t.capacity) where
       within : leb (load_of s route + demand_of s row) (vehicle_of s v).capacity ≡ true
       within = le-leb (load_of s route + demand_of s row) (vehicle_of s v).capacity (omega (arith, room_for))
 
-      stood : le (inf false) cost ≡ not (not w.soft || passes s 0 v route)
-      stood = ap (le (inf false)) (e ∙ ap (λ (x : Terms). soft_cost s x route) told) ∙ stands
-
-      pub barred : le (inf false) cost ≡ true → c ≡ into
+      stands : length route < 101 → (not w.soft || passes s 0 v route) ≡ true → (x : Choice) → x ≡ try_places s t route i row c (suc (length route)) 0 → x ≡ into
       unfolding in_round takes
-      barred f = rw (within, not-true (not w.soft || passes s 0 v route) (sym stood ∙ f))
-
-      pub taken : length route < 101 → le (inf false) cost ≡ false → (x : Choice) → x ≡ try_places s t route i row c (suc (length route)) 0 → x ≡ into
-      unfolding in_round takes
-      taken room f x g =
-          let standing = not-false (not w.soft || passes s 0 v route) (sym stood ∙ f) in
+      stands room standing x g =
           g ∙ ap (λ (y : Terms). try_places s y route i row c (suc (length route)) 0) told ∙ places_so room (λ p. rw p at standing) i c (suc (length route)) 0 (omega arith) ∙ rw (within, standing)
 
-    -- where no check is asked, no window is soft
-    pub free : load + demand ≤ t.capacity → length route < 101 → t.soft ≡ false → (x : Choice) → x ≡ try_places s t route i row c (suc (length route)) 0 → x ≡ into
-    free h room hard x g =
-        let none : nought ≡ soft_cost s t route = rw hard in
-        taken h nought none room (number_below 0 nought (zero_upto 0)) x g
+      -- where no window is soft
+      pub free : length route < 101 → t.soft ≡ false → (x : Choice) → x ≡ try_places s t route i row c (suc (length route)) 0 → x ≡ into
+      free room hard = stands room (rw (← soft_told, hard))
+
+      -- where one is, the round is walked as it stands
+      module _ (soft : t.soft ≡ true) (x : Option Schedule) (e : x ≡ route_eval s t.depot t.limits route) where
+        walked : is_some x ≡ passes s 0 v route
+        unfolding terms_at
+        walked = ap is_some (e ∙ ap (λ (y : Terms). route_eval s y.depot y.limits route) told) ∙ allowed_feasible s 0 (limits_at s v) route
+
+        pub barred : x ≡ None → c ≡ into
+        unfolding in_round takes
+        barred f =
+            let out : passes s 0 v route ≡ false = sym walked ∙ ap is_some f in
+            rw (within, ← soft_told, soft, out)
+
+        pub taken : (figures : Schedule) → x ≡ Some figures → length route < 101 → (y : Choice) → y ≡ try_places s t route i row c (suc (length route)) 0 → y ≡ into
+        taken figures f room =
+            let passed : passes s 0 v route ≡ true = sym walked ∙ ap is_some f in
+            stands room (rw (← soft_told, soft, passed))

@@ -4,7 +4,7 @@ use mathlib.Core.Path.{◌≡◌, refl, sym, ap, ◌∙◌}
 use Prim.Native.Nat.{ℕ, suc, ◌+◌, ◌-◌, ◌*◌, ◌^◌, ◌<◌}
 use native.Mathlib.Nat.{le_trans, le_of_eq, mul_assoc, mul-le-mul_right, mul-pos, sub-le}
 use native.Mathlib.Omega.{arith}
-use mathlib.Core.Bool.{Bool, true, false, not, cond, true≢false}
+use mathlib.Core.Bool.{Bool, true, false, cond, true≢false}
 use mathlib.Core.List.{List}
 use lib.Dec.{ltb}
 use lib.Ieee.{Float, nan, inf, fin, binary64, prec, emax, low, up, down, odd, units, round, neg, sum, add, sub, lt, eq, le}
@@ -25,13 +25,13 @@ use Rattle.fleet.specs.Cheapest.{priced_of}
 use Rattle.evaluation_clock.specs.declared.clock.Schedule.{Schedule}
 
 -- ---- numbers and infinity
-pub number_below : (n : ℕ) (x : Float) → Upto n x → le (inf false) x ≡ false
+number_below : (n : ℕ) (x : Float) → Upto n x → le (inf false) x ≡ false
 unfolding le lt eq
 number_below n nan u = absurd u
 number_below n (inf s) u = absurd u
 number_below n (fin s m e) u = refl
 
-pub plus_endless : (n : ℕ) (x : Float) → Upto n x → x ⊕ inf false ≡ inf false
+plus_endless : (n : ℕ) (x : Float) → Upto n x → x ⊕ inf false ≡ inf false
 unfolding add
 plus_endless n nan u = absurd u
 plus_endless n (inf s) u = absurd u
@@ -75,11 +75,6 @@ difference_below n (fin false m e) (fin false k d) u v w = go (ltb (m * up e * d
         w)
 
 -- ---- a round that is walked
-endless_by : (x : Option Schedule) → EvalBounded x → le (inf false) (cost_of x) ≡ not (is_some x)
-unfolding cost_of le lt eq
-endless_by (Some k) u = number_below (2 ^ 68) (priced_distance k) (priced_bounded k u)
-endless_by None u = refl
-
 plus_by : (x : Option Schedule) → EvalBounded x → cost_of x ⊕ inf false ≡ inf false
 unfolding cost_of add
 plus_by (Some k) u = plus_endless (2 ^ 68) (priced_distance k) (priced_bounded k u)
@@ -97,10 +92,6 @@ module _ (s : List ℕ) (v : ℕ) (own : v < vehicles_of s) (route : List ℕ) (
 
   bounded : EvalBounded eval
   bounded = eval_bounded s 0 route ok (limits_at s v) (rw (limits_rest s v) (vehicle_bounded s ok.sheet v own).rest)
-
-  pub endless : le (inf false) (priced_of s v route) ≡ not (passes s 0 v route)
-  unfolding effective_cost
-  endless = endless_by eval bounded ∙ ap not (allowed_feasible s 0 (limits_at s v) route)
 
   pub alone_endless : priced_of s v route ⊕ inf false ≡ inf false
   unfolding effective_cost

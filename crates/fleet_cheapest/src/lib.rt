@@ -1,4 +1,5 @@
-// The cheapest insertion of the stops pending, over every round and place.
+// The cheapest insertion of the stops pending, over every round and place. Sheet, windows, tables and their n rounds go apart: the
+// limiter changes the tables between two calls, and would make a struct of them anew for each.
 #![tactic(auto)]
 
 ghost use Rattle.std.specs.Prelude.{◌≡◌, false, ◌+◌, ◌≤◌, ◌<◌, length};
@@ -19,7 +20,8 @@ use insertion::place::{Prices, Tried};
 use insertion::{choice, place, places, trial};
 use sheet::Sheet;
 
-// Whether some row has a window, and whether one has a window with a penalty.
+// Whether some row has a window, and whether one has a window with a penalty. Two flags for three cases: `any` is asked for the
+// terms alone, and `soft` goes into the definitions as a Bool, so that an enum would be compared at each.
 #[derive(Clone, Copy)]
 pub struct Windows {
     pub any: bool,
@@ -90,18 +92,19 @@ fn try_walks(
     if !terms.constrained {
         return places::try_free(sheet, terms, route, row, best, i);
     }
-    // With soft windows a round that is not allowed as it stands costs without end, and takes no stop.
-    let round = place::soft_cost(sheet, terms, route);
-    if f64::INFINITY <= round {
-        return best;
+    let mut prices = None;
+    if terms.soft {
+        // A round that is not allowed as it stands takes no stop; going alone costs without end, as in the terms.
+        let Some(figures) = evaluation::route_eval(sheet, route, terms.depot, terms.limits) else {
+            return best;
+        };
+        let round = evaluation::priced_distance(figures);
+        let alone = f64::INFINITY;
+        prices = Some(Prices { round, alone });
     }
     let end = route.len();
     trial::lay_out(trial, route);
     trial[end] = row;
-    let prices = Prices {
-        round,
-        alone: f64::INFINITY,
-    };
     let tried = Tried {
         choice: best,
         at: end,

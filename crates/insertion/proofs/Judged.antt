@@ -1,8 +1,8 @@
 -- One place judged: skipped, passed without a walk, or walked. Assumes nothing.
 use Rattle.std.specs.Prelude.{Option, Some, None, is_some}
-use mathlib.Core.Path.{◌≡◌, sym, ap, ◌∙◌}
+use mathlib.Core.Path.{◌≡◌, refl, sym, ap, ◌∙◌}
 use Prim.Native.Nat.{ℕ}
-use mathlib.Core.Bool.{Bool, true, false, not}
+use mathlib.Core.Bool.{Bool, true, false, not, cond}
 use mathlib.Core.List.{List, [], ◌∷◌}
 use lib.Ieee.{Float, le}
 use lib.Ieee.Bits.{is_true}
@@ -44,9 +44,14 @@ free_passes s t route row k ok e =
     sym (is_true _ (free_feasible s t.depot t.limits (free.free e) (inserted k row route) (inserted_every k row route (Windowless s) (free.unrouted e).0 (free.round e))))
 
 -- ---- with soft windows
-pub soft_told : (s : List ℕ) (t : Terms) (route : List ℕ) (row k : ℕ) (p : Prices) (trial : List ℕ) → t.soft ≡ true → p ≡ prices_of s t route row → trial ≡ inserted k row route → judge_trial s t p trial ≡ judge s t route row k
+-- prices tell that the soft rules are asked
+priced : (b : Bool) (p q : Prices) → Some p ≡ cond b (Some q) None → (b ≡ true) × (p ≡ q)
+priced true p q e = (refl, cc)
+priced false p q e = (cc, cc)
+
+pub soft_told : (s : List ℕ) (t : Terms) (route : List ℕ) (row k : ℕ) (p : Prices) (trial : List ℕ) → Some p ≡ prices_of s t route row → trial ≡ inserted k row route → judge_trial s t p trial ≡ judge s t route row k
 unfolding judge judge_trial
-soft_told s t route row k p trial e f g = rw (f, g, e)
+soft_told s t route row k p trial e g = let soft = priced t.soft p _ e in rw (soft.1, g, soft.0)
 
 module _ (s : List ℕ) (t : Terms) (p : Prices) (trial : List ℕ) (best : Choice) (j k : ℕ) (x : Option Schedule) (e : x ≡ route_eval s t.depot t.limits trial) where
   pub not_allowed_lem : x ≡ None → best ≡ better_place best j k (judge_trial s t p trial)

@@ -1,10 +1,9 @@
 -- What the code that judges places asks and keeps: the round on trial, the stops that may join it, and the prices of the soft rules.
-use Rattle.std.specs.Prelude.{◌≡◌, ℕ, ◌≤◌, ◌<◌, false, not, ◌&&◌, cond, List, [], ◌∷◌, T, length, Float}
+use Rattle.std.specs.Prelude.{◌≡◌, ℕ, ◌≤◌, ◌<◌, false, not, ◌&&◌, cond, List, [], ◌∷◌, T, length, Float, Option, Some, None}
 use Rattle.std.specs.Float.Ieee.{le}
 use Rattle.sheet.specs.Fields.{most_rows}
 use Rattle.lists.specs.Every.{Every}
 use Rattle.lists.specs.Moved.{inserted}
-use Rattle.sheet.specs.Values.{nought}
 use Rattle.evaluation_clock.specs.Sums.{◌⊕◌, ◌⊖◌}
 use Rattle.evaluation.specs.Limits.{is_unlimited}
 use Rattle.evaluation.specs.Routed.{Routed}
@@ -36,16 +35,16 @@ pub record Joinable (s : List ℕ) (t : Terms) (route left : List ℕ) : Type 0 
 
 -- ---- the soft rules
 -- what a round costs, where that is asked
-abbrev pub soft_cost : List ℕ → Terms → List ℕ → Float
-soft_cost s t route = cond t.soft (cost_in s t route) nought
+abbrev pub soft_cost : List ℕ → Terms → List ℕ → Option Float
+soft_cost s t route = cond t.soft (Some (cost_in s t route)) None
 
 -- "below going alone plus the fixed cost"
 abbrev pub alone_cost : List ℕ → Terms → ℕ → Float
-alone_cost s t row = soft_cost s t (row ∷ []) ⊕ t.fixed
+alone_cost s t row = cost_in s t (row ∷ []) ⊕ t.fixed
 
 -- what one stop is judged by, at every place
-abbrev pub prices_of : List ℕ → Terms → List ℕ → ℕ → Prices
-prices_of s t route row = record { round = soft_cost s t route; alone = alone_cost s t row }
+abbrev pub prices_of : List ℕ → Terms → List ℕ → ℕ → Option Prices
+prices_of s t route row = cond t.soft (Some (record { round = cost_in s t route; alone = alone_cost s t row })) None
 
 -- the round on trial, judged as it stands
 abbrev pub added_by : List ℕ → Terms → Prices → List ℕ → Float

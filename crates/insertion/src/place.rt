@@ -57,13 +57,14 @@ pub fn detour(sheet: &Sheet, depot: usize, route: &[u16], row: usize, k: usize) 
 }
 
 // What a round costs, which only the soft rules ask.
-pub fn soft_cost(sheet: &Sheet, terms: Terms, route: &[u16]) -> f64
+pub fn soft_cost(sheet: &Sheet, terms: Terms, route: &[u16]) -> Option<f64>
     requires { Routed sheet.now terms.depot route.now }
     ensures { result ≡ soft_cost sheet.now terms route.now }
 {
     if !terms.soft {
-        return 0.0;
+        return None;
     }
     let limits = terms.limits;
-    evaluation::effective_cost(sheet, route, terms.depot, limits)
+    let cost = evaluation::effective_cost(sheet, route, terms.depot, limits);
+    Some(cost)
 }

@@ -1,5 +1,7 @@
 // The places of one round for one stop. Insertion and the limiter each have an instance of their own, by how they walk the
 // rounds on trial: behind one function for both, which is not inlined, terms and choice go through memory for every round.
+// Sheet, terms, round, stop and its place j go apart: either caller would make a struct of them anew for each stop of each round,
+// its clauses would name every field, and `weigh` knows neither round nor stop.
 ghost use Rattle.std.specs.Prelude.{◌≡◌, false, [], ◌∷◌, suc, ◌≤◌, length};
 ghost use Rattle.evaluation.specs.Routed.{Routed};
 ghost use Rattle.insertion.specs.Place.{judge, better_place, try_places};
@@ -116,7 +118,7 @@ fn try_hard<W: Walker>(
 fn try_place<W: Walker>(
     sheet: &Sheet,
     terms: Terms,
-    prices: Prices,
+    prices: Option<Prices>,
     route: &[u16],
     row: u16,
     trial: &mut [u16],
@@ -132,9 +134,9 @@ fn try_place<W: Walker>(
     ensures trial_2 { Trial route.now row result.tried.at trial.new }
     ensures knows_2 { W.knows sheet.now terms.depot terms.limits route.now result.walk × (W.reach result.walk ≤ k) }
 {
-    if !terms.soft {
+    let Some(prices) = prices else {
         return try_hard(sheet, terms, route, row, trial, walked, j, k);
-    }
+    };
     let tried = walked.tried;
     let best = tried.choice;
     let walk = walked.walk;
@@ -160,7 +162,7 @@ fn rebuilt<W: Walker>(walked: Walked<W>) -> Walked<W>
 pub fn try_places<W: Walker>(
     sheet: &Sheet,
     terms: Terms,
-    prices: Prices,
+    prices: Option<Prices>,
     route: &[u16],
     row: u16,
     trial: &mut [u16],

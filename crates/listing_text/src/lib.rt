@@ -32,6 +32,7 @@ fn put_chain(out: &mut [u8], at: usize, sheet: &[u8], plan: &[u8], first: u16) -
     let mut end = at;
     let mut row = first;
     let mut links = sheet::rows(sheet);
+    // A chain is no slice to walk: where it goes on is told by the row's record. `links` is how many may follow.
     while row != 0 {
         end = lines::put_stop_line(out, end, sheet, plan, row);
         if links == 0 {
@@ -52,7 +53,7 @@ fn put_round(out: &mut [u8], at: usize, sheet: &[u8], plan: &[u8], k: usize) -> 
     ensures { Put out.old out.new at (round_text plan.now (rows_of sheet.now) k (chain_of sheet.now plan.now (first_stop_at plan.now k))) result }
 {
     let end = lines::put_round_line(out, at, plan, k);
-    let first = wire::u16_at(plan, 16 + 56 * k + 8);
+    let first = wire::u16_at(plan, plan::round_place(k) + 8);
     put_chain(out, end, sheet, plan, first)
 }
 

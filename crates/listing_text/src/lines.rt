@@ -51,7 +51,7 @@ pub fn put_round_line(out: &mut [u8], at: usize, plan: &[u8], k: usize) -> usize
     requires text_room { TextRoom out.old at (round_line plan.now k) }
     ensures { Put out.old out.new at (round_line plan.now k) result }
 {
-    let place = 16 + 56 * k;
+    let place = plan::round_place(k);
     let id = put_field(out, at, b"round ", wire::u32_at(plan, place));
     let first = put_field(out, id, b" first ", wire::u16_at(plan, place + 8) as u32);
     let load = put_field(out, first, b" load ", wire::u32_at(plan, place + 4));

@@ -1,9 +1,10 @@
 -- A depot's vehicles in their table, and what each method makes with them. Assumes nothing.
 use mathlib.Core.Path.{◌≡◌, refl, sym, ap, ◌∙◌, subst}
-use Prim.Native.Nat.{ℕ, zero, suc, ◌+◌, ◌-◌, ◌≤◌, ◌<◌}
+use Prim.Native.Nat.{ℕ, ◌+◌, ◌-◌, ◌≤◌, ◌<◌}
 use native.Mathlib.Nat.{add-zero}
 use native.Mathlib.Omega.{arith}
 use mathlib.Core.List.{List, [], ◌∷◌}
+use mathlib.Core.Logic.{◌⊎◌, inl, inr}
 use lib.Dec.{eqb}
 use lib.ListN.{length, get_or, take, replicate, length-replicate}
 use lib.Seq.{get_or-take}
@@ -46,23 +47,17 @@ none_of : (s : List ℕ) (d : ℕ) (members fleet : List ℕ) → length fleet �
 none_of s d members [] e = refl
 none_of s d members (v ∷ fleet) e = absurd (omega arith)
 
--- ---- no two methods have one number
-abbrev method_at : ℕ → Method
-method_at zero = Savings
-method_at (suc zero) = Insertion
-method_at (suc (suc zero)) = NearestNeighbor
-method_at (suc (suc (suc zero))) = NearestNeighborTw
-method_at (suc (suc (suc (suc n)))) = Sweep
+-- ---- a method that uses the first vehicle alone is neither nearest neighbour
+module _ {m : Method} where
+  pub not_nearest : (m ≡ Savings) ⊎ (m ≡ Insertion) ⊎ (m ≡ Sweep) → code_of m ≡ 2 → ⊥
+  not_nearest (inl e) q = omega (arith, sym (ap code_of e) ∙ q)
+  not_nearest (inr (inl e)) q = omega (arith, sym (ap code_of e) ∙ q)
+  not_nearest (inr (inr e)) q = omega (arith, sym (ap code_of e) ∙ q)
 
-method_back : (m : Method) → method_at (code_of m) ≡ m
-method_back Savings = refl
-method_back Insertion = refl
-method_back NearestNeighbor = refl
-method_back NearestNeighborTw = refl
-method_back Sweep = refl
-
-pub another : {n : ℕ} (m k : Method) → code_of m ≡ n → (m ≡ k → ⊥) → n ≡ code_of k → ⊥
-another m k e h f = h (sym (method_back m) ∙ ap method_at (e ∙ f) ∙ method_back k)
+  pub not_window : (m ≡ Savings) ⊎ (m ≡ Insertion) ⊎ (m ≡ Sweep) → code_of m ≡ 3 → ⊥
+  not_window (inl e) q = omega (arith, sym (ap code_of e) ∙ q)
+  not_window (inr (inl e)) q = omega (arith, sym (ap code_of e) ∙ q)
+  not_window (inr (inr e)) q = omega (arith, sym (ap code_of e) ∙ q)
 
 -- ---- one vehicle, by the method
 module _ (s : List ℕ) (d : ℕ) (members : List ℕ) (v : ℕ) where
@@ -74,9 +69,14 @@ module _ (s : List ℕ) (d : ℕ) (members : List ℕ) (v : ℕ) where
   unfolding with_vehicle
   insertion_so e = rw (ne_eqb (method_of s) 0 (λ q. omega (arith, e, q)), eq-eqb (method_of s) 1 e)
 
-  pub sweep_so : (method_of s ≡ 0 → ⊥) → (method_of s ≡ 1 → ⊥) → with_vehicle s d members v ≡ sweep s d v members
+  others_so : 2 ≤ method_of s → with_vehicle s d members v ≡ sweep s d v members
   unfolding with_vehicle
-  sweep_so g h = rw (ne_eqb (method_of s) 0 g, ne_eqb (method_of s) 1 h)
+  others_so h = rw (ne_eqb (method_of s) 0 (λ q. omega (arith, h, q)), ne_eqb (method_of s) 1 (λ q. omega (arith, h, q)))
+
+  pub sweep_so : {m : Method} → code_of m ≡ method_of s → (m ≡ NearestNeighbor) ⊎ (m ≡ NearestNeighborTw) ⊎ (m ≡ Sweep) → with_vehicle s d members v ≡ sweep s d v members
+  sweep_so told (inl e) = others_so (omega (arith, told, ap code_of e))
+  sweep_so told (inr (inl e)) = others_so (omega (arith, told, ap code_of e))
+  sweep_so told (inr (inr e)) = others_so (omega (arith, told, ap code_of e))
 
 -- ---- their table
 module _ {s : List ℕ} {depot : ℕ} {stops ends vehicles : List ℕ} {f : Filled} {total : ℕ} (ready : Ready s depot stops ends vehicles f total)
@@ -100,6 +100,9 @@ module _ {s : List ℕ} {depot : ℕ} {stops ends vehicles : List ℕ} {f : Fill
 
   pub first_known : (n ≡ 0 → ⊥) → get_or fleet 0 0 < vehicles_of s
   first_known some = rw (front some) (fleet_at s depot 0 (omega (arith, some, counted)))
+
+  pub first_taken : (n ≡ 0 → ⊥) → get_or (take (n - 0) fleet) 0 0 < vehicles_of s
+  first_taken some = rw hers (fleet_at s depot 0 (omega (arith, some, counted)))
 
   -- ---- the methods
   abbrev members : List ℕ
@@ -144,3 +147,6 @@ module _ {s : List ℕ} {depot : ℕ} {stops ends vehicles : List ℕ} {f : Fill
 
       pub with_some : (n ≡ 0 → ⊥) → construct_at s depot members ≡ with_vehicle s depot members (get_or fleet 0 0)
       with_some some = first ∙ first_of s depot members (fleet_of s depot) (λ e. some (counted ∙ e)) ∙ ap (with_vehicle s depot members) (sym (front some))
+
+      pub with_taken : (n ≡ 0 → ⊥) → construct_at s depot members ≡ with_vehicle s depot members (get_or (take (n - 0) fleet) 0 0)
+      with_taken some = first ∙ first_of s depot members (fleet_of s depot) (λ e. some (counted ∙ e)) ∙ ap (λ (l : List ℕ). with_vehicle s depot members (get_or l 0 0)) (sym hers)

@@ -61,7 +61,10 @@ fn with_vehicle<const N: usize>(
         Method::Insertion => {
             solomon_i1::solomon_i1(sheet, depot, vehicle, tables, filled, total)
         }
-        _ => sweep::sweep(sheet, depot, vehicle, tables, filled, total),
+        // The nearest neighbours take the whole fleet, and come here by no caller.
+        Method::NearestNeighbor | Method::NearestNeighborTw | Method::Sweep => {
+            sweep::sweep(sheet, depot, vehicle, tables, filled, total)
+        }
     }
 }
 
@@ -79,28 +82,23 @@ pub fn construct<const N: usize>(
     ensures value { result ≡ filled_by filled (construct_at sheet.now depot (part tables.old.stops filled.routed total)).rounds }
     ensures stored { Stored tables.old.stops tables.old.ends tables.old.vehicles filled (construct_at sheet.now depot (part tables.old.stops filled.routed total)) tables.new.stops tables.new.ends tables.new.vehicles }
 {
-    let mut fleet = [0u16; sheet::MOST_VEHICLES];
-    let n = members::fleet_of(sheet, depot, &mut fleet);
+    let mut table = [0u16; sheet::MOST_VEHICLES];
+    let n = members::fleet_of(sheet, depot, &mut table);
+    let fleet = &table[0..n];
     let method = sheet.method();
     match method {
-        Method::NearestNeighbor => nearest_neighbor::nearest_neighbor(
-            sheet,
-            depot,
-            &fleet[0..n],
-            tables,
-            filled,
-            total,
-        ),
-        Method::NearestNeighborTw => nearest_neighbor::nearest_neighbor_tw(
-            sheet,
-            depot,
-            &fleet[0..n],
-            tables,
-            filled,
-            total,
-        ),
-        _ if n == 0 => filled,
-        _ => with_vehicle(sheet, depot, fleet[0], tables, filled, total),
+        Method::NearestNeighbor => {
+            nearest_neighbor::nearest_neighbor(sheet, depot, fleet, tables, filled, total)
+        }
+        Method::NearestNeighborTw => {
+            nearest_neighbor::nearest_neighbor_tw(sheet, depot, fleet, tables, filled, total)
+        }
+        Method::Savings | Method::Insertion | Method::Sweep => {
+            if n == 0 {
+                return filled;
+            }
+            with_vehicle(sheet, depot, fleet[0], tables, filled, total)
+        }
     }
 }
 

@@ -25,7 +25,8 @@ fn is_sooner(sheet: &Sheet, stop: usize, d: usize, e: usize) -> bool
     here < there || here == there && d < e
 }
 
-// Whether depot d is asked: it has a vehicle, and is no nearer than `after`, if any.
+// Whether depot d is asked: it has a vehicle, and is no nearer than `after`, if any. Here and below `is_none_or` was tried: its
+// closure over a function with a contract tells nothing of its result.
 #[tactic(auto, unfolding(crate::specs::ByDepot::asked_after))]
 fn is_asked(sheet: &Sheet, stop: usize, after: Option<usize>, d: usize) -> bool
     requires row { stop < rows_of sheet.now }
@@ -61,7 +62,8 @@ pub fn next_depot(sheet: &Sheet, stop: usize, after: Option<usize>) -> Option<us
 {
     let depots = sheet.depots();
     let mut best = None;
-    // Over numbers: a depot is a row of the sheet, and no slice stands behind it.
+    // Over numbers: a depot is a row of the sheet, and no slice stands behind it. `min_by` would
+    // want an `Ordering`, which `is_sooner` would have to be made into.
     for d in 0..depots {
         if wins(sheet, stop, d, best) && is_asked(sheet, stop, after, d) {
             best = Some(d);

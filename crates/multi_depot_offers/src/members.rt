@@ -9,7 +9,8 @@ ghost use Rattle.multi_depot_offers.specs.Promises.{aside_by_marks};
 use constructive::members;
 use sheet::Sheet;
 
-// The vehicles of a depot, by their index; answers how many.
+// The vehicles of a depot, by their index; answers how many. Not that part of the table: a clause could not say of a table that is
+// lent to the answer what the rest of it is after the call.
 #[tactic(auto, unfolding(sheet::specs::Fleet::fleet_of))]
 pub fn fleet_of(sheet: &Sheet, depot: usize, fleet: &mut [u16]) -> usize
     requires { 16 ≤ length fleet.old }

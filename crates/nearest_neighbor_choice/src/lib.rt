@@ -6,3 +6,4 @@ pub mod nearest;
 pub mod nn_tw;
 pub mod partial;
 pub mod rule;
+pub mod terms;

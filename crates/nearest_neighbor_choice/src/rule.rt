@@ -8,9 +8,9 @@ ghost use Rattle.nearest_neighbor_choice.specs.Partial.{PartialRoute};
 
 use crate::choice::StopChoice;
 use crate::partial::Partial;
-use evaluation::limits::RouteLimits;
+use crate::terms::VehicleTerms;
 use sheet::Sheet;
-use sheet::vehicle::{Vehicle, VehicleBreak};
+use sheet::vehicle::VehicleBreak;
 
 // Either nearest neighbour.
 pub trait Rule: Copy {
@@ -25,17 +25,15 @@ pub trait Rule: Copy {
     fn nearer(
         self,
         sheet: &Sheet,
-        depot: usize,
-        vehicle: Vehicle,
-        limits: RouteLimits,
+        terms: VehicleTerms,
         partial: Partial,
         best: StopChoice,
         j: usize,
         row: u16,
     ) -> StopChoice
         requires partial_route { PartialRoute sheet.now partial }
-        requires row_bound { (row < rows_of sheet.now) × (depot < rows_of sheet.now) }
-        ensures { result ≡ better_stop best j (offer_by sheet.now depot (which self) vehicle limits partial row) };
+        requires row_bound { (row < rows_of sheet.now) × (terms.depot < rows_of sheet.now) }
+        ensures { result ≡ better_stop best j (offer_by sheet.now terms.depot (which self) terms.vehicle terms.limits partial row) };
 
     // The clock after the stop.
     fn clock_at(self, sheet: &Sheet, partial: Partial, row: usize) -> f64
@@ -48,19 +46,17 @@ pub trait Rule: Copy {
 pub fn nearest<R: Rule>(
     rule: R,
     sheet: &Sheet,
-    depot: usize,
-    vehicle: Vehicle,
-    limits: RouteLimits,
+    terms: VehicleTerms,
     partial: Partial,
     left: &[u16],
 ) -> StopChoice
     requires partial_route { PartialRoute sheet.now partial }
-    requires routed { Routed sheet.now depot left.now }
-    ensures { result ≡ choose (offer_by sheet.now depot (R.which rule) vehicle limits partial) None 0 left.now }
+    requires routed { Routed sheet.now terms.depot left.now }
+    ensures { result ≡ choose (offer_by sheet.now terms.depot (R.which rule) terms.vehicle terms.limits partial) None 0 left.now }
 {
     let mut best = None;
     for (j, &row) in left.iter().enumerate() {
-        best = rule.nearer(sheet, depot, vehicle, limits, partial, best, j, row);
+        best = rule.nearer(sheet, terms, partial, best, j, row);
     }
     best
 }

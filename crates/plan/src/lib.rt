@@ -1,7 +1,7 @@
 // The plan's bytes, written from an outcome's tables.
 #![tactic(auto)]
 
-ghost use Rattle.std.specs.Prelude.{◌≡◌, ◌+◌, ◌*◌, ◌≤◌, ◌<◌, length, drop};
+ghost use Rattle.std.specs.Prelude.{◌≡◌, ◌+◌, ◌*◌, ◌≤◌, ◌<◌, ◌^◌, length, drop};
 ghost use Rattle.wire.specs.Bytes.{write};
 ghost use Rattle.sheet.specs.Fields.{rows_of, plan_length, most_rows};
 ghost use Rattle.sheet.specs.Values.{vehicle_of};
@@ -11,7 +11,7 @@ ghost use Rattle.evaluator.specs.Driven.{Driven};
 ghost use Rattle.evaluator.specs.Record.{begin_of, visited_of, progress_of, build_route, price_start};
 ghost use Rattle.constructive.specs.Outcome.{rounds_in, start_in, outcome_in};
 ghost use Rattle.constructive.specs.Tables.{RoundOf, Tables, RoundTables};
-ghost use Rattle.plan.specs.Plan.{first_of, row_record_at, visit_bytes, aside_bytes, with_visits, with_round, with_rounds, with_aside, price_after, price_of, priced_cost, plan_of};
+ghost use Rattle.plan.specs.Plan.{first_of, round_record_at, row_record_at, visit_bytes, aside_bytes, with_visits, with_round, with_rounds, with_aside, price_after, price_of, priced_cost, plan_of};
 ghost use Rattle.plan.specs.Writable.{VisitWritable, VisitsWritable, RoundWritable, Writable, Chained};
 
 use constructive::tables::RouteTables;
@@ -28,6 +28,14 @@ fn link(chain: &[u16], i: usize) -> u16
     ensures { result ≡ first_of (drop i chain.now) }
 {
     if i < chain.len() { chain[i] } else { 0 }
+}
+
+// Where the record of the round counted k from 0 stands in a plan.
+pub fn round_place(k: usize) -> usize
+    requires { round_record_at k < 2 ^ 64 }
+    ensures { result ≡ round_record_at k }
+{
+    16 + 56 * k
 }
 
 // Where the record of a row stands in the plan of a sheet of so many rows.
@@ -99,7 +107,7 @@ fn write_round(
     let placed = evaluator::place_rest(sheet, route, depot, limits);
     let progress = write_visits(plan, sheet, placed, route, depot);
     let figures = progress.record(sheet, depot, placed);
-    records::put_round(plan, 16 + 56 * k, vehicle.id, link(route, 0), figures);
+    records::put_round(plan, round_place(k), vehicle.id, link(route, 0), figures);
     figures
 }
 

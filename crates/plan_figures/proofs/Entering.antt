@@ -1,13 +1,13 @@
 -- A plan let in at the door, with its rounds' figures. Assumes nothing.
 use Prim.Native.Nat.{ℕ, ◌≤◌}
 use native.Mathlib.Omega.{arith}
-use mathlib.Core.Path.{◌≡◌}
+use mathlib.Core.Path.{◌≡◌, ◌∙◌}
 use mathlib.Core.Bool.{Bool}
-use mathlib.Core.List.{List, ◌++◌}
+use mathlib.Core.List.{List}
 use Rattle.std.specs.Prelude.{map}
 use Rattle.std.proofs.lemmas.List.{length-map}
 use lib.ListN.{length, take}
-use lib.Seq.{take_at, length-take-le}
+use lib.Seq.{length-take-le}
 use Rattle.sheet.specs.Fields.{most_rows}
 use Rattle.constructive.specs.Outcome.{rounds_in, outcome_in}
 use Rattle.constructive.specs.Laws.Stored.{length_rounds}
@@ -22,15 +22,15 @@ module _ (s plan : List ℕ) (room one : Bool) (stops ends vehicles : List ℕ) 
   pub placed : (table : List RouteFigures) → most_rows ≤ length table → length (take n table) ≡ n
   placed table h = length-take-le n table (omega (arith, e.read.tables.few, e.sheet.sized.rows))
 
-  pub walked : (front rest : List RouteFigures) → front ≡ map (route_figures s) (rounds_in stops ends vehicles n 0 0) → Walked s plan room one (front ++ rest) n
+  pub walked : (figures : List RouteFigures) → figures ≡ map (route_figures s) (rounds_in stops ends vehicles n 0 0) → Walked s plan room one figures
   unfolding outcome_in
-  walked front rest f =
-      let l : length front ≡ n = rw (f, length-map) (length_rounds stops ends vehicles n 0 0) in
+  walked figures f =
+      let l : length figures ≡ n = rw (f, length-map) (length_rounds stops ends vehicles n 0 0) in
       record {
         free = e.free;
         sheet = e.sheet;
         right = e.read.right;
-        rounds = e.read.rounds;
+        rounds = l ∙ e.read.rounds;
         driven = rw (← e.read.outcome) (rounds_of_lem s stops ends vehicles n (stop_count s) e.read.tables);
-        figures = rw (take_at front rest n l, ← e.read.outcome) f;
+        figures = rw (← e.read.outcome) f;
       }

@@ -1,9 +1,7 @@
 -- docs/SCOPE.md#the-haulage-tariff. "figures walked anew from the chains (here and below, as `build_route` does)": those of every round of a plan, each with its own vehicle and
 -- depot. What the step leaves that reads a plan and walks its rounds.
-use Rattle.std.specs.Prelude.{◌≡◌, ℕ, Bool, true, List, map, take, Result, Ok, Err}
+use Rattle.std.specs.Prelude.{◌≡◌, ℕ, Bool, true, List, map, length}
 use Rattle.sheet.specs.Accepted.{Accepted}
-use Rattle.sheet.specs.declared.refusal.Refusal.{Refusal}
-use Rattle.sheet.specs.Told.{number_of}
 use Rattle.constructive.specs.Outcome.{Round}
 use Rattle.constructive.specs.Tables.{RoundsOf}
 use Rattle.plan.specs.Stated.{built_record}
@@ -15,16 +13,11 @@ use Rattle.plan_figures.specs.declared.RouteFigures.{RouteFigures}
 abbrev pub route_figures : List ℕ → Round → RouteFigures
 route_figures s r = record { distance = (built_record s r).distance; duration = (built_record s r).duration }
 
--- an accepted sheet with a plan that is right, and the figures of its n rounds at the front of a table
-pub record Walked (s plan : List ℕ) (room one : Bool) (table : List RouteFigures) (n : ℕ) : Type 0 where
+-- an accepted sheet with a plan that is right, and the figures of its rounds
+pub record Walked (s plan : List ℕ) (room one : Bool) (walked : List RouteFigures) : Type 0 where
   pub free : door_refusal s plan room one ≡ 0
   pub sheet : Accepted s
   pub right : plan_right s plan ≡ true
-  pub rounds : n ≡ rounds_at plan
+  pub rounds : length walked ≡ rounds_at plan
   pub driven : RoundsOf s (read_plan s plan).rounds
-  pub figures : take n table ≡ map (route_figures s) (read_plan s plan).rounds
-
--- a refusal, or the figures in the table
-abbrev pub WalkedAs : List ℕ → List ℕ → Bool → Bool → Result ℕ Refusal → List RouteFigures → Type 0
-WalkedAs s plan room one (Err refusal) table = number_of refusal ≡ door_refusal s plan room one
-WalkedAs s plan room one (Ok n) table = Walked s plan room one table n
+  pub figures : walked ≡ map (route_figures s) (read_plan s plan).rounds

@@ -1,11 +1,13 @@
 // A plan read, and each of its rounds walked anew to its figures.
 #![tactic(auto)]
 
-ghost use Rattle.std.specs.Prelude.{◌≡◌, ◌≤◌, length, map};
+ghost use Rattle.std.specs.Prelude.{◌≡◌, ◌≤◌, length, map, IfOk};
 ghost use Rattle.sheet.specs.Fields.{most_rows};
+ghost use Rattle.sheet.specs.Told.{told};
 ghost use Rattle.constructive.specs.Outcome.{rounds_in};
 ghost use Rattle.constructive.specs.Tables.{RoundOf, RoundTables};
-ghost use Rattle.plan_figures.specs.Walked.{route_figures, WalkedAs};
+ghost use Rattle.plan_door.specs.Door.{door_refusal};
+ghost use Rattle.plan_figures.specs.Walked.{route_figures, Walked};
 
 use constructive::tables::RouteTables;
 use evaluation::limits;
@@ -44,19 +46,21 @@ fn walk_rounds<const N: usize>(sheet: &Sheet, tables: &RouteTables<N>, figures: 
     }
 }
 
-// The plan's refusal, or its rounds walked. The tables stand here.
-pub fn walk_plan(
+// The plan's refusal, or its rounds walked: as much of `figures` as they fill. The tables stand here.
+pub fn walk_plan<'a>(
     sheet: &[u8],
     plan: &[u8],
     room: bool,
     one: bool,
-    figures: &mut [RouteFigures],
-) -> Result<usize, Refusal>
+    figures: &'a mut [RouteFigures],
+) -> Result<&'a [RouteFigures], Refusal>
     requires { most_rows ≤ length figures.old }
-    ensures { WalkedAs sheet.now plan.now room one result figures.new }
+    ensures told { told result ≡ door_refusal sheet.now plan.now room one }
+    ensures walked { IfOk result (λ walked. Walked sheet.now plan.now room one walked.now) }
 {
     let mut tables = RouteTables::<{ sheet::MOST_ROWS }>::new();
     let rounds = plan_door::enter(sheet, plan, room, one, &mut tables)?;
-    walk_rounds(&Sheet::new(sheet), &tables, &mut figures[..rounds]);
-    Ok(rounds)
+    let walked = &mut figures[..rounds];
+    walk_rounds(&Sheet::new(sheet), &tables, walked);
+    Ok(walked)
 }

@@ -1,13 +1,13 @@
 -- The loop that marks the rows met: a row's mark is how often it was met. Assumes nothing.
 use mathlib.Core.Path.{◌≡◌, refl, sym, ap, ◌∙◌}
-use Prim.Native.Nat.{ℕ, zero, suc, ◌+◌, ◌≤◌, ◌<◌}
+use Prim.Native.Nat.{ℕ, zero, suc, ◌+◌, ◌<◌}
 use native.Mathlib.Numerals.{add-one}
 use native.Mathlib.Omega.{arith}
 use mathlib.Core.Bool.{Bool, true, false}
 use mathlib.Core.List.{List, [], ◌∷◌}
 use lib.Dec.{eqb}
 use lib.ListN.{length, get_or, take, drop, set, replicate, length-replicate, length-set}
-use lib.Seq.{split_at, take-suc, take_all, get_or-set_same, get_or-set_other}
+use lib.Seq.{split_at, take-suc, get_or-set_same, get_or-set_other}
 use borrow.Author.Tests.{eq-eqb, eqb-true, eqb-false}
 use Rattle.lists.specs.Count.{one, count}
 use Rattle.lists.specs.Laws.Once.{count_append}
@@ -56,10 +56,3 @@ module _ (rows : List ℕ) where
             let m = g.marks r in
             let o : one (get_or (set met (get_or rows i 0) true) r false) ≡ one (get_or met r false) = ap one (get_or-set_other met (get_or rows i 0) r true false (eqb-false r (get_or rows i 0) q)) in
             omega arith
-
-    mark_most : (b : Bool) → one b ≤ 1
-    mark_most true = omega arith
-    mark_most false = omega arith
-
-    pub ends : length rows ≤ i → Single rows
-    ends h r = let m = g.marks r in let l = mark_most (get_or met r false) in let e : count r (take i rows) ≡ count r rows = ap (count r) (take_all i rows h) in omega arith

@@ -18,10 +18,7 @@ fn id_at(sheet: &Sheet, index: usize) -> u32
     requires { index < vehicles_of sheet.now }
     ensures { result ≡ id_field sheet.now (vehicle_at sheet.now index) }
 {
-    wire::u32_at(
-        sheet.bytes(),
-        sheet::HEADER_SIZE + sheet::ROW_SIZE * sheet.rows() + sheet::VEHICLE_SIZE * index,
-    )
+    wire::u32_at(sheet.bytes(), sheet::vehicle_place(sheet.rows(), index))
 }
 
 // The vehicle with an id.
@@ -50,6 +47,7 @@ fn follow(sheet: &Sheet, plan: &[u8], first: usize, stops: &mut [u16], from: usi
     let depots = sheet.depots();
     let mut link = first;
     let mut at = from;
+    // A chain is no slice to walk: where it goes on is told by the link that is read.
     while link != 0 {
         if link < depots {
             return None;
@@ -81,8 +79,9 @@ fn read_round<const N: usize>(
     ensures rounds_as { RoundsAs sheet.now plan.now (k + 1) result tables.new.stops tables.new.ends tables.new.vehicles }
     ensures as_long { AsLong tables.old.stops tables.old.ends tables.old.vehicles tables.new.stops tables.new.ends tables.new.vehicles }
 {
-    let index = index_of(sheet, wire::u32_at(plan, 16 + 56 * k))?;
-    let first = wire::u16_at(plan, 16 + 56 * k + 8) as usize;
+    let place = plan::round_place(k);
+    let index = index_of(sheet, wire::u32_at(plan, place))?;
+    let first = wire::u16_at(plan, place + 8) as usize;
     let end = follow(sheet, plan, first, &mut tables.stops, at)?;
     tables.ends[k] = end as u16;
     tables.vehicles[k] = index as u16;

@@ -7,11 +7,10 @@ use native.Mathlib.Omega.{arith}
 use mathlib.Core.Bool.{Bool, true, false}
 use mathlib.Core.List.{List, ◌++◌}
 use Rattle.std.specs.Int.{from_bool}
-use lib.ListN.{length, length-append, get_or-append}
+use lib.ListN.{length, length-append}
 use lib.Seq.{take_at, drop-append-add, get_or-append-add}
 use Rattle.evaluation.specs.declared.limits.RouteLimits.{RouteLimits}
 use Rattle.evaluation.specs.Feasible.{route_feasible}
-use Rattle.evaluation.specs.Routed.{Routed}
 use Rattle.probe.specs.Promises.{RowsAsked}
 use Rattle.probe.specs.Rounds.{one_of, passed_from, passed_of}
 
@@ -50,19 +49,8 @@ module _ (s : List ℕ) (depot : ℕ) (limits : RouteLimits) (len : ℕ) where
     pub few : count + length rest ≤ length stops
     pub left : count + passed_of s depot limits rest len ≡ passed_of s depot limits stops len
 
-  pub begins : (stops : List ℕ) → RowsAsked s depot stops → Counted stops len stops 0
-  begins stops a = record { cut = refl; rows = a; few = omega arith; left = zero-add (passed_of s depot limits stops len) }
-
   module _ (stops : List ℕ) (size : ℕ) (rest : List ℕ) (count : ℕ) (c : Counted stops size rest count) where
     module _ (round after : List ℕ) (e : rest ≡ round ++ after) (l : length round ≡ size) where
-      pub round_routed : len ≤ 101 → Routed s depot round
-      round_routed few = record {
-        sheet = c.rows.sheet;
-        home = c.rows.home;
-        few = omega (arith, c.cut);
-        row = λ k h. rw (e, get_or-append round after 0 k h) at (c.rows.row k (rw (e, length-append) (omega arith)));
-      }
-
       pub count_on : 0 < len → (left : ℕ) → left ≡ size → (b : Bool) → b ≡ route_feasible s depot limits round → Counted stops left after (count + one_of b)
       count_on some left n b f =
           let long : length rest ≡ length round + length after = rw (e, length-append) refl in record {

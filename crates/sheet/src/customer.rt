@@ -44,10 +44,7 @@ fn is_depot(sheet: &[u8], row: usize) -> bool
     requires { (row ≤ most_rows) × (row_at row + row_size ≤ length sheet.now) }
     ensures { result ≡ is_depot sheet.now row }
 {
-    crate::has_mark(
-        DEPOT,
-        wire::u32_at(sheet, crate::HEADER_SIZE + crate::ROW_SIZE * row + 12),
-    )
+    crate::has_mark(DEPOT, wire::u32_at(sheet, crate::row_place(row) + 12))
 }
 
 // How many leading rows are marked as depots.
@@ -89,7 +86,7 @@ impl<'a> Sheet<'a> {
         requires { row < rows_of self.now }
         ensures { result ≡ x_field self.now (row_at row) }
     {
-        wire::i32_at(self.bytes, crate::HEADER_SIZE + crate::ROW_SIZE * row)
+        wire::i32_at(self.bytes, crate::row_place(row))
     }
 
     // The vertical coordinate of a row.
@@ -97,7 +94,7 @@ impl<'a> Sheet<'a> {
         requires { row < rows_of self.now }
         ensures { result ≡ y_field self.now (row_at row) }
     {
-        wire::i32_at(self.bytes, crate::HEADER_SIZE + crate::ROW_SIZE * row + 4)
+        wire::i32_at(self.bytes, crate::row_place(row) + 4)
     }
 
     // What a row loads.
@@ -105,7 +102,7 @@ impl<'a> Sheet<'a> {
         requires { row < rows_of self.now }
         ensures { result ≡ demand_of self.now row }
     {
-        wire::u32_at(self.bytes, crate::HEADER_SIZE + crate::ROW_SIZE * row + 8)
+        wire::u32_at(self.bytes, crate::row_place(row) + 8)
     }
 
     pub fn stop_at(&self, row: usize) -> Stop
@@ -113,7 +110,7 @@ impl<'a> Sheet<'a> {
         ensures { result ≡ stop_of self.now row }
     {
         let bytes = self.bytes;
-        let at = crate::HEADER_SIZE + crate::ROW_SIZE * row;
+        let at = crate::row_place(row);
         let gate = gate_at(bytes, at);
         Stop {
             x: self.x(row),

@@ -1,10 +1,10 @@
 // The sheet: what its bytes hold. A field is read from the lent bytes when it is needed; only where its tables start is kept.
 #![tactic(auto)]
 
-ghost use Rattle.std.specs.Prelude.{◌≡◌, ℕ, ◌<◌, ◌≤◌, List, length};
+ghost use Rattle.std.specs.Prelude.{◌≡◌, ℕ, ◌+◌, ◌*◌, ◌<◌, ◌≤◌, List, length};
 ghost use Rattle.sheet.specs.Accepted.{Accepted};
 ghost use Rattle.sheet.specs.Depots.{depots_of};
-ghost use Rattle.sheet.specs.Fields.{rows_of, vehicles_of, method_of, times_of, marked, header_size, most_rows};
+ghost use Rattle.sheet.specs.Fields.{rows_of, vehicles_of, method_of, times_of, marked, row_at, header_size, row_size, vehicle_size, most_rows, most_vehicles};
 ghost use Rattle.sheet.specs.Located.{Located};
 ghost use Rattle.sheet.specs.Method.{code_of};
 
@@ -28,6 +28,24 @@ pub const VEHICLE_SIZE: usize = 72;
 pub const MOST_ROWS: usize = 101;
 
 pub const MOST_VEHICLES: usize = 16;
+
+// Where the record of a row starts.
+#[inline(always)]
+pub fn row_place(row: usize) -> usize
+    requires { row ≤ most_rows }
+    ensures { result ≡ row_at row }
+{
+    HEADER_SIZE + ROW_SIZE * row
+}
+
+// Where the record of a vehicle starts in a sheet of so many rows. That of the first past the last is the end of the records.
+#[inline(always)]
+pub fn vehicle_place(rows: usize, index: usize) -> usize
+    requires { (rows ≤ most_rows) × (index ≤ most_vehicles) }
+    ensures { result ≡ header_size + row_size * rows + vehicle_size * index }
+{
+    row_place(rows) + VEHICLE_SIZE * index
+}
 
 pub fn rows(sheet: &[u8]) -> usize
     requires { header_size ≤ length sheet.now }

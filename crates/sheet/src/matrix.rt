@@ -11,9 +11,7 @@ pub fn tables(sheet: &[u8]) -> usize
     requires { Sized sheet.now }
     ensures { result ≡ tables_at sheet.now }
 {
-    crate::HEADER_SIZE
-        + crate::ROW_SIZE * crate::rows(sheet)
-        + crate::VEHICLE_SIZE * crate::vehicles(sheet)
+    crate::vehicle_place(crate::rows(sheet), crate::vehicles(sheet))
 }
 
 // The place of an entry in a table of `n` rows.

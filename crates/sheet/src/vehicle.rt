@@ -69,7 +69,7 @@ impl<'a> Sheet<'a> {
         requires { index < vehicles_of self.now }
         ensures { (result ≡ vehicle_at self.now index) × (result + vehicle_size ≤ length self.now) }
     {
-        crate::HEADER_SIZE + crate::ROW_SIZE * self.rows + crate::VEHICLE_SIZE * index
+        crate::vehicle_place(self.rows, index)
     }
 
     pub fn vehicle_at(&self, index: usize) -> Vehicle

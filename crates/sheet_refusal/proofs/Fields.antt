@@ -1,7 +1,6 @@
 -- Tests of a signed field as its pattern, and of the header's spare bytes. Assumes nothing.
 use mathlib.Core.Path.{◌≡◌, refl, sym, ◌∙◌, subst}
-use Prim.Native.Nat.{ℕ, zero, suc, ◌+◌, ◌*◌, ◌^◌, ◌≤◌}
-use native.Mathlib.Nat.{mul-le-mul}
+use Prim.Native.Nat.{ℕ, zero, suc, ◌+◌, ◌*◌, ◌^◌}
 use native.Mathlib.Omega.{arith}
 use mathlib.Core.Bool.{Bool, true, false, not}
 use mathlib.Core.List.{List}
@@ -49,10 +48,6 @@ module _ (s : List ℕ) where
       go : (n : ℕ) → eqb n 0 ≡ eqb (0 + 65536 * n) 0
       go zero = refl
       go (suc n) = ne_eqb (suc n) 0 (λ e. omega arith) ∙ sym (ne_eqb (0 + 65536 * suc n) 0 (λ e. omega arith))
-
--- the entries of two tables at the most
-pub few : (t m : ℕ) → t ≤ 1 → m ≤ 10201 → (1 + t) * m ≤ 20402
-few t m h k = mul-le-mul {n₂ = 2} (omega arith) k
 
 -- a test that passed
 pub passed : (a b : Bool) → a ≡ b → a ≡ true → T b

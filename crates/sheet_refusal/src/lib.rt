@@ -55,10 +55,7 @@ fn lengths_right(sheet: &[u8], plan_len: usize) -> bool
 {
     let rows = sheet::rows(sheet);
     let entries = entries(rows, sheet::times(sheet) as usize);
-    let sheet_len = sheet::HEADER_SIZE
-        + sheet::ROW_SIZE * rows
-        + sheet::VEHICLE_SIZE * sheet::vehicles(sheet)
-        + 8 * entries;
+    let sheet_len = sheet::vehicle_place(rows, sheet::vehicles(sheet)) + 8 * entries;
     sheet.len() == sheet_len && plan_len == 16 + 80 * rows
 }
 

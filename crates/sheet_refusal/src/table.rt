@@ -11,10 +11,7 @@ pub fn rows_in_range(sheet: &[u8]) -> bool
     requires { Sized sheet.now }
     ensures { result ≡ rows_in_range sheet.now }
 {
-    (0..sheet::rows(sheet)).all(|i| record::row_in_range(
-        sheet,
-        sheet::HEADER_SIZE + sheet::ROW_SIZE * i,
-    ))
+    (0..sheet::rows(sheet)).all(|i| record::row_in_range(sheet, sheet::row_place(i)))
 }
 
 pub fn entries_in_range(sheet: &[u8]) -> bool
@@ -31,9 +28,9 @@ fn same_id(sheet: &[u8], v: usize, w: usize) -> bool
     requires v_bound { (v < vehicles_of sheet.now) × (w < vehicles_of sheet.now) }
     ensures { result ≡ same_id sheet.now v w }
 {
-    let base = sheet::HEADER_SIZE + sheet::ROW_SIZE * sheet::rows(sheet);
-    wire::u32_at(sheet, base + sheet::VEHICLE_SIZE * w)
-        == wire::u32_at(sheet, base + sheet::VEHICLE_SIZE * v)
+    let rows = sheet::rows(sheet);
+    wire::u32_at(sheet, sheet::vehicle_place(rows, w))
+        == wire::u32_at(sheet, sheet::vehicle_place(rows, v))
 }
 
 // Whether no vehicle before `v` has its id.
@@ -50,11 +47,8 @@ fn vehicle_right(sheet: &[u8], v: usize, depots: usize) -> bool
     requires v_bound { (v < vehicles_of sheet.now) × (depots ≡ depots_of sheet.now) }
     ensures { result ≡ (vehicle_in_range sheet.now (vehicle_at sheet.now v) && new_id sheet.now v) }
 {
-    record::vehicle_in_range(
-        sheet,
-        sheet::HEADER_SIZE + sheet::ROW_SIZE * sheet::rows(sheet) + sheet::VEHICLE_SIZE * v,
-        depots,
-    ) && new_id(sheet, v)
+    record::vehicle_in_range(sheet, sheet::vehicle_place(sheet::rows(sheet), v), depots)
+        && new_id(sheet, v)
 }
 
 pub fn vehicles_in_range(sheet: &[u8]) -> bool

@@ -6,7 +6,7 @@ use mathlib.Core.List.{List}
 use native.Mathlib.Nat.{add-zero}
 use native.Mathlib.Numerals.{add-one}
 use lib.ListN.{length, take, get_or, take-append-drop}
-use lib.Seq.{length-take-le, take-suc, take_all}
+use lib.Seq.{length-take-le, take-suc}
 use lib.IntN.{ℤ, pos, negsuc}
 use lib.Ieee.{Float, nan, binary64, to_bits}
 use mir.Syntax.{w32}
@@ -44,6 +44,3 @@ module _ (xs : List Float) (s : List ℕ) (at : ℕ) where
       let n : length (take i xs) ≡ i = length-take-le i xs (omega arith) in
       let w = then (wrote_floats (take i xs) e) (wrote 8 (to_bits binary64 (get_or xs i nan)) f) (omega arith) (omega arith) in
       w.same ∙ ap (write s at) (sym (rw (add-one, take-suc xs i nan h) (records_more float_bytes (take i xs) (get_or xs i nan))))
-
-  pub floats_end : (i : ℕ) {t : List ℕ} → Floats i t → length xs ≤ i → t ≡ write s at (records_bytes float_bytes xs)
-  floats_end i e h = e ∙ ap (λ (ys : List Float). write s at (records_bytes float_bytes ys)) (take_all i xs h)

@@ -11,8 +11,8 @@ fn squared(sheet: &[u8], i: usize, j: usize) -> u64
     requires { PointAt sheet.now i × PointAt sheet.now j }
     ensures { result ≡ squared_between sheet.now i j }
 {
-    let from = sheet::HEADER_SIZE + sheet::ROW_SIZE * i;
-    let to = sheet::HEADER_SIZE + sheet::ROW_SIZE * j;
+    let from = sheet::row_place(i);
+    let to = sheet::row_place(j);
     let dx = u64::from(wire::i32_at(sheet, from).abs_diff(wire::i32_at(sheet, to)));
     let dy = u64::from(wire::i32_at(sheet, from + 4).abs_diff(wire::i32_at(sheet, to + 4)));
     dx * dx + dy * dy

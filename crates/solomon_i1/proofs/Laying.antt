@@ -187,10 +187,6 @@ module _ (s : List ℕ) (t : Terms) (stops₀ ends₀ vehicles₀ trial₀ : Lis
   pub vehicles_kept : length vehicles ≡ length vehicles₀
   vehicles_kept = vehicles_long _ _ _ _ _ _ _ g.entered (omega (arith, rounds_room, g.room.driven, g.last, g.all))
 
-  -- the stops left stand from `at` to `end`
-  pub starts : at ≤ end
-  starts = omega (arith, g.last)
-
   pub within : end ≤ length stops
   within = omega (arith, stops_long, g.all, g.inside)
 

@@ -7,7 +7,7 @@ ghost use Rattle.solomon_i1.specs.Insertion.{seed_of, goes_alone};
 use constructive::terms::Terms;
 use sheet::Sheet;
 
-// Its place among the stops left, the first of equals.
+// Its place among the stops left, the first of equals; `max_by` answers the last.
 pub fn farthest(sheet: &Sheet, depot: usize, left: &[u16]) -> usize
     requires { Routed sheet.now depot left.now }
     ensures { result ≡ seed_of sheet.now depot left.now }

@@ -1,13 +1,12 @@
 -- The loops over the places of a round and over the stops unrouted. Assumes nothing.
 use Rattle.std.specs.Prelude.{None}
 use mathlib.Core.Path.{◌≡◌, sym, ap, ◌∙◌}
-use Prim.Native.Nat.{ℕ, suc, ◌+◌, ◌≤◌, ◌<◌}
+use Prim.Native.Nat.{ℕ, ◌+◌, ◌≤◌, ◌<◌}
 use native.Mathlib.Numerals.{add-one}
 use native.Mathlib.Omega.{arith}
 use mathlib.Core.List.{List, [], ◌∷◌}
 use lib.ListN.{length, get_or, drop}
 use lib.Seq.{drop-cons, drop-length}
-use borrow.Author.Tests.{lt-leb, le-leb}
 use Rattle.lists.specs.Laws.Every.{every_of}
 use Rattle.sheet.specs.Fields.{rows_of}
 use Rattle.sheet.specs.Values.{demand_of}
@@ -17,9 +16,8 @@ use Rattle.constructive.specs.declared.terms.Terms.{Terms}
 use Rattle.constructive.proofs.Loading.{load_few}
 use Rattle.insertion.specs.Choice.{Choice}
 use Rattle.insertion.specs.declared.place.Tried.{Tried}
-use Rattle.insertion.specs.Place.{try_places}
 use Rattle.insertion.specs.Trial.{Trial, Joinable}
-use Rattle.insertion.proofs.Trying.{trial_long, joins}
+use Rattle.insertion.proofs.Trying.{joins}
 use Rattle.solomon_i1_judging.specs.declared.Figures.{Figures}
 use Rattle.solomon_i1_judging.specs.Choice.{try_stop, try_stops}
 use Rattle.solomon_i1_judging.specs.Figures.{figures_of}
@@ -33,13 +31,6 @@ module _ (s : List ℕ) (t : Terms) (route : List ℕ) (row : ℕ) (figures : Fi
   load_fits ok =
       let few = load_few s ok.round.sheet route (every_of (λ (i : ℕ). i < rows_of s) 0 route ok.round.row) in
       omega (arith, with_stop_lem, few, ok.room, demand_bounded s ok.round.sheet row (joins s t route row ok))
-
-  module _ (c : Choice) (j : ℕ) where
-    pub left_out : t.capacity < figures.load + demand → c ≡ try_stop s t route c j row
-    left_out h = rw (lt-leb (load_of s route + demand_of s row) t.capacity (omega (arith, with_stop_lem)))
-
-    pub taken_in : figures.load + demand ≤ t.capacity → (x : Choice) → x ≡ try_places s t route j row c (suc (length route)) 0 → x ≡ try_stop s t route c j row
-    taken_in h x f = rw (le-leb (load_of s route + demand_of s row) t.capacity (omega (arith, with_stop_lem))) f
 
 -- ---- over the stops
 pub record Stopping (s : List ℕ) (t : Terms) (route left : List ℕ) (tried : Tried) (trial : List ℕ) (j end : ℕ) : Type 0 where
@@ -68,6 +59,3 @@ module _ (s : List ℕ) (t : Terms) (route left : List ℕ) (tried : Tried) (tri
   pub stopped : end ≤ j → tried.choice ≡ try_stops s t route None 0 left
   unfolding try_stops
   stopped h = let e : j ≡ length left = omega (arith, g.last, g.within) in sym (g.same ∙ rw (e, drop-length left))
-
-  pub long_still : (trial₀ : List ℕ) (x : ℕ) → Trial route x (length route) trial₀ → length trial ≡ length trial₀
-  long_still trial₀ x h = trial_long route _ tried.at trial g.holds ∙ sym (trial_long route x (length route) trial₀ h)

@@ -19,7 +19,7 @@ use sheet::Sheet;
 #[derive(Clone, Copy)]
 pub struct Figures {
     pub load: u32,
-    pub cost: f64,
+    pub cost: Option<f64>,
 }
 
 fn figures_of(sheet: &Sheet, terms: Terms, route: &[u16]) -> Figures
@@ -37,7 +37,8 @@ fn alone_cost(sheet: &Sheet, terms: Terms, row: u16) -> f64
     ensures { result ≡ alone_cost sheet.now terms row }
 {
     let lone = [row];
-    place::soft_cost(sheet, terms, &lone) + terms.fixed
+    let limits = terms.limits;
+    evaluation::effective_cost(sheet, &lone, terms.depot, limits) + terms.fixed
 }
 
 // What was tried, with its choice put together anew, which then goes from stop to stop in registers.
@@ -79,9 +80,13 @@ fn try_stop(
         let choice = places::try_free(sheet, terms, route, row, best, j);
         return Tried { choice, at };
     }
-    let prices = Prices {
-        round: figures.cost,
-        alone: alone_cost(sheet, terms, row),
+    // not by `map`: its closure wants a lemma where this needs none
+    let prices = match figures.cost {
+        None => None,
+        Some(round) => Some(Prices {
+            round,
+            alone: alone_cost(sheet, terms, row),
+        }),
     };
     places::try_places::<FromDepot>(sheet, terms, prices, route, row, trial, tried, j)
 }

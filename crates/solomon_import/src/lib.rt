@@ -17,7 +17,7 @@ fn import_length(rows: usize) -> usize
     requires { rows ≤ most_rows }
     ensures { result ≡ import_length rows }
 {
-    sheet::HEADER_SIZE + sheet::ROW_SIZE * rows + sheet::VEHICLE_SIZE + 8 * (rows * rows)
+    sheet::vehicle_place(rows, 1) + 8 * (rows * rows)
 }
 
 // The sheet's length, and the sheet at the start of `sheet`.

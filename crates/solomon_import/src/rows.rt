@@ -53,6 +53,8 @@ pub fn row_lines(text: &[u8], from: usize) -> Option<RowLines>
     let mut at = from;
     let mut count: usize = 0;
     let mut in_range = true;
+    // By places: a part of `split` does not tell whether an LF followed it, with which a CR at its end would go. One of
+    // `split_inclusive` does, but has both to be cut off, and the chain with that cut and a `filter` is longer than this.
     while at < text.len() {
         let line = walk::line_at(text, at);
         if !is_row_line(line, count) {

@@ -59,6 +59,7 @@ fn write_rows(text: &[u8], from: usize, sheet: &mut [u8])
     let mut at = from;
     let mut place = sheet::HEADER_SIZE;
     let mut marks = customer::DEPOT | customer::WINDOW;
+    // By places, as the rows are read (rows.rt).
     while at < text.len() {
         let line = walk::line_at(text, at);
         sheet_writer::put_row(sheet, place, row_fields(line, marks));
@@ -78,7 +79,7 @@ fn write_records(text: &[u8], rows: usize, sheet: &mut [u8])
     let vehicle = vehicle_fields(reading::capacity(text));
     sheet_writer::put_header(sheet, rows, 1, 1, 0);
     write_rows(text, first, sheet);
-    sheet_writer::put_vehicle(sheet, sheet::HEADER_SIZE + sheet::ROW_SIZE * rows, vehicle);
+    sheet_writer::put_vehicle(sheet, sheet::vehicle_place(rows, 0), vehicle);
 }
 
 // The sheet of a text of so many rows.
@@ -87,7 +88,7 @@ pub fn write_sheet(text: &[u8], rows: usize, sheet: &mut [u8])
     requires rows_in_bounds { import_length rows ≤ length sheet.old }
     ensures { SheetWritten text.now sheet.old sheet.new }
 {
-    let tables = sheet::HEADER_SIZE + sheet::ROW_SIZE * rows + sheet::VEHICLE_SIZE;
+    let tables = sheet::vehicle_place(rows, 1);
     write_records(text, rows, sheet);
     solomon_distances::write_distances(sheet, rows, tables);
 }

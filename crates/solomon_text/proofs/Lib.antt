@@ -1,3 +1,2 @@
 pub mod LineEnds
 pub mod WordWalk
-pub mod Value

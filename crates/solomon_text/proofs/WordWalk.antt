@@ -1,75 +1,74 @@
--- Words counted along a line: how many are passed, all whole numbers, and which one is sought. Assumes nothing.
-use mathlib.Core.Path.{◌≡◌, refl, ap, ◌∙◌}
-use Prim.Native.Nat.{ℕ, suc, ◌+◌, ◌-◌, ◌≤◌, ◌<◌}
-use native.Mathlib.Nat.{sub-zero, zero-add, add-zero}
+-- The words of a line: as split gives them, counted while they are whole numbers, and the one counted n. Assumes nothing.
+use Rattle.std.specs.Prelude.{Option, Some, None, unwrap_or}
+use mathlib.Core.Path.{◌≡◌, refl, sym, ap, ◌∙◌}
+use Prim.Native.Nat.{ℕ, zero, suc, ◌+◌, ◌<◌}
 use native.Mathlib.Omega.{arith}
-use mathlib.Core.Bool.{true, false}
+use mathlib.Core.Bool.{Bool, true, false, not, cond, ◌&&◌}
 use mathlib.Core.List.{List, [], ◌∷◌}
 use lib.Dec.{eqb}
-use lib.ListN.{length, get_or, take, drop}
-use Rattle.solomon_text.specs.Lines.{is_blank, words_of}
-use Rattle.solomon_text.specs.Numbers.{is_whole_number, all_whole_numbers, holds_numbers, word_at}
-use Rattle.solomon_text.specs.Laws.Parts.{FirstPart}
-use Rattle.solomon_text.specs.Laws.Words.{AtWord, NextWord, word_longer, words_from, no_words_left}
+use lib.ListN.{length, get_or, drop}
+use borrow.Author.Tests.{ne_eqb}
+use denote.Ref.{Bor}
+use Rattle.std.specs.List.{slice_split, onto_first, filter, slice_get}
+use Rattle.std.specs.Option.{option_map}
+use Rattle.std.proofs.lemmas.List.{at_drop_more, at_drop_all}
+use Rattle.solomon_text.specs.Lines.{is_blank, is_filled, cut_or, keep_part, parts_of, parts_with, words_of}
+use Rattle.solomon_text.specs.Numbers.{is_whole_number, all_whole_numbers, holds_numbers}
 
--- ---- how many are passed
-pub record Counting (line : List ℕ) (at count : ℕ) : Type 0 where
-  pub word : AtWord line at
-  pub few : count ≤ at
-  pub whole : all_whole_numbers (words_of line) ≡ all_whole_numbers (words_of (drop at line))
-  pub counted : length (words_of line) ≡ count + length (words_of (drop at line))
+-- ---- the words as the library's split gives them
+split_or : (t : Bool) (b : ℕ) (parts : List (List ℕ)) → cond t ([] ∷ parts) (onto_first b parts) ≡ cut_or t b parts
+split_or true b parts = refl
+split_or false b [] = refl
+split_or false b (part ∷ parts) = refl
 
-pub counting_begins : (line : List ℕ) (at : ℕ) → NextWord line 0 at → Counting line at 0
-counting_begins line at w =
-    record {
-      word = w.word;
-      few = omega arith;
-      whole = ap all_whole_numbers w.same;
-      counted = rw zero-add (ap length w.same);
-    }
+parts_split : (cut : ℕ → Bool) (bs : List ℕ) → slice_split cut bs ≡ parts_of cut bs
+unfolding parts_of
+parts_split cut [] = refl
+parts_split cut (b ∷ bs) = rw (parts_split cut bs) (split_or (cut b) b (parts_of cut bs))
 
-module _ (line : List ℕ) (at count end : ℕ) (h : at < length line) (c : Counting line at count) (p : FirstPart is_blank line at end) where
-  words : words_of (drop at line) ≡ take (end - at) (drop at line) ∷ words_of (drop end line)
-  words = words_from line at end c.word p h
+filter_or : (t : Bool) (part : List ℕ) (parts : List (List ℕ)) → cond t (part ∷ parts) parts ≡ keep_part t part parts
+filter_or true part parts = refl
+filter_or false part parts = refl
 
-  pub counting_goes_on : (next : ℕ) → NextWord line end next → is_whole_number (take (end - at) (drop at line)) ≡ true → Counting line next (count + 1)
+filled : (part : List ℕ) → not (eqb (length part) 0) ≡ is_filled part
+filled [] = refl
+filled (b ∷ bs) = ap not (ne_eqb (suc (length bs)) 0 (λ e. omega arith))
+
+parts_filtered : (parts : List (List ℕ)) → filter (λ part. not (eqb (length part) 0)) parts ≡ parts_with is_filled parts
+unfolding parts_with
+parts_filtered [] = refl
+parts_filtered (part ∷ parts) = rw (parts_filtered parts, filled part) (filter_or (is_filled part) part (parts_with is_filled parts))
+
+pub words_split : (line : List ℕ) → filter (λ part. not (eqb (length part) 0)) (slice_split is_blank line) ≡ words_of line
+unfolding words_of
+words_split line = rw (parts_split is_blank line) (parts_filtered (parts_of is_blank line))
+
+-- ---- the first `count` words are whole numbers
+abbrev pub WholeSoFar : List ℕ → ℕ → Type 0
+WholeSoFar line count = all_whole_numbers (words_of line) ≡ all_whole_numbers (drop count (words_of line))
+
+module _ (line : List ℕ) (count : ℕ) (word : List ℕ) (h : (count < length (words_of line)) × (word ≡ get_or (words_of line) count word)) (c : WholeSoFar line count) where
+  turn : all_whole_numbers (words_of line) ≡ is_whole_number word && all_whole_numbers (drop (count + 1) (words_of line))
   unfolding all_whole_numbers
-  counting_goes_on next w e =
-      let l = word_longer line at end c.word p h in
-      let f = w.from in
-      let g = c.few in
-      let n : length (words_of (drop at line)) ≡ suc (length (words_of (drop next line))) = ap length words ∙ ap (λ (ws : List (List ℕ)). suc (length ws)) w.same in
-      let k = c.counted in
-      record {
-        word = w.word;
-        few = omega arith;
-        whole = c.whole ∙ rw (words, e) (ap all_whole_numbers w.same);
-        counted = omega arith;
-      }
+  turn = c ∙ at_drop_more all_whole_numbers (words_of line) count word h.0 ∙ ap (λ (w : List ℕ). is_whole_number w && all_whole_numbers (drop (count + 1) (words_of line))) (sym h.1)
 
-  pub counting_fails : (n : ℕ) → is_whole_number (take (end - at) (drop at line)) ≡ false → holds_numbers n line ≡ false
-  unfolding holds_numbers all_whole_numbers
-  counting_fails n e = rw (c.whole, words, e) refl
+  pub counting_goes_on : is_whole_number word ≡ true → WholeSoFar line (count + 1)
+  counting_goes_on e = turn ∙ rw e refl
 
-pub counting_ends : (line : List ℕ) (at count : ℕ) → length line ≤ at → Counting line at count → (n : ℕ) → eqb count n ≡ holds_numbers n line
+  pub counting_fails : (n : ℕ) → is_whole_number word ≡ false → holds_numbers n line ≡ false
+  unfolding holds_numbers
+  counting_fails n e = rw (turn, e) refl
+
+pub counting_ends : (line : List ℕ) (count n : ℕ) → count ≡ length (words_of line) → WholeSoFar line count → eqb count n ≡ holds_numbers n line
 unfolding holds_numbers all_whole_numbers
-counting_ends line at count h c n = rw (c.whole, c.counted, no_words_left line at h, add-zero) refl
+counting_ends line count n e c = rw (c, at_drop_all all_whole_numbers (words_of line) count (omega (arith, e)), ← e) refl
 
--- ---- which one is sought: the one counted n from 0 is the one counted n - i from here
-pub record Seeking (line : List ℕ) (n at i : ℕ) : Type 0 where
-  pub word : AtWord line at
-  pub same : word_at line n ≡ get_or (words_of (drop at line)) (n - i) []
+-- ---- the word counted n
+got : (words : List (List ℕ)) (n : ℕ) → unwrap_or (slice_get words n) [] ≡ get_or words n []
+got [] n = refl
+got (word ∷ words) zero = refl
+got (word ∷ words) (suc n) = got words n
 
-pub seeking_begins : (line : List ℕ) (n at : ℕ) → NextWord line 0 at → Seeking line n at 0
-seeking_begins line n at w = record { word = w.word; same = rw sub-zero (ap (λ (ws : List (List ℕ)). get_or ws n []) w.same) }
-
-pub seeking_goes_on : (line : List ℕ) (n at i end next : ℕ) → at < length line → i < n → Seeking line n at i → FirstPart is_blank line at end → NextWord line end next → Seeking line n next (i + 1)
-seeking_goes_on line n at i end next h l s p w =
-    let left : n - i ≡ suc (n - (i + 1)) = omega arith in
-    record {
-      word = w.word;
-      same = s.same ∙ rw (left, words_from line at end s.word p h) (ap (λ (ws : List (List ℕ)). get_or ws (n - (i + 1)) []) w.same);
-    }
-
-pub seeking_in_vain : (line : List ℕ) (n at i : ℕ) → length line ≤ at → Seeking line n at i → word_at line n ≡ get_or (words_of (drop at line)) 0 []
-seeking_in_vain line n at i h s = s.same ∙ rw (no_words_left line at h) refl
+pub word_got : (words : List (List ℕ)) (n : ℕ) (r : Option (Bor (List ℕ))) (none : Bor (List ℕ)) → none.now ≡ [] → option_map (λ (x : Bor (List ℕ)). x.now) r ≡ slice_get words n → (unwrap_or r none).now ≡ get_or words n []
+word_got words n None none e f = e ∙ ap (λ (o : Option (List ℕ)). unwrap_or o []) f ∙ got words n
+word_got words n (Some x) none e f = ap (λ (o : Option (List ℕ)). unwrap_or o []) f ∙ got words n

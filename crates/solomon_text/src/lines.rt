@@ -58,6 +58,7 @@ pub fn next_digit_line(text: &[u8], at: usize) -> usize
     ensures { (at ≤ result) × (result ≤ length text.now) × (digit_lines (lines_of (drop at text.now)) ≡ digit_lines (lines_of (drop result text.now))) × (result < length text.now → T (has_digit (first_line (drop result text.now)))) }
 {
     let mut start = at;
+    // By places: the answer is the place of a line, which a part of `split` does not tell.
     while start < text.len() {
         let end = line_end(text, start);
         if has_digit(&text[start..end]) {

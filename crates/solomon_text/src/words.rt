@@ -1,9 +1,7 @@
 // Words of a line, which are whole numbers.
-ghost use Rattle.std.specs.Prelude.{◌≡◌, ◌^◌, ◌≤◌, ◌<◌, leb, not, nat_abs, length, drop, get_or, []};
-ghost use Rattle.solomon_text.specs.Lines.{is_blank, words_of};
+ghost use Rattle.std.specs.Prelude.{◌≡◌, ◌^◌, ◌≤◌, ◌<◌, leb, nat_abs};
+ghost use Rattle.solomon_text.specs.Lines.{is_blank};
 ghost use Rattle.solomon_text.specs.Numbers.{holds_numbers, word_at, number_at, equals, is_up_to};
-ghost use Rattle.solomon_text.specs.Laws.Parts.{FirstPart};
-ghost use Rattle.solomon_text.specs.Laws.Words.{AtWord};
 ghost use Rattle.solomon_text.specs.Kept.{KeptNumber};
 
 use crate::number;
@@ -14,66 +12,34 @@ fn is_blank(b: u8) -> bool
     matches!(b, b' ' | b'\t')
 }
 
-// The first word from `at` on; the line's end if there is none.
-fn word_start(line: &[u8], at: usize) -> usize
-    requires { at ≤ length line.now }
-    ensures { FirstPart (λ b. not (is_blank b)) line.now at result }
-{
-    at + line[at..]
-        .iter()
-        .position(|&b| !is_blank(b))
-        .unwrap_or(line.len() - at)
-}
-
-// The first blank from `at` on; the line's end if there is none.
-fn word_end(line: &[u8], at: usize) -> usize
-    requires { at ≤ length line.now }
-    ensures { FirstPart is_blank line.now at result }
-{
-    at + line[at..]
-        .iter()
-        .position(|&b| is_blank(b))
-        .unwrap_or(line.len() - at)
-}
-
 // Whether the line holds n whole numbers and nothing else but spaces and tabs.
 pub fn holds_numbers(line: &[u8], n: usize) -> bool
     ensures { result ≡ holds_numbers n line.now }
 {
     let mut count: usize = 0;
-    let mut at = word_start(line, 0);
-    while at < line.len() {
-        let end = word_end(line, at);
-        if !number::is_whole_number(&line[at..end]) {
+    for word in line.split(|&b| is_blank(b)).filter(|part| !part.is_empty()) {
+        if !number::is_whole_number(word) {
             return false;
         }
         count += 1;
-        at = word_start(line, end);
     }
     count == n
 }
 
-// Where the word counted n from 0 starts; the line's end if there are fewer. n words are passed over, and the number leads nowhere.
-fn word_at(line: &[u8], n: usize) -> usize
-    ensures { AtWord line.now result × (word_at line.now n ≡ get_or (words_of (drop result line.now)) 0 []) }
+// Its word counted n from 0; empty if there are fewer. The chain of the words stands twice: no function can name its closures' types.
+fn word_at(line: &[u8], n: usize) -> &[u8]
+    ensures { result.now ≡ word_at line.now n }
 {
-    let mut at = word_start(line, 0);
-    for _ in 0..n {
-        if at == line.len() {
-            return at;
-        }
-        let end = word_end(line, at);
-        at = word_start(line, end);
-    }
-    at
+    line.split(|&b| is_blank(b))
+        .filter(|part| !part.is_empty())
+        .nth(n)
+        .unwrap_or(&[])
 }
 
 fn number_at(line: &[u8], n: usize) -> number::WholeNumber
     ensures { KeptNumber (number_at line.now n) result.negative result.size }
 {
-    let at = word_at(line, n);
-    let end = word_end(line, at);
-    number::read(&line[at..end])
+    number::read(word_at(line, n))
 }
 
 // Whether the line's number counted n from 0 is k. This and the next two are three comparisons, of which one told which to make

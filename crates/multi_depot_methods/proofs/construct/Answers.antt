@@ -1,12 +1,11 @@
 -- `multi_depot_methods::construct` meets its contract. Assumes nothing.
 use mathlib.Core.Path.{refl}
-use Rattle.sheet.specs.declared.method.Method.TheVariants.{NearestNeighbor, NearestNeighborTw}
-use Rattle.multi_depot_methods.proofs.Fleets.{few, known, first_known, nearest_so, window_so, none_so, with_some, another}
+use Rattle.multi_depot_methods.proofs.Fleets.{few, known, first_taken, nearest_so, window_so, none_so, with_taken, not_nearest, not_window}
 use Rattle.std.proofs.Common.{rules}
 use Rattle.multi_depot_methods.proofs.construct.Goals as goal
 
-pub slice_bounds-nearest_neighbor-end : goal.slice_bounds-nearest_neighbor-end
-slice_bounds-nearest_neighbor-end g c = let p = c.requires in
+pub slice_bounds-fleet-end : goal.slice_bounds-fleet-end
+slice_bounds-fleet-end g c = let p = c.requires in
     let g = c.fleet_of-n.ensures in
     few p.ready g.value g.fleet_after
 
@@ -21,11 +20,6 @@ returns-in-NearestNeighbor g c = let p = c.requires in
     let m = rw c.in-NearestNeighbor.is at c.method-method.ensures in
     rw (nearest_so p.ready g.value g.fleet_after m refl) record { value = c.nearest_neighbor.ensures.value; stored = c.nearest_neighbor.ensures.stored }
 
-pub slice_bounds-nearest_neighbor_tw-end : goal.slice_bounds-nearest_neighbor_tw-end
-slice_bounds-nearest_neighbor_tw-end g c = let p = c.requires in
-    let g = c.fleet_of-n.ensures in
-    few p.ready g.value g.fleet_after
-
 pub nearest_neighbor_tw-requires : goal.nearest_neighbor_tw-requires
 nearest_neighbor_tw-requires g c = let p = c.requires in
     let g = c.fleet_of-n.ensures in
@@ -37,19 +31,19 @@ returns-in-NearestNeighborTw g c = let p = c.requires in
     let m = rw c.in-NearestNeighborTw.is at c.method-method.ensures in
     rw (window_so p.ready g.value g.fleet_after m refl) record { value = c.nearest_neighbor_tw.ensures.value; stored = c.nearest_neighbor_tw.ensures.stored }
 
-pub returns-in_default : goal.returns-in_default
-returns-in_default g c = let p = c.requires in
+pub returns-then-n-eq0 : goal.returns-then-n-eq0
+returns-then-n-eq0 g c = let p = c.requires in
     let g = c.fleet_of-n.ensures in
     let m = c.method-method.ensures in
-    let both = none_so p.ready g.value g.fleet_after m (another _ NearestNeighbor refl c.in_default.not-NearestNeighbor) (another _ NearestNeighborTw refl c.in_default.not-NearestNeighborTw) c.if-n-eq0.true in record { value = both.0; stored = both.1 }
+    let both = none_so p.ready g.value g.fleet_after m (not_nearest c.in-Savings.is) (not_window c.in-Savings.is) c.if-n-eq0.true in record { value = both.0; stored = both.1 }
 
 pub with_vehicle-requires : goal.with_vehicle-requires
 with_vehicle-requires g c = let p = c.requires in
     let g = c.fleet_of-n.ensures in
-    (search rules, (p.ready.members, (p.ready.room, (first_known p.ready g.value g.fleet_after c.if-n-eq0.false, (p.ready.once, p.routed_bound)))))
+    (search rules, (p.ready.members, (p.ready.room, (first_taken p.ready g.value g.fleet_after c.if-n-eq0.false, (p.ready.once, p.routed_bound)))))
 
-pub returns-in_default-2 : goal.returns-in_default-2
-returns-in_default-2 g c = let p = c.requires in
+pub returns-else-n-eq0 : goal.returns-else-n-eq0
+returns-else-n-eq0 g c = let p = c.requires in
     let g = c.fleet_of-n.ensures in
     let m = c.method-method.ensures in
-    rw (with_some p.ready g.value g.fleet_after m (another _ NearestNeighbor refl c.in_default.not-NearestNeighbor) (another _ NearestNeighborTw refl c.in_default.not-NearestNeighborTw) c.if-n-eq0.false) record { value = c.with_vehicle.ensures.value; stored = c.with_vehicle.ensures.stored }
+    rw (with_taken p.ready g.value g.fleet_after m (not_nearest c.in-Savings.is) (not_window c.in-Savings.is) c.if-n-eq0.false) record { value = c.with_vehicle.ensures.value; stored = c.with_vehicle.ensures.stored }

@@ -1,7 +1,6 @@
 -- `multi_depot_methods::with_vehicle` meets its contract. Assumes nothing.
 use mathlib.Core.Path.{sym}
-use Rattle.sheet.specs.declared.method.Method.TheVariants.{Savings, Insertion}
-use Rattle.multi_depot_methods.proofs.Fleets.{savings_so, insertion_so, sweep_so, another}
+use Rattle.multi_depot_methods.proofs.Fleets.{savings_so, insertion_so, sweep_so}
 use Rattle.std.proofs.Common.{rules}
 use Rattle.multi_depot_methods.proofs.with_vehicle.Goals as goal
 
@@ -15,6 +14,5 @@ returns-in-Savings g c = let e = sym (rw c.in-Savings.is at c.method.ensures) in
 pub returns-in-Insertion : goal.returns-in-Insertion
 returns-in-Insertion g c = let e = sym (rw c.in-Insertion.is at c.method.ensures) in record { value = rw (insertion_so _ _ _ _ e) c.solomon_i1.ensures.value; stored = rw (insertion_so _ _ _ _ e) c.solomon_i1.ensures.stored }
 
-pub returns-in_default : goal.returns-in_default
-returns-in_default g c = let m = c.method.ensures in
-    rw (sweep_so _ _ _ _ (another _ Savings m c.in_default.not-Savings) (another _ Insertion m c.in_default.not-Insertion)) record { value = c.sweep.ensures.value; stored = c.sweep.ensures.stored }
+pub returns-in-NearestNeighbor : goal.returns-in-NearestNeighbor
+returns-in-NearestNeighbor g c = rw (sweep_so _ _ _ _ c.method.ensures c.in-NearestNeighbor.is) record { value = c.sweep.ensures.value; stored = c.sweep.ensures.stored }

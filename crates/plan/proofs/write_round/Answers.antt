@@ -17,15 +17,12 @@ record-figures-requires c = let a = c.args in
     let ok = c.requires.routed in
     (from a.sheet.now a.vehicle a.limits a.route.now c.place_rest-placed.result c.write_visits-progress.result c.place_rest-placed.ensures c.write_visits-progress.ensures.value ok, ok.home)
 
-pub overflow_mul-k : goal.overflow_mul-k
-overflow_mul-k c = omega (arith, c.requires.k_bound, c.requires.routed.sheet.sized.rows)
-
-pub overflow_add-k : goal.overflow_add-k
-overflow_add-k c = omega (arith, c.requires.k_bound, c.requires.routed.sheet.sized.rows)
+pub round_place-requires : goal.round_place-requires
+round_place-requires c = omega (arith, c.requires.k_bound, c.requires.routed.sheet.sized.rows)
 
 pub put_round-requires : goal.put_round-requires
 put_round-requires c = let a = c.args in record {
-  at_in_bounds = omega (arith, c.requires.k_bound, c.write_visits-progress.auto.plan);
+  at_in_bounds = omega (arith, c.requires.k_bound, c.round_place.ensures, c.write_visits-progress.auto.plan);
   record_writable = rw (figures a.sheet.now a.vehicle a.limits a.route.now c.place_rest-placed.result c.write_visits-progress.result c.place_rest-placed.ensures c.write_visits-progress.ensures.value c.record-figures.result c.record-figures.ensures) c.requires.round_writable.figures;
 }
 
@@ -35,5 +32,5 @@ returns c = let a = c.args in
     let w = c.write_visits-progress in
     let r = c.record-figures in record {
       value = figures a.sheet.now a.vehicle a.limits a.route.now t.result w.result t.ensures w.ensures.value r.result r.ensures;
-      plan_after = rounded a.sheet.now a.vehicle a.limits a.route.now t.result w.result t.ensures w.ensures.value r.result r.ensures a.k c.link.result a.plan.now w.new.plan c.put_round.new.plan c.link.ensures w.ensures.plan_after c.put_round.ensures;
+      plan_after = rounded a.sheet.now a.vehicle a.limits a.route.now t.result w.result t.ensures w.ensures.value r.result r.ensures a.k c.link.result a.plan.now w.new.plan c.put_round.new.plan c.link.ensures w.ensures.plan_after (rw c.round_place.ensures at c.put_round.ensures);
     }

@@ -6,5 +6,5 @@ use Rattle.plan_figures.proofs.walk_plan.Goals as goal
 pub walk_rounds-requires : goal.walk_rounds-requires
 walk_rounds-requires c = let e = c.in_ok-rounds.ensures in (search rules, rw (c.new.ensures, placed _ _ _ _ _ _ _ _ e c.args.figures.now c.requires) (_, e.read.tables))
 
-pub returns : goal.returns
-returns c = let e = c.in_ok-rounds.ensures in walked _ _ _ _ _ _ _ _ e _ _ (rw (c.new.ensures, placed _ _ _ _ _ _ _ _ e c.args.figures.now c.requires) at c.walk_rounds.ensures)
+pub returns-clause-walked : goal.returns-clause-walked
+returns-clause-walked c = let e = c.in_ok-rounds.ensures in walked _ _ _ _ _ _ _ _ e _ (rw (c.new.ensures, placed _ _ _ _ _ _ _ _ e c.args.figures.now c.requires) at c.walk_rounds.ensures)

@@ -8,17 +8,17 @@ use Rattle.plan_reader.proofs.read_round.Goals as goal
 pub returns-in_err-index-clause-rounds_as : goal.returns-in_err-index-clause-rounds_as
 unfolding id_at
 returns-in_err-index-clause-rounds_as g c = let p = c.requires in
-    rw c.from_residual.ensures (unknown p.rounds_read p.k_bound.0 _ (c.in_err-index.ensures.value ∙ ap (index_of c.args.sheet.now) c.u32_at.ensures) (omega arith))
+    rw c.from_residual.ensures (unknown p.rounds_read p.k_bound.0 _ (c.in_err-index.ensures.value ∙ ap (index_of c.args.sheet.now) (rw c.round_place-place.ensures at c.u32_at.ensures)) (omega arith))
 
 pub returns-in_err-end-clause-rounds_as : goal.returns-in_err-end-clause-rounds_as
 unfolding first_stop_at
 returns-in_err-end-clause-rounds_as g c = let p = c.requires in
-    rw c.from_residual-in_err-end.ensures (broken p.rounds_read p.k_bound.0 (rw (c.u16_at-first.ensures, c.in_err-end.was) at c.follow.ensures))
+    rw c.from_residual-in_err-end.ensures (broken p.rounds_read p.k_bound.0 (rw (c.u16_at-first.ensures, c.round_place-place.ensures, c.in_err-end.was) at c.follow.ensures))
 
 pub returns-clause-rounds_as : goal.returns-clause-rounds_as
 unfolding id_at first_stop_at
 returns-clause-rounds_as g c = let p = c.requires in
     let r = p.reader_tables in
-    let f = rw (c.u16_at-first.ensures, c.in_ok-end.was) at c.follow.ensures in
+    let f = rw (c.u16_at-first.ensures, c.round_place-place.ensures, c.in_ok-end.was) at c.follow.ensures in
     let i = c.in_ok-index.ensures in
-    goes_on p.rounds_read p.k_bound.0 c.follow.new.stops c.in_ok-end.end c.in_ok-index.index f r.rows c.follow.auto.stops (omega (arith, r)) (omega (arith, r)) (i.value ∙ ap (index_of c.args.sheet.now) c.u32_at.ensures) i.bound
+    goes_on p.rounds_read p.k_bound.0 c.follow.new.stops c.in_ok-end.end c.in_ok-index.index f r.rows c.follow.auto.stops (omega (arith, r)) (omega (arith, r)) (i.value ∙ ap (index_of c.args.sheet.now) (rw c.round_place-place.ensures at c.u32_at.ensures)) i.bound

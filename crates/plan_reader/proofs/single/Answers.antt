@@ -1,9 +1,8 @@
 -- `plan_reader::single` meets its contract. Assumes nothing.
 use mathlib.Core.Path.{refl}
 use Prim.Native.Nat.{◌<◌}
-use native.Mathlib.Omega.{arith}
 use lib.ListN.{length}
-use Rattle.plan_reader.proofs.Marking.{begins, again, goes_on, ends}
+use Rattle.plan_reader.proofs.Marking.{begins, again, goes_on}
 use Rattle.plan_reader.proofs.single.Goals as goal
 
 pub loop-row-init : goal.loop-row-init

@@ -1,6 +1,5 @@
 -- `insertion::places::try_place` meets its contract. Assumes nothing.
-use mathlib.Core.Path.{ap, ◌∙◌}
-use borrow.Author.Tests.{not-false}
+use mathlib.Core.Path.{sym, ap, ◌∙◌}
 use Rattle.insertion.specs.Place.{better_place}
 use Rattle.insertion.proofs.Trying.{slides, routed}
 use Rattle.insertion.proofs.Judged.{soft_told}
@@ -14,4 +13,4 @@ weigh-choice-requires b c = let g = slides _ _ _ _ c.requires.trial _ _ c.requir
 }
 
 pub returns : goal.returns
-returns b c = let a = c.args in let g = slides _ _ _ _ c.requires.trial _ _ c.requires.prices_value.1.1 c.slide.ensures in let n = c.towards-next.ensures in rw c.walked_to.ensures (record { choice_value = c.weigh-choice.ensures ∙ ap (better_place a.walked.tried.choice a.j a.k) (soft_told _ _ a.route.now a.row a.k _ _ (not-false _ c.if-not-terms.false) c.requires.prices_value.0 g.holds); trial_2 = g; knows_2 = (n.knows_2, n.reach_2) })
+returns b c = let a = c.args in let g = slides _ _ _ _ c.requires.trial _ _ c.requires.prices_value.1.1 c.slide.ensures in let n = c.towards-next.ensures in rw c.walked_to.ensures (record { choice_value = c.weigh-choice.ensures ∙ ap (better_place a.walked.tried.choice a.j a.k) (soft_told _ _ a.route.now a.row a.k _ _ (sym c.in-Some.is ∙ c.requires.prices_value.0) g.holds); trial_2 = g; knows_2 = (n.knows_2, n.reach_2) })

@@ -4,4 +4,4 @@ use Rattle.sheet.proofs.Sheet.demand.Goals as goal
 
 pub returns : goal.returns
 unfolding demand_of
-returns c = rw (← c.self.view_is) c.u32_at.ensures
+returns c = rw (← c.self.view_is) (rw c.row_place.ensures at c.u32_at.ensures)

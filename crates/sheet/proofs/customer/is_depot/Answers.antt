@@ -4,4 +4,4 @@ use Rattle.sheet.proofs.customer.is_depot.Goals as goal
 
 pub returns : goal.returns
 unfolding row_marks
-returns c = rw (c.has_mark.ensures, c.u32_at.ensures)
+returns c = rw (c.has_mark.ensures, c.u32_at.ensures, c.row_place.ensures)

@@ -5,4 +5,4 @@ use Rattle.sheet_refusal.proofs.table.same_id.Goals as goal
 
 pub returns : goal.returns
 unfolding same_id id_field
-returns c = rw (c.u32_at-2.ensures, c.u32_at.ensures, c.rows.ensures)
+returns c = rw (c.u32_at-2.ensures, c.u32_at.ensures, c.vehicle_place-2.ensures, c.vehicle_place.ensures, c.rows-rows.ensures)

@@ -1,5 +1,6 @@
 -- `solomon_import::writing::write_records` meets its contract (`Together.antt`). Assumes nothing.
-use mathlib.Core.Path.{sym, ap, ◌∙◌, subst}
+use Prim.Native.Nat.{◌+◌, ◌*◌}
+use mathlib.Core.Path.{◌≡◌, sym, ap, ◌∙◌, subst}
 use mir.Syntax.{w32}
 use mir.ValLaws.{to_z-of_z}
 use Rattle.solomon_import.specs.Import.{vehicle_fields_of}
@@ -24,20 +25,19 @@ write_rows-requires c = let f = c.first_row_line-first in
       from_in_bounds_2 = rows_fit c.args.text.now c.args.sheet.now c.args.rows f.result (taken c.args.text.now c.requires.text_value.0) c.requires.text_value.1 c.requires.rows_in_bounds f.ensures.result_value c.put_header.new.sheet c.put_header.ensures;
     }
 
-pub overflow_mul-rows : goal.overflow_mul-rows
-overflow_mul-rows c = (let f = few_rows c.args.text.now c.args.sheet.now c.args.rows 0 (taken c.args.text.now c.requires.text_value.0) c.requires.text_value.1 c.requires.rows_in_bounds in omega arith)
-
-pub overflow_add-rows : goal.overflow_add-rows
-overflow_add-rows c = (let f = few_rows c.args.text.now c.args.sheet.now c.args.rows 0 (taken c.args.text.now c.requires.text_value.0) c.requires.text_value.1 c.requires.rows_in_bounds in omega arith)
+pub vehicle_place-requires : goal.vehicle_place-requires
+vehicle_place-requires c = (let f = few_rows c.args.text.now c.args.sheet.now c.args.rows 0 (taken c.args.text.now c.requires.text_value.0) c.requires.text_value.1 c.requires.rows_in_bounds in (omega arith, omega arith))
 
 pub put_vehicle-requires : goal.put_vehicle-requires
 put_vehicle-requires c = let f = c.first_row_line-first in
+    let place : c.vehicle_place.result ≡ 16 + 48 * c.args.rows = omega (arith, c.vehicle_place.ensures) in
     record {
-      vehicle_size_in_bounds = vehicle_fits c.args.text.now c.args.sheet.now c.args.rows f.result (taken c.args.text.now c.requires.text_value.0) c.requires.text_value.1 c.requires.rows_in_bounds f.ensures.result_value c.put_header.new.sheet c.put_header.ensures c.write_rows.new.sheet c.write_rows.ensures;
+      vehicle_size_in_bounds = rw place (vehicle_fits c.args.text.now c.args.sheet.now c.args.rows f.result (taken c.args.text.now c.requires.text_value.0) c.requires.text_value.1 c.requires.rows_in_bounds f.ensures.result_value c.put_header.new.sheet c.put_header.ensures c.write_rows.new.sheet c.write_rows.ensures);
       vehicle_numbered = subst VehicleNumbered (sym (c.vehicle_fields-vehicle.ensures ∙ ap vehicle_fields_of (to_z-of_z w32 c.capacity.result (record { sfits = c.capacity.type_inv })))) (vehicle_numbered c.capacity.result);
     }
 
 pub returns : goal.returns
 returns c = let f = c.first_row_line-first in
+    let place : c.vehicle_place.result ≡ 16 + 48 * c.args.rows = omega (arith, c.vehicle_place.ensures) in
     records_put c.args.text.now c.args.sheet.now c.args.rows f.result (taken c.args.text.now c.requires.text_value.0) c.requires.text_value.1 c.requires.rows_in_bounds f.ensures.result_value c.put_header.new.sheet c.put_header.ensures c.write_rows.new.sheet c.write_rows.ensures c.put_vehicle.new.sheet c.vehicle_fields-vehicle.result c.capacity.result
-    c.capacity.ensures (c.vehicle_fields-vehicle.ensures ∙ ap vehicle_fields_of (to_z-of_z w32 c.capacity.result (record { sfits = c.capacity.type_inv }))) c.put_vehicle.ensures
+    c.capacity.ensures (c.vehicle_fields-vehicle.ensures ∙ ap vehicle_fields_of (to_z-of_z w32 c.capacity.result (record { sfits = c.capacity.type_inv }))) (rw place at c.put_vehicle.ensures)

@@ -1,11 +1,8 @@
 -- `solomon_text::words::holds_numbers` meets its contract. Assumes nothing.
-use Prim.Native.Nat.{◌-◌}
+use mathlib.Core.Path.{◌≡◌}
 use lib.ListN.{length}
-use Rattle.solomon_text.proofs.WordWalk.{Counting}
+use Rattle.solomon_text.proofs.WordWalk.{WholeSoFar}
 use Rattle.solomon_text.proofs.words.holds_numbers.Given as goal
 
-abbrev pub invariant-loop-at : goal.invariant-loop-at
-invariant-loop-at l = Counting l.line l.at l.count
-
-abbrev pub decreases-loop-at : goal.decreases-loop-at
-decreases-loop-at l = length l.line - l.at
+abbrev pub invariant-loop-word : goal.invariant-loop-word
+invariant-loop-word l = (l.count ≡ length l.yielded) × WholeSoFar l.line l.count
