@@ -68,7 +68,8 @@ pub fn clarke_wright_savings<const N: usize>(
     by_tables::<10201, 10201, N>(sheet, depot, vehicle, tables, filled, total)
 }
 
-// The same of at most 24 members, whose tables are a tenth as large: to set up the others takes longer than such a plan.
+// The same of at most 24 members, whose tables are a tenth as large: to set up the others takes longer than such a plan. That they
+// are no more is a clause, here and of who calls it: the members are a part of a table.
 pub fn clarke_wright_few<const N: usize>(
     sheet: &Sheet,
     depot: usize,

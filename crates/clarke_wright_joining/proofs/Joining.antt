@@ -14,6 +14,7 @@ use Rattle.sheet.specs.Laws.Finite.{demand_bounded}
 use Rattle.evaluation.specs.Routed.{Routed}
 use Rattle.constructive.specs.declared.terms.Terms.{Terms}
 use Rattle.constructive.specs.Load.{load_of}
+use Rattle.constructive.proofs.Loading.{load_few}
 use Rattle.clarke_wright_savings.specs.Savings.{route_at, apart, joined, only_if, joined_passes, merge_passes, passing, after_merge}
 use Rattle.clarke_wright_savings.specs.Routes.{Slots}
 use Rattle.clarke_wright_savings.specs.Laws.Joined.{JoinedStops}
@@ -32,11 +33,6 @@ two_few (r ∷ rs) zero zero n = absurd (n refl)
 two_few (r ∷ rs) zero (suc b) n = let e = route_few rs b in omega arith
 two_few (r ∷ rs) (suc a) zero n = let e = route_few rs a in omega arith
 two_few (r ∷ rs) (suc a) (suc b) n = let e = two_few rs a b (λ k. n (ap suc k)) in omega arith
-
-load_most : (s : List ℕ) → Accepted s → (rows : List ℕ) → Every (λ (i : ℕ). i < rows_of s) rows → load_of s rows ≤ 1000000 * length rows
-unfolding load_of
-load_most s a [] e = zero-le
-load_most s a (i ∷ is) e = omega (arith, demand_bounded s a i e.0, load_most s a is e.1)
 
 -- ---- where two rounds stay apart
 pub only_apart : (b : Bool) → only_if b apart ≡ apart
@@ -71,7 +67,7 @@ module _ {s : List ℕ} {n : ℕ} {cells lens loads slots : List ℕ} (g : Slott
 
   pub loads_fit : (a b : ℕ) → (a ≡ b → ⊥) → a < n → b < n → get_or loads a 0 + get_or loads b 0 < 0x1_0000_0000
   loads_fit a b d p q =
-      omega (arith, g.load a p, g.load b q, load_most s g.routes.sheet (route_at routes a) (rows_at a p), load_most s g.routes.sheet (route_at routes b) (rows_at b q), stops_fit a b d)
+      omega (arith, g.load a p, g.load b q, load_few s g.routes.sheet (route_at routes a) (rows_at a p), load_few s g.routes.sheet (route_at routes b) (rows_at b q), stops_fit a b d)
 
   short_at : (k : ℕ) → k < n → get_or lens k 0 ≤ 101
   short_at k h = omega (arith, g.long k h, route_few routes k, g.routes.few)

@@ -97,17 +97,17 @@ fn is_passed(sheet: &Sheet, terms: Terms, into: &[u16], from: &[u16], stops: &[u
 pub fn merge_by<const CELLS: usize>(
     sheet: &Sheet,
     terms: Terms,
-    count: usize,
     way: Way,
     slots: &mut RouteSlots<CELLS>,
     trial: &mut [u16],
 )
-    requires slotted { Slotted sheet.now count slots.old.cells slots.old.lens slots.old.loads slots.old.slots }
+    requires slotted { Slotted sheet.now slots.old.count slots.old.cells slots.old.lens slots.old.loads slots.old.slots }
     requires depot_bound { terms.depot < rows_of sheet.now }
-    requires way_slots { WaySlots (slots_in count slots.old.cells slots.old.lens) way }
+    requires way_slots { WaySlots (slots_in slots.old.count slots.old.cells slots.old.lens) way }
     requires most_rows_in_bounds { most_rows ≤ length trial.old }
-    ensures slotted_2 { Slotted sheet.now count slots.new.cells slots.new.lens slots.new.loads slots.new.slots }
-    ensures lens_after { slots_in count slots.new.cells slots.new.lens ≡ after_merge (slots_in count slots.old.cells slots.old.lens) (passing sheet.now terms (slots_in count slots.old.cells slots.old.lens) (meant (slots_in count slots.old.cells slots.old.lens) way)) }
+    ensures count_kept { slots.new.count ≡ slots.old.count }
+    ensures slotted_2 { Slotted sheet.now slots.new.count slots.new.cells slots.new.lens slots.new.loads slots.new.slots }
+    ensures lens_after { slots_in slots.new.count slots.new.cells slots.new.lens ≡ after_merge (slots_in slots.old.count slots.old.cells slots.old.lens) (passing sheet.now terms (slots_in slots.old.count slots.old.cells slots.old.lens) (meant (slots_in slots.old.count slots.old.cells slots.old.lens) way)) }
 {
     let Some((into, from, back, forth)) = way else {
         return;

@@ -17,56 +17,54 @@ use sheet::Sheet;
 fn merge<const CELLS: usize>(
     sheet: &Sheet,
     terms: Directed,
-    count: usize,
     i: u16,
     j: u16,
     slots: &mut RouteSlots<CELLS>,
     trial: &mut [u16],
 )
-    requires slotted { Slotted sheet.now count slots.old.cells slots.old.lens slots.old.loads slots.old.slots }
+    requires slotted { Slotted sheet.now slots.old.count slots.old.cells slots.old.lens slots.old.loads slots.old.slots }
     requires depot_bound { terms.common.depot < rows_of sheet.now }
     requires i_bound { (i < rows_of sheet.now) × (j < rows_of sheet.now) }
     requires most_rows_in_bounds { most_rows ≤ length trial.old }
-    ensures slotted_2 { Slotted sheet.now count slots.new.cells slots.new.lens slots.new.loads slots.new.slots }
-    ensures lens_after { slots_in count slots.new.cells slots.new.lens ≡ after_merge (slots_in count slots.old.cells slots.old.lens) (merge_of sheet.now terms (slots_in count slots.old.cells slots.old.lens) i j) }
+    ensures count_kept { slots.new.count ≡ slots.old.count }
+    ensures slotted_2 { Slotted sheet.now slots.new.count slots.new.cells slots.new.lens slots.new.loads slots.new.slots }
+    ensures lens_after { slots_in slots.new.count slots.new.cells slots.new.lens ≡ after_merge (slots_in slots.old.count slots.old.cells slots.old.lens) (merge_of sheet.now terms (slots_in slots.old.count slots.old.cells slots.old.lens) i j) }
 {
     let a = slots.slots[i as usize] as usize;
     let b = slots.slots[j as usize] as usize;
     if a == b
-        || a == count
-        || b == count
+        || a == slots.count
+        || b == slots.count
         || terms.common.capacity < slots.loads[a] + slots.loads[b]
     {
         return;
     }
     let (ri, rj) = (slots.route(a), slots.route(b));
     let way = clarke_wright_joining::way_between(terms.directed, i, j, a, b, ri, rj);
-    clarke_wright_joining::merge_by(sheet, terms.common, count, way, slots, trial);
+    clarke_wright_joining::merge_by(sheet, terms.common, way, slots, trial);
 }
 
-// The first n savings at the places in `entries`, one after another.
+// The savings at the places in `entries`, one after another.
 pub fn merge_all<const PAIRS: usize, const CELLS: usize>(
     sheet: &Sheet,
     terms: Directed,
-    count: usize,
     savings: &Savings<PAIRS>,
-    n: usize,
     slots: &mut RouteSlots<CELLS>,
 )
-    requires slotted { Slotted sheet.now count slots.old.cells slots.old.lens slots.old.loads slots.old.slots }
+    requires slotted { Slotted sheet.now slots.old.count slots.old.cells slots.old.lens slots.old.loads slots.old.slots }
     requires depot_bound { terms.common.depot < rows_of sheet.now }
-    requires n_in_bounds { n ≤ PAIRS }
-    requires legs { Legs sheet.now PAIRS savings.now.from savings.now.to (take n savings.now.entries) }
-    ensures slotted_2 { Slotted sheet.now count slots.new.cells slots.new.lens slots.new.loads slots.new.slots }
-    ensures lens_after { slots_in count slots.new.cells slots.new.lens ≡ merged_in sheet.now terms savings.now.from savings.now.to (take n savings.now.entries) (slots_in count slots.old.cells slots.old.lens) }
+    requires count_in_bounds { savings.now.count ≤ PAIRS }
+    requires legs { Legs sheet.now PAIRS savings.now.from savings.now.to (take savings.now.count savings.now.entries) }
+    ensures count_kept { slots.new.count ≡ slots.old.count }
+    ensures slotted_2 { Slotted sheet.now slots.new.count slots.new.cells slots.new.lens slots.new.loads slots.new.slots }
+    ensures lens_after { slots_in slots.new.count slots.new.cells slots.new.lens ≡ merged_in sheet.now terms savings.now.from savings.now.to (take savings.now.count savings.now.entries) (slots_in slots.old.count slots.old.cells slots.old.lens) }
 {
     let mut trial = [0u16; sheet::MOST_ROWS];
-    for &entry in &savings.entries[..n] {
+    for &entry in &savings.entries[..savings.count] {
         let e = entry as usize;
         merge(
             sheet,
             terms,
-            count,
             savings.from[e],
             savings.to[e],
             slots,

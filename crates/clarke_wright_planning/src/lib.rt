@@ -31,13 +31,14 @@ fn merge_members<'a, const PAIRS: usize, const CELLS: usize>(
     requires roomy { Roomy (length members.now) slots.old.cells slots.old.lens slots.old.loads slots.old.slots }
     requires most_rows_in_bounds { most_rows ≤ length aside.old }
     ensures value { result.now ≡ aside_of sheet.now terms.common members.now }
-    ensures slotted { Slotted sheet.now (length members.now) slots.new.cells slots.new.lens slots.new.loads slots.new.slots }
-    ensures lens_after { slots_in (length members.now) slots.new.cells slots.new.lens ≡ routes_of sheet.now terms members.now }
+    ensures count_after { slots.new.count ≡ length members.now }
+    ensures slotted { Slotted sheet.now slots.new.count slots.new.cells slots.new.lens slots.new.loads slots.new.slots }
+    ensures lens_after { slots_in slots.new.count slots.new.cells slots.new.lens ≡ routes_of sheet.now terms members.now }
 {
     // The stops of the rounds, none of which has started, lend their room to the sort.
-    let n = savings.rank(sheet, terms, members, &mut slots.cells);
+    savings.rank(sheet, terms, members, &mut slots.cells);
     let left = slots.start(sheet, terms.common, members, aside);
-    clarke_wright_merging::merge_all(sheet, terms, members.len(), savings, n, slots);
+    clarke_wright_merging::merge_all(sheet, terms, savings, slots);
     left
 }
 
@@ -67,5 +68,5 @@ pub fn plan_by<const PAIRS: usize, const CELLS: usize, const N: usize>(
     let terms = terms::directed_of(sheet, depot, vehicle, members);
     let mut table = [0u16; sheet::MOST_ROWS];
     let aside = merge_members(sheet, terms, members, savings, slots, &mut table);
-    slots.lay(total - start, aside, vehicle, tables, filled)
+    slots.lay(aside, vehicle, tables, filled)
 }

@@ -119,13 +119,13 @@ module _
         (grown ∙ rw e (append-nil (savings_from s t i (take k members))))
 
     pub from_takes : saves s t i (get_or members k 0) ≡ true
-        → (from' to' : List ℕ) (values' : List Float) (entries' : List ℕ)
-        → SavingsPushed from to values entries end (saving_of s t.common i (get_or members k 0) ∷ []) from' to' values' entries'
-        → Gathering (savings_from s t i) members from₀ to₀ values₀ entries₀ at from' to' values' entries' (end + 1) (k + 1)
+        → (from' to' : List ℕ) (values' : List Float) (entries' : List ℕ) (end' : ℕ)
+        → end' ≡ end + 1 → SavingsPushed from to values entries end (saving_of s t.common i (get_or members k 0) ∷ []) from' to' values' entries'
+        → Gathering (savings_from s t i) members from₀ to₀ values₀ entries₀ at from' to' values' entries' end' (k + 1)
     unfolding savings_from
-    from_takes e from' to' values' entries' u =
+    from_takes e from' to' values' entries' end' l u =
         takes g h (saving_of s t.common i (get_or members k 0) ∷ []) (grown ∙ rw e)
-        from' to' values' entries' (end + 1) refl u
+        from' to' values' entries' end' l u
 
 -- ---- of all legs
 of_append : (s : List ℕ) (t : Directed) (members xs ys : List ℕ) → savings_of s t members (xs ++ ys) ≡ savings_of s t members xs ++ savings_of s t members ys

@@ -1,38 +1,37 @@
--- One turn of a search for what fails a test, over the rows left: it goes on, finds one, or ends. And the rows behind one. Assumes nothing.
-use mathlib.Core.Path.{◌≡◌, ◌∙◌}
-use Prim.Native.Nat.{ℕ, suc, ◌+◌, ◌-◌, ◌≤◌, ◌<◌}
-use native.Mathlib.Numerals.{add-one}
+-- A test of all rows, said of them one after another. Assumes nothing.
+use mathlib.Core.Path.{◌≡◌, refl, sym, ap, ◌∙◌}
+use Prim.Native.Nat.{ℕ, ◌+◌, ◌-◌, ◌≤◌, ◌<◌}
 use native.Mathlib.Omega.{arith}
-use mathlib.Core.Bool.{Bool, true, false, ◌&&◌}
 use mathlib.Core.List.{List, [], ◌∷◌}
-use lib.ListN.{length, drop, get_or}
-use lib.Seq.{drop-cons, drop-length}
+use lib.Ieee.{eq}
+use lib.ListN.{length, take, drop, length-drop}
+use lib.Seq.{drop-drop, get_or-drop}
+use Rattle.std.proofs.lemmas.List.{take_rest}
+use Rattle.sheet.specs.Fields.{rows_of}
+use Rattle.evaluation.specs.Routed.{Routed}
+use Rattle.std.specs.List.{list_all, enumerate_from}
+use Rattle.sheet.specs.Values.{distance_of}
+use Rattle.clarke_wright_savings.specs.Savings.{same_back, symmetric}
 
--- what holds at the head of the loop: all is answered by the rows from i on
-pub record Comparing (all : List ℕ → Bool) (answer : Bool) (rows : List ℕ) (i end : ℕ) : Type 0 where
-  pub last : end ≡ length rows
-  pub within : i ≤ end
-  pub same : answer ≡ all (drop i rows)
+module _ (s : List ℕ) where
+  pub same_over : (i : ℕ) (js : List ℕ) → list_all (λ (j : ℕ). eq (distance_of s i j) (distance_of s j i)) js ≡ same_back s i js
+  unfolding same_back
+  same_over i [] = refl
+  same_over i (j ∷ js) = rw (same_over i js)
 
--- a test of all rows is one of each, with the rows behind it
-module _
-    (all : List ℕ → Bool)
-    (passes : ℕ → List ℕ → Bool)
-    (none : all [] ≡ true)
-    (each : (row : ℕ) (rows : List ℕ) → all (row ∷ rows) ≡ passes row rows && all rows)
-    (answer : Bool)
-    (rows : List ℕ)
-    (i end : ℕ)
-    (g : Comparing all answer rows i end)
-  where
-    next : i < end → answer ≡ passes (get_or rows i 0) (drop (i + 1) rows) && all (drop (i + 1) rows)
-    next h = let k : i < length rows = omega (arith, g.last) in g.same ∙ rw (add-one, drop-cons rows i 0) (each (get_or rows i 0) (drop (suc i) rows))
+  -- the rows from the i-th on
+  symmetric_from : (rows : List ℕ) (i : ℕ) (is : List ℕ) → drop i rows ≡ is → list_all (λ (p : ℕ × ℕ). same_back s p.1 (drop (p.0 + 1) rows)) (enumerate_from i is) ≡ symmetric s is
+  unfolding symmetric
+  symmetric_from rows i [] e = refl
+  symmetric_from rows i (row ∷ is) e =
+      let rest : drop (i + 1) rows ≡ is = sym (drop-drop 1 i rows) ∙ ap (drop 1) e in
+      rw (rest, symmetric_from rows (i + 1) is rest)
 
-    pub goes_on : i < end → passes (get_or rows i 0) (drop (i + 1) rows) ≡ true → Comparing all answer rows (i + 1) end
-    goes_on h e = record { last = g.last; within = omega arith; same = next h ∙ rw e }
+  pub symmetric_over : (rows : List ℕ) → list_all (λ (p : ℕ × ℕ). same_back s p.1 (drop (p.0 + 1) rows)) (enumerate_from 0 rows) ≡ symmetric s rows
+  symmetric_over rows = symmetric_from rows 0 rows refl
 
-    pub fails : i < end → passes (get_or rows i 0) (drop (i + 1) rows) ≡ false → answer ≡ false
-    fails h e = next h ∙ rw e
-
-    pub ends : end ≤ i → answer ≡ true
-    ends h = let e : i ≡ length rows = omega (arith, g.last, g.within) in g.same ∙ rw (e, drop-length rows) none
+-- the rows behind one are a round from it too
+pub behind : {s : List ℕ} {depot : ℕ} {rows : List ℕ} → Routed s depot rows → (row : ℕ) → row < rows_of s → (i : ℕ) → i ≤ length rows → Routed s row (take (length rows - i) (drop i rows))
+behind {s} {depot} {rows} p row home i h =
+    let short : length (drop i rows) ≡ length rows - i = length-drop i rows in
+    rw take_rest (record { sheet = p.sheet; home = home; few = omega (arith, short, p.few); row = λ k l. rw (get_or-drop _ _ _ _) (p.row (i + k) (omega (arith, short))) })

@@ -16,15 +16,15 @@ use constructive::terms::Terms;
 use sheet::Sheet;
 use terms::Directed;
 
-// The savings: from where, to where, what each saves, and the places in which they are tried. How many there are is what `rank`
-// answers: a Vec would know it, and takes a heap. The values stand by themselves, as the keys that are sorted by; and the rows from
-// and to in two tables, as the definition of the legs has them.
+// The savings: from where, to where, what each saves, the places in which they are tried, and how many there are. The values stand
+// by themselves, as the keys that are sorted by; and the rows from and to in two tables, as the definition of the legs has them.
 #[derive(Drop)]
 pub struct Savings<const N: usize> {
     pub from: [u16; N],
     pub to: [u16; N],
     pub values: [f64; N],
     pub entries: [u16; N],
+    pub count: usize,
 }
 
 // Whether a pair is met: once, unless legs have a direction.
@@ -50,45 +50,42 @@ impl<const N: usize> Savings<N> {
     pub fn new() -> Self
         ensures places { (result.from ≡ replicate N 0) × (result.to ≡ replicate N 0) × (result.entries ≡ replicate N 0) }
         ensures values { result.values ≡ replicate N (of_bits binary64 0) }
+        ensures none_yet { result.count ≡ 0 }
     {
         Savings {
             from: [0; N],
             to: [0; N],
             values: [0.0; N],
             entries: [0; N],
+            count: 0,
         }
     }
 
     // Adds a saving.
-    fn push(&mut self, at: usize, start: u16, end: u16, value: f64)
-        requires at_in_bounds { at < N }
-        requires at_bound { at < 0x10000 }
-        ensures { SavingsPushed self.old.from self.old.to self.old.values self.old.entries at (record { from = start; to = end; value = value } ∷ []) self.new.from self.new.to self.new.values self.new.entries }
+    fn push(&mut self, start: u16, end: u16, value: f64)
+        requires count_in_bounds { self.old.count < N }
+        requires count_bound { self.old.count < 0x10000 }
+        ensures count_after { self.new.count ≡ self.old.count + 1 }
+        ensures savings_pushed { SavingsPushed self.old.from self.old.to self.old.values self.old.entries self.old.count (record { from = start; to = end; value = value } ∷ []) self.new.from self.new.to self.new.values self.new.entries }
     {
+        let at = self.count;
         self.from[at] = start;
         self.to[at] = end;
         self.values[at] = value;
         self.entries[at] = at as u16;
+        self.count = at + 1;
     }
 
-    // Adds the savings of the legs from a member behind the others; answers how many there are then.
-    fn push_from(
-        &mut self,
-        sheet: &Sheet,
-        terms: Directed,
-        start: u16,
-        members: &[u16],
-        at: usize,
-    ) -> usize
+    // Adds the savings of the legs from a member behind the others.
+    fn push_from(&mut self, sheet: &Sheet, terms: Directed, start: u16, members: &[u16])
         requires routed { Routed sheet.now terms.common.depot members.now }
         requires start_bound { start < rows_of sheet.now }
-        requires members_in_bounds { at + length members.now ≤ N }
-        requires members_bound { at + length members.now < 0x10000 }
-        ensures value { result ≡ at + length (savings_from sheet.now terms start members.now) }
-        ensures savings_pushed { SavingsPushed self.old.from self.old.to self.old.values self.old.entries at (savings_from sheet.now terms start members.now) self.new.from self.new.to self.new.values self.new.entries }
+        requires members_in_bounds { self.old.count + length members.now ≤ N }
+        requires members_bound { self.old.count + length members.now < 0x10000 }
+        ensures count_after { self.new.count ≡ self.old.count + length (savings_from sheet.now terms start members.now) }
+        ensures savings_pushed { SavingsPushed self.old.from self.old.to self.old.values self.old.entries self.old.count (savings_from sheet.now terms start members.now) self.new.from self.new.to self.new.values self.new.entries }
     {
         let home = sheet.distance(start as usize, terms.common.depot);
-        let mut end = at;
         for &other in members {
             if !is_paired(terms.directed, start, other) {
                 continue;
@@ -97,43 +94,37 @@ impl<const N: usize> Savings<N> {
             if !(0.0 < value) {
                 continue;
             }
-            self.push(end, start, other, value);
-            end += 1;
+            self.push(start, other, value);
         }
-        end
     }
 
-    // The savings of all legs between members; answers how many.
-    fn push_all(&mut self, sheet: &Sheet, terms: Directed, members: &[u16]) -> usize
+    // The savings of all legs between members, and none from before.
+    fn push_all(&mut self, sheet: &Sheet, terms: Directed, members: &[u16])
         requires routed { Routed sheet.now terms.common.depot members.now }
         requires members_in_bounds { length members.now * length members.now ≤ N }
-        ensures value { result ≡ length (savings_of sheet.now terms members.now members.now) }
+        ensures count_after { self.new.count ≡ length (savings_of sheet.now terms members.now members.now) }
         ensures savings_pushed { SavingsPushed self.old.from self.old.to self.old.values self.old.entries 0 (savings_of sheet.now terms members.now members.now) self.new.from self.new.to self.new.values self.new.entries }
     {
-        let mut end: usize = 0;
+        self.count = 0;
         for &start in members {
-            end = self.push_from(sheet, terms, start, members, end);
+            self.push_from(sheet, terms, start, members);
         }
-        end
     }
 
-    // The savings, and in `entries` their places, greatest first; answers how many.
-    pub fn rank(
-        &mut self,
-        sheet: &Sheet,
-        terms: Directed,
-        members: &[u16],
-        scratch: &mut [u16],
-    ) -> usize
+    // The savings, and in `entries` their places, greatest first.
+    pub fn rank(&mut self, sheet: &Sheet, terms: Directed, members: &[u16], scratch: &mut [u16])
         requires routed { Routed sheet.now terms.common.depot members.now }
         requires members_in_bounds { length members.now * length members.now ≤ N }
         requires scratch_in_bounds { length members.now * length members.now ≤ length scratch.old }
-        ensures value { result ≡ length (savings_of sheet.now terms members.now members.now) }
+        ensures count_after { self.new.count ≡ length (savings_of sheet.now terms members.now members.now) }
         ensures listed { Listed (savings_of sheet.now terms members.now members.now) self.new.from self.new.to self.new.values }
-        ensures entries_after { take result self.new.entries ≡ ranked (savings_of sheet.now terms members.now members.now) }
+        ensures entries_after { take self.new.count self.new.entries ≡ ranked (savings_of sheet.now terms members.now members.now) }
     {
-        let count = self.push_all(sheet, terms, members);
-        sorting::sort_descending(&self.values[..count], &mut self.entries[..count], scratch);
-        count
+        self.push_all(sheet, terms, members);
+        sorting::sort_descending(
+            &self.values[..self.count],
+            &mut self.entries[..self.count],
+            scratch,
+        );
     }
 }

@@ -20,13 +20,10 @@ fn same_back(sheet: &Sheet, row: usize, others: &[u16]) -> bool
     requires { Routed sheet.now row others.now }
     ensures { result ≡ same_back sheet.now row others.now }
 {
-    for &other in others {
+    others.iter().all(|&other| {
         let there = sheet.distance(row, other as usize);
-        if there != sheet.distance(other as usize, row) {
-            return false;
-        }
-    }
-    true
+        there == sheet.distance(other as usize, row)
+    })
 }
 
 // Whether the distances among the depot and its members are symmetric.
@@ -34,15 +31,11 @@ fn symmetric_among(sheet: &Sheet, depot: usize, members: &[u16]) -> bool
     requires { Routed sheet.now depot members.now }
     ensures { result ≡ symmetric sheet.now (depot ∷ members.now) }
 {
-    if !same_back(sheet, depot, members) {
-        return false;
-    }
-    for (i, &row) in members.iter().enumerate() {
-        if !same_back(sheet, row as usize, &members[i + 1..]) {
-            return false;
-        }
-    }
-    true
+    same_back(sheet, depot, members)
+        && members.iter().enumerate().all(|(i, &row)| {
+            let behind = &members[i + 1..];
+            same_back(sheet, row as usize, behind)
+        })
 }
 
 // The terms of a depot with its members, all of whose rounds a vehicle makes.

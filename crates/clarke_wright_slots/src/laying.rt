@@ -12,19 +12,18 @@ impl<const CELLS: usize> RouteSlots<CELLS> {
     // The slots that have stops, in order, each a round of the vehicle, behind what the tables hold.
     fn lay_slots<const N: usize>(
         &self,
-        count: usize,
         vehicle: u16,
         tables: &mut RouteTables<N>,
         filled: Filled,
     ) -> Filled
-        requires { Laying count self.now.cells self.now.lens tables.old.stops tables.old.ends tables.old.vehicles filled }
-        ensures value { result ≡ filled_by filled (rounds_of vehicle (slots_in count self.now.cells self.now.lens)) }
-        ensures stored { Stored tables.old.stops tables.old.ends tables.old.vehicles filled (record { rounds = rounds_of vehicle (slots_in count self.now.cells self.now.lens); aside = [] }) tables.new.stops tables.new.ends tables.new.vehicles }
+        requires { Laying self.now.count self.now.cells self.now.lens tables.old.stops tables.old.ends tables.old.vehicles filled }
+        ensures value { result ≡ filled_by filled (rounds_of vehicle (slots_in self.now.count self.now.cells self.now.lens)) }
+        ensures stored { Stored tables.old.stops tables.old.ends tables.old.vehicles filled (record { rounds = rounds_of vehicle (slots_in self.now.count self.now.cells self.now.lens); aside = [] }) tables.new.stops tables.new.ends tables.new.vehicles }
     {
         let cells = &self.cells[..];
         let mut done = filled;
         // k is the slot, by which the stops stand in `cells` too; over the lengths with `enumerate` each goal kept a `take`.
-        for k in 0..count {
+        for k in 0..self.count {
             let n = self.lens[k] as usize;
             if n == 0 {
                 continue;
@@ -41,18 +40,17 @@ impl<const CELLS: usize> RouteSlots<CELLS> {
     // The same, and behind the rounds the stops set aside.
     pub fn lay<const N: usize>(
         &self,
-        count: usize,
         aside: &[u16],
         vehicle: u16,
         tables: &mut RouteTables<N>,
         filled: Filled,
     ) -> Filled
-        requires laying { Laying count self.now.cells self.now.lens tables.old.stops tables.old.ends tables.old.vehicles filled }
-        requires aside_in_bounds { filled.routed + routed_stops (slots_in count self.now.cells self.now.lens) + length aside.now ≤ length tables.old.stops }
-        ensures value { result ≡ filled_by filled (rounds_of vehicle (slots_in count self.now.cells self.now.lens)) }
-        ensures stored { Stored tables.old.stops tables.old.ends tables.old.vehicles filled (record { rounds = rounds_of vehicle (slots_in count self.now.cells self.now.lens); aside = aside.now }) tables.new.stops tables.new.ends tables.new.vehicles }
+        requires laying { Laying self.now.count self.now.cells self.now.lens tables.old.stops tables.old.ends tables.old.vehicles filled }
+        requires aside_in_bounds { filled.routed + routed_stops (slots_in self.now.count self.now.cells self.now.lens) + length aside.now ≤ length tables.old.stops }
+        ensures value { result ≡ filled_by filled (rounds_of vehicle (slots_in self.now.count self.now.cells self.now.lens)) }
+        ensures stored { Stored tables.old.stops tables.old.ends tables.old.vehicles filled (record { rounds = rounds_of vehicle (slots_in self.now.count self.now.cells self.now.lens); aside = aside.now }) tables.new.stops tables.new.ends tables.new.vehicles }
     {
-        let done = self.lay_slots(count, vehicle, tables, filled);
+        let done = self.lay_slots(vehicle, tables, filled);
         let end = done.routed;
         let stops = &mut tables.stops[..];
         stops[end..end + aside.len()].copy_from_slice(aside);

@@ -11,15 +11,16 @@ ghost use Rattle.wire.specs.Bytes.{write};
 ghost use Rattle.clarke_wright_slots.specs.Slots.{slot_at, Roomy, or_reversed, end_to_end, SlotTaken};
 
 // The stops of slot k stand in `cells` from 101 times k on, `lens` says how many they are, `loads` what they ask of a vehicle,
-// and `slots` has the slot of each row. A row with no round has the number of slots there: a u16 for each row is all it takes.
-// That number goes beside them, as the number of members; without a heap there is no Vec of rounds. Lengths and loads are two
-// tables: a round is read by the one, a merge is tried by the other, and together they would take a third as much again.
+// `slots` has the slot of each row, and `count` slots are in use. A row with no round has `count` in `slots`: a u16 for each row is
+// all it takes. Without a heap there is no Vec of rounds. Lengths and loads are two tables: a round is read by the one, a merge is
+// tried by the other, and together they would take a third as much again.
 #[derive(Drop)]
 pub struct RouteSlots<const CELLS: usize> {
     pub cells: [u16; CELLS],
     pub lens: [u16; sheet::MOST_ROWS],
     pub loads: [u32; sheet::MOST_ROWS],
     pub slots: [u16; sheet::MOST_ROWS],
+    pub count: usize,
 }
 
 // Copies a round over the front of a table, last stop first. By a loop: `copy_from_slice` and `reverse` take twice the time.
@@ -68,13 +69,15 @@ fn relabel(slots: &mut [u16], route: &[u16], slot: u16)
 
 impl<const CELLS: usize> RouteSlots<CELLS> {
     pub fn new() -> Self
-        ensures { (n : ℕ) → n ≤ most_rows → n * most_rows ≤ CELLS → Roomy n result.cells result.lens result.loads result.slots }
+        ensures room { (n : ℕ) → n ≤ most_rows → n * most_rows ≤ CELLS → Roomy n result.cells result.lens result.loads result.slots }
+        ensures none_yet { result.count ≡ 0 }
     {
         RouteSlots {
             cells: [0; CELLS],
             lens: [0; sheet::MOST_ROWS],
             loads: [0; sheet::MOST_ROWS],
             slots: [0; sheet::MOST_ROWS],
+            count: 0,
         }
     }
 
@@ -99,6 +102,7 @@ impl<const CELLS: usize> RouteSlots<CELLS> {
         requires from_bound_2 { get_or self.old.loads into 0 + get_or self.old.loads from 0 < 0x1_0000_0000 }
         ensures slot_taken { SlotTaken self.old.cells self.old.lens self.old.loads self.old.slots into from stops.now self.new.cells self.new.lens self.new.loads self.new.slots }
         ensures slots_len { length self.new.slots ≡ length self.old.slots }
+        ensures count_kept { self.new.count ≡ self.old.count }
     {
         let at = into * sheet::MOST_ROWS;
         let start = from * sheet::MOST_ROWS;

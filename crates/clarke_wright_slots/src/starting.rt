@@ -37,8 +37,9 @@ impl<const CELLS: usize> RouteSlots<CELLS> {
         requires roomy { Roomy (length members.now) self.old.cells self.old.lens self.old.loads self.old.slots }
         requires most_rows_in_bounds { most_rows ≤ length aside.old }
         ensures value { result.now ≡ aside_of sheet.now terms members.now }
-        ensures slotted { Slotted sheet.now (length members.now) self.new.cells self.new.lens self.new.loads self.new.slots }
-        ensures lens_after { slots_in (length members.now) self.new.cells self.new.lens ≡ starts_of sheet.now terms members.now }
+        ensures count_after { self.new.count ≡ length members.now }
+        ensures slotted { Slotted sheet.now self.new.count self.new.cells self.new.lens self.new.loads self.new.slots }
+        ensures lens_after { slots_in self.new.count self.new.cells self.new.lens ≡ starts_of sheet.now terms members.now }
     {
         // No row has a round yet.
         self.slots.fill(members.len() as u16);
@@ -53,6 +54,7 @@ impl<const CELLS: usize> RouteSlots<CELLS> {
             aside[end] = row;
             end += 1;
         }
+        self.count = members.len();
         &aside[..end]
     }
 }

@@ -10,7 +10,7 @@ abbrev pub part : List ℕ → ℕ → ℕ → List ℕ
 part table start end = take (end - start) (drop start table)
 
 -- members of a depot on an accepted sheet: they stand in the table of stops, from `start` to `total`
--- (a clause, as that none stands twice in them, and `Room`: a Vec would know how far it is filled, and there is no heap)
+-- (a clause, as that none stands twice in them, and `Room`: facts of a table, of how far it is filled, and of the sheet)
 pub record Members (s : List ℕ) (depot : ℕ) (stops : List ℕ) (start total : ℕ) : Type 0 where
   pub routed : Routed s depot (part stops start total)
   pub from : start ≤ total

@@ -5,11 +5,11 @@ ghost use Rattle.wire.specs.Bytes.{write};
 ghost use Rattle.constructive.specs.Members.{part};
 ghost use Rattle.constructive.specs.Outcome.{start_in};
 
-// How far the tables are filled: so many rounds, with so many stops in all. It goes beside them, since a Vec, which would know how
-// long it is, takes a heap; and it is what each constructor answers. That there are no more rounds than stops is a clause of who
+// How far the tables are filled: so many rounds, with so many stops in all. It goes beside them: it is what each constructor
+// answers, and a caller that drops what was laid down goes on from the one before. That there are no more rounds than stops is a clause of who
 // adds rounds (`Room`): as an invariant it would have `close_round` ask for a stop in each round, which it does not. Nor does one
-// struct take the sheet, the depot, the tables, this and the end of the members, which go through all constructors: the first three
-// are each lent apart, and it would be made anew for every call.
+// struct take the sheet, the depot, the tables, this and the end of the members, which go through all constructors: the tables are
+// lent to be changed and the others are not, and every clause on them would go by one name more.
 #[derive(Clone, Copy, Default)]
 pub struct Filled {
     pub rounds: usize,
@@ -17,8 +17,8 @@ pub struct Filled {
 }
 
 // Tables of N stops and N rounds at most. Ends and vehicles are two of them: loads are summed by the one alone, and definitions and
-// proofs go by each. A part of one is taken of a slice of it: the borrow checker takes none of an array
-// whose length is a parameter.
+// proofs go by each. A part that does not begin at the front is taken of a slice of it: the borrow
+// checker takes none of an array whose length is a parameter.
 #[derive(Drop)]
 pub struct RouteTables<const N: usize> {
     pub stops: [u16; N],
@@ -70,7 +70,8 @@ impl<const N: usize> RouteTables<N> {
         self.ends[k] as usize
     }
 
-    // Its stops.
+    // Its stops. What asks for them and the vehicle takes each apart (`Round` of the definitions is both): a struct of a part that
+    // is lent would need an `impl Model` to be that, for four functions.
     pub fn route(&self, k: usize) -> &[u16]
         requires k_bound { k < length self.now.ends }
         requires route_within { (start_in self.now.ends k ≤ get_or self.now.ends k 0) × (get_or self.now.ends k 0 ≤ length self.now.stops) }

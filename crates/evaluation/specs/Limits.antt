@@ -29,6 +29,7 @@ abbrev pub returning_by : Option Float → Bool → RouteLimits → RouteLimits
 returning_by due home l = record { max_distance = l.max_distance; max_duration = lower_of l.max_duration due; rest = l.rest; at_home = home }
 
 -- read from a sheet: the vehicle is told by its index, and its depot is its own
+-- (that the sheet has a row is a clause: one of 0 rows counts a depot too)
 unfoldable pub limits_at : List ℕ → ℕ → RouteLimits
 limits_at s v = returning_by (latest_return (stop_of s (vehicle_of s v).depot).gate) (rests_home_at s v) (limits_of (vehicle_of s v))
 

@@ -24,15 +24,10 @@ fn any_windowed(sheet: &Sheet, depot: usize, members: &[u16], soft: bool) -> boo
     requires { Routed sheet.now depot members.now }
     ensures { result ≡ any_windowed soft sheet.now depot members.now }
 {
-    if row_windowed(sheet, depot, soft) {
-        return true;
-    }
-    for &row in members {
-        if row_windowed(sheet, row as usize, soft) {
-            return true;
-        }
-    }
-    false
+    row_windowed(sheet, depot, soft)
+        || members
+            .iter()
+            .any(|&row| row_windowed(sheet, row as usize, soft))
 }
 
 // Two names of the Rust over one function: a call says what it asks.

@@ -1,4 +1,5 @@
-// Whether the limits are kept by a round with one stop more, from the clock of the round so far.
+// Whether the limits are kept by a round with one stop more, from the clock of the round so far. Clock, sheet, depot and distance are
+// each of another holder: the round so far, the host, its vehicle, and a sum that is made for the question.
 ghost use Rattle.std.specs.Prelude.{◌≡◌, ◌<◌, Some};
 ghost use Rattle.sheet.specs.Fields.{rows_of};
 ghost use Rattle.sheet.specs.Values.{time_of};

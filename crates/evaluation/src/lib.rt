@@ -1,5 +1,5 @@
 // What a round is worth: its times, its lateness and its rest, and whether its vehicle allows it. Sheet, round, depot and limits
-// are apart, as in the Rust and in the definitions: each caller has them of another place.
+// are apart, as in the Rust and in the definitions.
 #![tactic(auto)]
 
 pub mod checks;
@@ -111,14 +111,10 @@ pub fn priced_distance(figures: Schedule) -> f64
     figures.distance + figures.lateness_cost
 }
 
-// Not by `map_or`: a closure over a function with a contract tells of its result only by clauses of its own.
 fn cost(eval: Option<Schedule>) -> f64
     ensures { result ≡ cost_of eval }
 {
-    match eval {
-        Some(figures) => priced_distance(figures),
-        None => f64::INFINITY,
-    }
+    eval.map_or(f64::INFINITY, priced_distance)
 }
 
 // What a search minimises: infinite where the round is not allowed.

@@ -13,7 +13,8 @@ use evaluation_clock::{clock, label};
 use sheet::Sheet;
 use sheet::vehicle::VehicleBreak;
 
-// The vehicle on its way without a rest, with the service of its last stop done.
+// The vehicle on its way without a rest, with the service of its last stop done. It holds no `Label`, which brings an answer for a
+// rest that none is here: a prefix keeps this in memory, and would keep that with it.
 #[derive(Clone, Copy)]
 pub struct Underway {
     pub prev: usize,
@@ -98,6 +99,7 @@ pub fn walk(sheet: &Sheet, route: &[u16], depot: usize) -> Option<Schedule>
 }
 
 // With a rest, for as long as the clock is alive; with `home` the rest at the depot too, where that ends sooner.
+// A flag, as in the definition: the loop would stand twice for its two answers.
 pub fn schedule(
     sheet: &Sheet,
     route: &[u16],

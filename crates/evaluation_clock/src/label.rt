@@ -170,13 +170,7 @@ pub fn step_rested(
 fn wins_over(y: Label, x: Label) -> bool
     ensures { result ≡ Rattle.evaluation_clock.specs.Clock.wins_over y x }
 {
-    if y.time < x.time {
-        return true;
-    }
-    if y.time == x.time {
-        return y.lateness_cost < x.lateness_cost;
-    }
-    false
+    (y.time, y.lateness_cost) < (x.time, x.lateness_cost)
 }
 
 // Of two labels the one with the smaller time, then with the smaller lateness cost, then the first. Each is put together anew,

@@ -30,7 +30,8 @@ pub struct Progress {
     pub place: u16,
 }
 
-// What a whole round comes to.
+// What a whole round comes to. It holds no `Schedule`, which is the clock's, where this is summed visit by visit: nothing makes one
+// of the other, and each reader of a figure would name the field between.
 #[derive(Clone, Copy)]
 pub struct Record {
     pub load: u32,
@@ -42,6 +43,7 @@ pub struct Record {
 }
 
 // The rest of a round: where it stands, and how long it is. Not one Option: a round's record tells the place and the start alone.
+// Sheet and depot go beside it: a caller has the three of the sheet, of its vehicle and of the walk.
 #[derive(Clone, Copy)]
 pub struct Placed {
     pub answer: RestAnswer,

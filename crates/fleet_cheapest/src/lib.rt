@@ -1,5 +1,5 @@
-// The cheapest insertion of the stops pending, over every round and place. Sheet, windows, tables and their n rounds go apart: the
-// limiter changes the tables between two calls, and would make a struct of them anew for each.
+// The cheapest insertion of the stops pending, over every round and place. Sheet, windows, tables and their n rounds go apart,
+// as in the limiter, and so do a round, the stop and the best so far: each comes of another loop.
 #![tactic(auto)]
 
 ghost use Rattle.std.specs.Prelude.{◌≡◌, false, ◌+◌, ◌≤◌, ◌<◌, length};
@@ -55,16 +55,11 @@ fn may_win(sheet: &Sheet, windows: Windows, route: &[u16], row: u16, best: Choic
     requires row_bound { row < rows_of sheet.now }
     ensures { result ≡ false → (windows.soft ≡ false) × Unwon sheet.now route.now row best (length route.now + 1) }
 {
-    if windows.soft {
-        return true;
-    }
-    // by places, one more than stops
-    for k in 0..route.len() + 1 {
-        if choice::wins(place::detour(sheet, 0, route, row as usize, k), best) {
-            return true;
-        }
-    }
-    false
+    windows.soft
+        || (0..route.len() + 1).any(|k| {
+            let detour = place::detour(sheet, 0, route, row as usize, k);
+            choice::wins(detour, best)
+        })
 }
 
 // The better of the best so far and the stop at its places in the round counted i, each that may win walked: rounds grow long

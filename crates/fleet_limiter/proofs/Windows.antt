@@ -21,7 +21,8 @@ use Rattle.evaluation.specs.Limits.{is_unlimited}
 use Rattle.evaluation.specs.Checks.{windowed, row_windowed, some_windowed, has_time_windows, has_soft_windows, route_checks_needed}
 use Rattle.constructive.specs.Outcome.{Outcome, outcome_in, stops_of}
 use Rattle.constructive.specs.Unchecked.{Windowless}
-use Rattle.constructive.specs.Laws.Unchecked.{unchecked_windowless}
+use Rattle.constructive.specs.Laws.Unchecked.{neither, unchecked_windowless}
+use Rattle.constructive.specs.Laws.Terms.{gate_open, none_soft}
 use Rattle.constructive.specs.Laws.TableStops.{stops_in}
 use Rattle.fleet.specs.Limit.{limit_on, soft_in}
 use Rattle.fleet.specs.Laws.Placed.{outcome_once}
@@ -32,23 +33,6 @@ use Rattle.fleet_limiter.specs.Promises.{windows_in, TablesHold, Triable}
 use Rattle.fleet_limiter.proofs.Choosing.{held}
 use Rattle.fleet_limiter.proofs.DroppingRounds.{limit_rests}
 
-neither : (a b : Bool) → (a || b) ≡ false → (a ≡ false) × (b ≡ false)
-neither true b e = absurd (true≢false e)
-neither false b e = (refl, e)
-
--- ---- no window, so none with a penalty
-soft_none : (g : Gate) → windowed false g ≡ false → windowed true g ≡ false
-soft_none Open e = refl
-soft_none (Hard w) e = refl
-soft_none (Soft w penalty) e = absurd (true≢false e)
-
-some_none : (s rows : List ℕ) → some_windowed false s rows ≡ false → some_windowed true s rows ≡ false
-unfolding some_windowed
-some_none s [] e = refl
-some_none s (row ∷ rows) e =
-    let n = neither (row_windowed false s row) (some_windowed false s rows) e in
-    rw (soft_none (stop_of s row).gate n.0, some_none s rows n.1)
-
 module _ (s rows : List ℕ) (e : has_time_windows s 0 rows ≡ false) where
   parts : (row_windowed false s 0 ≡ false) × (some_windowed false s rows ≡ false)
   unfolding has_time_windows
@@ -56,7 +40,7 @@ module _ (s rows : List ℕ) (e : has_time_windows s 0 rows ≡ false) where
 
   hard : has_soft_windows s 0 rows ≡ false
   unfolding has_soft_windows
-  hard = rw (soft_none (stop_of s 0).gate parts.0, some_none s rows parts.1)
+  hard = rw (gate_open (stop_of s 0).gate parts.0, none_soft s rows parts.1)
 
   -- a vehicle without limits needs no check then
   abbrev free : RouteLimits

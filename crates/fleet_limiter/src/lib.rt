@@ -1,7 +1,7 @@
 // The limiter (Bräysy and Gendreau 2005): the round of least load is dropped, its stops put back, cheapest first.
 // For each round of p stops dropped O(p^2 n) places; where windows or limits are asked, one that may win is walked.
-// Sheet, windows, tables and their n rounds go apart: `choose` reads the tables between two changes and n falls with each round
-// dropped, so that a struct of them would be made anew for each stop put back.
+// Sheet, windows, tables and their n rounds go apart: the tables are lent to be changed and n falls with each round dropped, and
+// every clause on them would go by one name more.
 #![tactic(auto)]
 
 ghost use Rattle.std.specs.Prelude.{◌≡◌, ◌-◌, ◌<◌, drop};
@@ -101,7 +101,7 @@ fn drop_rounds<const N: usize>(
     ensures { TablesHold sheet.now tables.new.stops tables.new.ends tables.new.vehicles result total (limit_on sheet.now windows.soft greatest rounds (outcome_in tables.old.stops tables.old.ends tables.old.vehicles rounds total)) }
 {
     let mut n = rounds;
-    // Not over a range turned round: its number is one less than the rounds that the body goes by.
+    // Not over a range turned round: `greatest + 1` might overflow, and the number left is answered.
     while greatest < n {
         let routed = tables.start_of(n);
         drop_round(sheet, windows, tables, n, routed);

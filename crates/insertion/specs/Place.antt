@@ -18,6 +18,7 @@ cost_in s t route = effective_cost s t.depot t.limits route
 
 -- ---- one place
 -- the row before place k and the one after it: the depot at the ends
+-- (that there is such a place is a clause: it is one of a round that the next trial writes over)
 abbrev pub row_before : ℕ → List ℕ → ℕ → ℕ
 row_before depot route zero = depot
 row_before depot route (suc k) = get_or route k 0

@@ -5,7 +5,8 @@ ghost use Rattle.insertion.specs.Place.{costs, wins, better_place};
 // The stop by its place among those unrouted, its place in the round, and what it costs.
 pub type Choice = Option<(usize, usize, f64)>;
 
-// Whether a cost wins over it: the first of equals stays.
+// Whether a cost wins over it: the first of equals stays. `wins` of nearest_neighbor_choice and `cheaper` of fleet are the same over
+// other tuples: one function of an `Option<f64>` would need a `map` at each call.
 pub fn wins(cost: f64, best: Choice) -> bool
     ensures { result ≡ wins cost best }
 {

@@ -1,5 +1,5 @@
 // The round on trial: the round with one stop in it. The next stop is written over it, and it slides from place to place, so
-// that no round is copied to try a place. Where its stop stands goes beside it: the table is the caller's, for want of a heap.
+// that no round is copied to try a place. Where its stop stands goes beside it, in `Tried`: it is told of each stop anew.
 ghost use Rattle.std.specs.Prelude.{◌≡◌, ◌+◌, ◌<◌, length, get_or};
 ghost use Rattle.lists.specs.Moved.{without, inserted};
 ghost use Rattle.insertion.specs.Trial.{Trial};

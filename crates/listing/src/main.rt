@@ -45,7 +45,7 @@ fn write_answer(out: &mut [u8], sheet: &[u8], plan: &mut [u8]) -> usize
     if let Err(refusal) = listing_text::early_refusal(sheet) {
         return listing_text::write_refused(out, refusal.into());
     }
-    let n = 16 + 80 * sheet::rows(sheet);
+    let n = sheet::plan_length(sheet);
     write_planned(out, sheet, &mut plan[..n])
 }
 

@@ -9,7 +9,8 @@ use Rattle.sheet.specs.Fields.{rows_of}
 use Rattle.constructive.specs.Outcome.{chains}
 use Rattle.plan.specs.Read.{first_stop_at, chain_of, rounds_from}
 use Rattle.listing_text.specs.Text.{concatenated}
-use Rattle.listing_text.specs.Put.{TextRoom, Put}
+use Rattle.listing_text.specs.Put.{HasRoom, Appends}
+use Rattle.listing_text.specs.declared.text.Text.{Text}
 use Rattle.listing_text.specs.Listing.{round_text, round_texts}
 use Rattle.listing_text.proofs.Putting.{Left, begins, fits, next, ends}
 
@@ -17,19 +18,19 @@ abbrev pub texts_from : List ℕ → List ℕ → ℕ → ℕ → List (List ℕ
 texts_from s plan m k = round_texts plan (rows_of s) k (rounds_from s plan m k)
 
 -- after k of `total` rounds; `off` are the stops chained after them
-pub record Counting (s plan : List ℕ) (total : ℕ) (off before after : List ℕ) (at end k : ℕ) : Type 0 where
+pub record Counting (s plan : List ℕ) (total : ℕ) (off : List ℕ) (before after : Text) (k : ℕ) : Type 0 where
   pub few : k ≤ total
-  pub left : Left before after at end (concatenated (texts_from s plan total 0)) (texts_from s plan (total - k) k)
+  pub left : Left before after (concatenated (texts_from s plan total 0)) (texts_from s plan (total - k) k)
   pub stops : Stops (rows_of s) (chains (rounds_from s plan (total - k) k) off)
 
-module _ (s plan : List ℕ) (total : ℕ) (off out : List ℕ) (at : ℕ) where
-  pub starts : Stops (rows_of s) (chains (rounds_from s plan total 0) off) → TextRoom out at (concatenated (texts_from s plan total 0)) → Counting s plan total off out out at at 0
+module _ (s plan : List ℕ) (total : ℕ) (off : List ℕ) (t : Text) where
+  pub starts : Stops (rows_of s) (chains (rounds_from s plan total 0) off) → HasRoom t (concatenated (texts_from s plan total 0)) → Counting s plan total off t t 0
   starts o r =
       let e : total - 0 ≡ total = omega arith in
-      record { few = omega arith; left = rw e (begins out at (texts_from s plan total 0) r); stops = rw e o }
+      record { few = omega arith; left = rw e (begins t (texts_from s plan total 0) r); stops = rw e o }
 
-module _ {s plan off before after : List ℕ} {total at end k : ℕ} (g : Counting s plan total off before after at end k) where
-  pub done : total ≤ k → Put before after at (concatenated (texts_from s plan total 0)) end
+module _ {s plan off : List ℕ} {total k : ℕ} {before after : Text} (g : Counting s plan total off before after k) where
+  pub done : total ≤ k → Appends before after (concatenated (texts_from s plan total 0))
   unfolding rounds_from round_texts
   done h = let e : total - k ≡ 0 = omega arith in ends (rw e at g.left)
 
@@ -37,7 +38,7 @@ module _ {s plan off before after : List ℕ} {total at end k : ℕ} (g : Counti
     abbrev chain : List ℕ
     chain = chain_of s plan (first_stop_at plan k)
 
-    here : Left before after at end (concatenated (texts_from s plan total 0)) (round_text plan (rows_of s) k chain ∷ texts_from s plan (total - (k + 1)) (k + 1))
+    here : Left before after (concatenated (texts_from s plan total 0)) (round_text plan (rows_of s) k chain ∷ texts_from s plan (total - (k + 1)) (k + 1))
     unfolding rounds_from round_texts
     here = let e : total - k ≡ suc (total - (k + 1)) = omega arith in rw e at g.left
 
@@ -50,8 +51,8 @@ module _ {s plan off before after : List ℕ} {total at end k : ℕ} (g : Counti
     pub chain_in : Stops (rows_of s) chain
     chain_in = stops_here.0
 
-    pub round_fits : TextRoom after end (round_text plan (rows_of s) k chain)
+    pub round_fits : HasRoom after (round_text plan (rows_of s) k chain)
     round_fits = fits here
 
-    pub goes_on : {u : List ℕ} {end' : ℕ} → Put after u end (round_text plan (rows_of s) k chain) end' → Counting s plan total off before u at end' (k + 1)
+    pub goes_on : {u : Text} → Appends after u (round_text plan (rows_of s) k chain) → Counting s plan total off before u (k + 1)
     goes_on p = record { few = omega arith; left = next here p; stops = stops_here.1 }

@@ -6,7 +6,8 @@ use mathlib.Core.List.{List, [], ◌∷◌}
 use Rattle.lists.specs.Once.{Stops}
 use Rattle.plan.specs.Read.{next_at, chain_from}
 use Rattle.listing_text.specs.Text.{concatenated}
-use Rattle.listing_text.specs.Put.{TextRoom, Put}
+use Rattle.listing_text.specs.Put.{HasRoom, Appends}
+use Rattle.listing_text.specs.declared.text.Text.{Text}
 use Rattle.listing_text.specs.Listing.{stop_line, stop_lines}
 use Rattle.listing_text.proofs.Putting.{Left, begins, fits, next, ends}
 
@@ -35,21 +36,21 @@ unfolding rest
 rest_some plan n zero row h = absurd (h refl)
 rest_some plan n (suc links) row h = let e : suc links - 1 ≡ links = omega arith in rw e
 
--- of n rows: the buffer before and now, where the text starts and where it ends now, the whole text, the links left, the next row
-pub record Following (plan : List ℕ) (n : ℕ) (before after : List ℕ) (at end : ℕ) (whole : List ℕ) (links row : ℕ) : Type 0 where
-  pub left : Left before after at end whole (stop_lines plan n (chain_from plan n links row))
+-- of n rows: the text before and now, the whole of what is put, the links left, the next row
+pub record Following (plan : List ℕ) (n : ℕ) (before after : Text) (whole : List ℕ) (links row : ℕ) : Type 0 where
+  pub left : Left before after whole (stop_lines plan n (chain_from plan n links row))
   pub stops : Stops n (chain_from plan n links row)
 
-pub starts : (plan : List ℕ) (n : ℕ) (s : List ℕ) (at links row : ℕ) → Stops n (chain_from plan n links row) → TextRoom s at (concatenated (stop_lines plan n (chain_from plan n links row))) → Following plan n s s at at (concatenated (stop_lines plan n (chain_from plan n links row))) links row
-starts plan n s at links row o r = record { left = begins s at (stop_lines plan n (chain_from plan n links row)) r; stops = o }
+pub starts : (plan : List ℕ) (n : ℕ) (t : Text) (links row : ℕ) → Stops n (chain_from plan n links row) → HasRoom t (concatenated (stop_lines plan n (chain_from plan n links row))) → Following plan n t t (concatenated (stop_lines plan n (chain_from plan n links row))) links row
+starts plan n t links row o r = record { left = begins t (stop_lines plan n (chain_from plan n links row)) r; stops = o }
 
-module _ {plan before after whole : List ℕ} {n at end links row : ℕ} (f : Following plan n before after at end whole links row) where
-  pub done : row ≡ 0 → Put before after at whole end
+module _ {plan whole : List ℕ} {n links row : ℕ} {before after : Text} (f : Following plan n before after whole links row) where
+  pub done : row ≡ 0 → Appends before after whole
   unfolding stop_lines
   done e = ends (rw (e, chain_none plan n links) at f.left)
 
   module _ (some : row ≡ 0 → ⊥) where
-    here : Left before after at end whole (stop_line plan n row ∷ stop_lines plan n (rest plan n links row))
+    here : Left before after whole (stop_line plan n row ∷ stop_lines plan n (rest plan n links row))
     unfolding stop_lines
     here = rw (chain_some plan n links row some) at f.left
 
@@ -59,15 +60,15 @@ module _ {plan before after whole : List ℕ} {n at end links row : ℕ} (f : Fo
     pub row_in : row < n
     row_in = stops_here.0.1
 
-    pub line_fits : TextRoom after end (stop_line plan n row)
+    pub line_fits : HasRoom after (stop_line plan n row)
     line_fits = fits here
 
-    module _ {u : List ℕ} {end' : ℕ} (p : Put after u end (stop_line plan n row) end') where
-      pub last : links ≡ 0 → Put before u at whole end'
+    module _ {u : Text} (p : Appends after u (stop_line plan n row)) where
+      pub last : links ≡ 0 → Appends before u whole
       unfolding stop_lines
       last e = ends (rw (e, rest_none plan n row) at (next here p))
 
-      pub goes_on : (links ≡ 0 → ⊥) → Following plan n before u at end' whole (links - 1) (next_at plan n row)
+      pub goes_on : (links ≡ 0 → ⊥) → Following plan n before u whole (links - 1) (next_at plan n row)
       goes_on h = record {
         left = rw (rest_some plan n links row h) at (next here p);
         stops = rw (rest_some plan n links row h) at stops_here.1;

@@ -1,23 +1,14 @@
-// Words and numbers put into a buffer as text. Each function answers where its text ends: a String takes a heap. `write!` into a
-// slice may fail, and its contract does not tell the text.
+// Words and numbers put into a buffer as text. The buffer is the caller's: a String takes a heap. `write!` into a slice may fail,
+// and its contract does not tell the text.
 ghost use Rattle.std.specs.Prelude.{◌≡◌, ◌<◌, [], ◌∷◌};
 ghost use Rattle.listing_text.specs.Text.{digit_of, decimal, hex_in};
-ghost use Rattle.listing_text.specs.Put.{TextRoom, Put};
+ghost use Rattle.listing_text.specs.Put.{HasRoom, Appends};
 
-pub fn put_byte(out: &mut [u8], at: usize, byte: u8) -> usize
-    requires { TextRoom out.old at (byte ∷ []) }
-    ensures { Put out.old out.new at (byte ∷ []) result }
-{
-    out[at] = byte;
-    at + 1
-}
-
-pub fn put_words(out: &mut [u8], at: usize, words: &[u8]) -> usize
-    requires { TextRoom out.old at words.now }
-    ensures { Put out.old out.new at words.now result }
-{
-    out[at..at + words.len()].copy_from_slice(words);
-    at + words.len()
+// The text so far is the buffer's bytes below `end`, and what is put next stands from there on.
+#[derive(Drop)]
+pub struct Text<'a> {
+    pub out: &'a mut [u8],
+    pub end: usize,
 }
 
 fn digit(d: u8) -> u8
@@ -27,25 +18,45 @@ fn digit(d: u8) -> u8
     if d < 10 { b'0' + d } else { b'A' + (d - 10) }
 }
 
-pub fn put_decimal(out: &mut [u8], at: usize, n: u32) -> usize
-    requires { TextRoom out.old at (decimal n) }
-    ensures { Put out.old out.new at (decimal n) result }
-{
-    if n < 10 {
-        return put_byte(out, at, digit(n as u8));
+impl Text<'_> {
+    pub fn put_byte(&mut self, byte: u8)
+        requires { HasRoom self.old (byte ∷ []) }
+        ensures { Appends self.old self.new (byte ∷ []) }
+    {
+        self.out[self.end] = byte;
+        self.end += 1;
     }
-    let end = put_decimal(out, at, n / 10);
-    put_byte(out, end, digit((n % 10) as u8))
-}
 
-// The last `digits` digits of n.
-pub fn put_hex(out: &mut [u8], at: usize, digits: usize, n: u64) -> usize
-    requires { TextRoom out.old at (hex_in digits n) }
-    ensures { Put out.old out.new at (hex_in digits n) result }
-{
-    if digits == 0 {
-        return at;
+    pub fn put_words(&mut self, words: &[u8])
+        requires { HasRoom self.old words.now }
+        ensures { Appends self.old self.new words.now }
+    {
+        let end = self.end + words.len();
+        self.out[self.end..end].copy_from_slice(words);
+        self.end = end;
     }
-    let end = put_hex(out, at, digits - 1, n / 16);
-    put_byte(out, end, digit((n % 16) as u8))
+
+    pub fn put_decimal(&mut self, n: u32)
+        requires { HasRoom self.old (decimal n) }
+        ensures { Appends self.old self.new (decimal n) }
+    {
+        if n < 10 {
+            self.put_byte(digit(n as u8));
+            return;
+        }
+        self.put_decimal(n / 10);
+        self.put_byte(digit((n % 10) as u8));
+    }
+
+    // The last `digits` digits of n.
+    pub fn put_hex(&mut self, digits: usize, n: u64)
+        requires { HasRoom self.old (hex_in digits n) }
+        ensures { Appends self.old self.new (hex_in digits n) }
+    {
+        if digits == 0 {
+            return;
+        }
+        self.put_hex(digits - 1, n / 16);
+        self.put_byte(digit((n % 16) as u8));
+    }
 }

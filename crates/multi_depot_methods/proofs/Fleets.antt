@@ -29,15 +29,12 @@ use Rattle.solomon_i1.specs.Insertion.{solomon_i1}
 use Rattle.sweep.specs.Sweep.{sweep}
 use Rattle.multi_depot_offers.specs.ByDepot.{with_vehicle, with_first, construct_of}
 use Rattle.multi_depot_offers.specs.Promises.{Ready, construct_at}
+use Rattle.multi_depot_offers.proofs.Manning.{fleet_small}
 
 -- ---- the vehicles
 fleet_at : (s : List ℕ) (depot : ℕ) → Fleet s (fleet_of s depot)
 unfolding fleet_of
 fleet_at s depot k h = let q = those_at (λ v. eqb (vehicle_of s v).depot depot) (vehicles_of s) 0 k h in omega arith
-
-fleet_few : (s : List ℕ) (depot : ℕ) → length (fleet_of s depot) ≤ vehicles_of s
-unfolding fleet_of
-fleet_few s depot = those_few (λ v. eqb (vehicle_of s v).depot depot) (vehicles_of s) 0
 
 first_of : (s : List ℕ) (d : ℕ) (members fleet : List ℕ) → (length fleet ≡ 0 → ⊥) → with_first s d members fleet ≡ with_vehicle s d members (get_or fleet 0 0)
 first_of s d members [] h = absurd (h refl)
@@ -82,7 +79,7 @@ module _ (s : List ℕ) (d : ℕ) (members : List ℕ) (v : ℕ) where
 module _ {s : List ℕ} {depot : ℕ} {stops ends vehicles : List ℕ} {f : Filled} {total : ℕ} (ready : Ready s depot stops ends vehicles f total)
     {fleet : List ℕ} {n : ℕ} (counted : n ≡ length (fleet_of s depot)) (written : fleet ≡ write (replicate most_vehicles 0) 0 (fleet_of s depot)) where
   fits : 0 + length (fleet_of s depot) ≤ length (replicate {A = ℕ} most_vehicles 0)
-  fits = omega (arith, fleet_few s depot, ready.members.routed.sheet.sized.vehicles, length-replicate {A = ℕ} most_vehicles 0)
+  fits = omega (arith, fleet_small s depot, ready.members.routed.sheet.sized.vehicles, length-replicate {A = ℕ} most_vehicles 0)
 
   pub few : n ≤ length fleet
   few = omega (arith, fits, ap length written, length_write (replicate most_vehicles 0) 0 (fleet_of s depot) fits)

@@ -3,8 +3,7 @@
 
 ghost use Rattle.std.specs.Prelude.{◌≡◌, true, false, ℕ, ◌-◌, ◌≤◌, ◌<◌, length};
 ghost use Rattle.lists.specs.Count.{count};
-ghost use Rattle.sheet.specs.Fields.{vehicles_of, method_of};
-ghost use Rattle.sheet.specs.Method.{code_of};
+ghost use Rattle.sheet.specs.Fields.{vehicles_of, method_of, header_size};
 ghost use Rattle.constructive.specs.Stored.{Stored, Room, filled_by};
 ghost use Rattle.constructive.specs.Members.{part, Members};
 ghost use Rattle.multi_depot_offers.specs.ByDepot.{with_vehicle};
@@ -12,8 +11,8 @@ ghost use Rattle.multi_depot_offers.specs.Promises.{Ready, construct_at};
 
 use constructive::tables::{Filled, RouteTables};
 use multi_depot_offers::members;
-use sheet::Sheet;
 use sheet::method::Method;
+use sheet::{Sheet, method};
 
 // Savings with the depot's first vehicle, by way of the large tables; without one every stop is set aside, as it stands. Not
 // inlined, so that no other planning has its frame.
@@ -61,7 +60,8 @@ fn with_vehicle<const N: usize>(
         Method::Insertion => {
             solomon_i1::solomon_i1(sheet, depot, vehicle, tables, filled, total)
         }
-        // The nearest neighbours take the whole fleet, and come here by no caller.
+        // The nearest neighbours take the whole fleet, and come here by no caller; the definition `with_vehicle` has their case too.
+        // One match, in `construct`, would ask for a first vehicle in each of three arms.
         Method::NearestNeighbor | Method::NearestNeighborTw | Method::Sweep => {
             sweep::sweep(sheet, depot, vehicle, tables, filled, total)
         }
@@ -104,9 +104,10 @@ pub fn construct<const N: usize>(
 
 // Whether savings are asked of more members than `construct` takes them of. The contract leaves the choice for fewer members
 // open: either way the outcome is the same.
-pub fn saves_many(method: Method, members: usize) -> bool
-    ensures method_value { result ≡ true → code_of method ≡ 0 }
-    ensures members_bound { result ≡ false → code_of method ≡ 0 → members ≤ 24 }
+pub fn saves_many(sheet: &[u8], members: usize) -> bool
+    requires { header_size ≤ length sheet.now }
+    ensures sheet_value { result ≡ true → method_of sheet.now ≡ 0 }
+    ensures members_bound { result ≡ false → method_of sheet.now ≡ 0 → members ≤ 24 }
 {
-    method == Method::Savings && 24 < members
+    matches!(method::method_of(sheet), Ok(Method::Savings)) && 24 < members
 }

@@ -22,22 +22,21 @@ fn is_sooner(sheet: &Sheet, stop: usize, d: usize, e: usize) -> bool
 {
     let here = sheet.distance(d, stop);
     let there = sheet.distance(e, stop);
-    here < there || here == there && d < e
+    (here, d) < (there, e)
 }
 
-// Whether depot d is asked: it has a vehicle, and is no nearer than `after`, if any. Here and below `is_none_or` was tried: its
-// closure over a function with a contract tells nothing of its result.
+// Whether depot d is asked: it has a vehicle, and is no nearer than `after`, if that is a depot. Here and below `is_none_or` was tried:
+// the proof did not close, since nothing was told of what this closure answers.
 #[tactic(auto, unfolding(crate::specs::ByDepot::asked_after))]
 fn is_asked(sheet: &Sheet, stop: usize, after: Option<usize>, d: usize) -> bool
     requires row { stop < rows_of sheet.now }
-    requires after_bound { ForSome after (λ a. a < depots_of sheet.now) }
     requires d_lt_depots { d < depots_of sheet.now }
     ensures { result ≡ asked_after sheet.now stop (unwrap_or after (depots_of sheet.now)) d }
 {
     let Some(after) = after else {
         return has_vehicle(sheet, d);
     };
-    is_sooner(sheet, stop, after, d) && has_vehicle(sheet, d)
+    (sheet.depots() <= after || is_sooner(sheet, stop, after, d)) && has_vehicle(sheet, d)
 }
 
 // Whether depot d is nearer than the nearest so far.
@@ -55,8 +54,7 @@ fn wins(sheet: &Sheet, stop: usize, d: usize, best: Option<usize>) -> bool
 
 // The nearest depot with a vehicle after `after`, or of all where that is none.
 pub fn next_depot(sheet: &Sheet, stop: usize, after: Option<usize>) -> Option<usize>
-    requires row { stop < rows_of sheet.now }
-    requires after_bound { ForSome after (λ a. a < depots_of sheet.now) }
+    requires { stop < rows_of sheet.now }
     ensures value { unwrap_or result (depots_of sheet.now) ≡ next_depot sheet.now stop (unwrap_or after (depots_of sheet.now)) }
     ensures bound { IfSome result (λ d. d < depots_of sheet.now) }
 {

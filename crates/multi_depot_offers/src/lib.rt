@@ -31,6 +31,7 @@ pub fn clear(at: &[u16], marks: &mut [u16], depot: usize)
     requires { length at.now ≤ length marks.old }
     ensures { Cleared at.now marks.old depot marks.new }
 {
+    // by rows: over a `zip` the loop's invariant has no table of marks to speak of, only what was yielded
     for (row, &home) in at.iter().enumerate() {
         if home as usize == depot {
             marks[row] = 0;

@@ -10,7 +10,7 @@ use constructive::members;
 use sheet::Sheet;
 
 // The vehicles of a depot, by their index; answers how many. Not that part of the table: a clause could not say of a table that is
-// lent to the answer what the rest of it is after the call.
+// lent to the answer what the rest of it is after the call. An `ArrayVec` would be one more crate in the archive.
 #[tactic(auto, unfolding(sheet::specs::Fleet::fleet_of))]
 pub fn fleet_of(sheet: &Sheet, depot: usize, fleet: &mut [u16]) -> usize
     requires { 16 ≤ length fleet.old }

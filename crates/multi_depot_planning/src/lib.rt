@@ -33,7 +33,7 @@ fn lay_depot<const N: usize>(
     if total == from {
         return (filled, total);
     }
-    if multi_depot_methods::saves_many(sheet.method(), total - from) {
+    if multi_depot_methods::saves_many(sheet.bytes(), total - from) {
         let saved = multi_depot_methods::by_savings(sheet, depot, tables, filled, total);
         return (saved, total);
     }

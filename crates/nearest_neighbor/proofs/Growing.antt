@@ -16,17 +16,18 @@ use Rattle.wire.specs.Laws.Bytes.{length_write}
 use Rattle.wire.specs.Laws.Overwrite.{write_same, part_write, write_within}
 use Rattle.sheet.specs.Fields.{rows_of}
 use Rattle.sheet.specs.Values.{vehicle_of}
+use Rattle.sheet.specs.declared.vehicle.Vehicle.{Vehicle}
+use Rattle.evaluation.specs.declared.limits.RouteLimits.{RouteLimits}
 use Rattle.evaluation.specs.Routed.{Routed}
 use Rattle.constructive.specs.Members.{part, Members}
 use Rattle.nearest_neighbor_choice.specs.StopChoice.{StopChoice}
 use Rattle.nearest_neighbor_choice.specs.declared.partial.Partial.{Partial}
-use Rattle.nearest_neighbor_choice.specs.declared.terms.VehicleTerms.{VehicleTerms}
 use Rattle.nearest_neighbor_choice.specs.Heuristic.{Heuristic, offer_by}
 use Rattle.nearest_neighbor_choice.specs.Choice.{choose, Trip, empty_trip}
 use Rattle.nearest_neighbor.specs.Greedy.{Rule, extending, extended, extended_by, extend, extend_on, end_of_trip, vehicle_round}
 use Rattle.nearest_neighbor.specs.Laws.Chosen.{Chosen, choose_chosen}
 use Rattle.nearest_neighbor_choice.specs.Partial.{empty_partial, PartialRoute}
-use Rattle.nearest_neighbor.specs.Heuristic.{limits_by, terms_by, rule_of, onward_by}
+use Rattle.nearest_neighbor.specs.Heuristic.{limits_by, rule_of, onward_by}
 use Rattle.nearest_neighbor.proofs.Leaving.{joins}
 use Rattle.nearest_neighbor.proofs.Keeping.{ride_of, Driven, offers, drives_on, stays_driven, riding, sets_out, off, choose_alike}
 
@@ -101,12 +102,13 @@ module _ (s : List ℕ) (depot : ℕ) (h : Heuristic) (index : ℕ) (stops₀ : 
   rides k = rw g.kept (riding s depot (limits_by s h index).rest g.trip g.members.routed.sheet g.driven (omega (arith, g.at, g.members.most)))
 
   -- the choice is the rule's
-  module _ (c : StopChoice) (terms : VehicleTerms) (told : terms ≡ terms_by s depot h index) (e : c ≡ choose (offer_by s terms.depot h terms.vehicle terms.limits partial) None 0 (part stops end total)) where
+  module _ (c : StopChoice) (v : Vehicle) (limits : RouteLimits) (told : v ≡ vehicle_of s index) (held : limits ≡ limits_by s h index) (e : c ≡ choose (offer_by s depot h v limits partial) None 0 (part stops end total)) where
     chosen : choose (rule.offer g.trip) None 0 g.left ≡ c
     chosen =
         sym (e
-        ∙ ap (choose (offer_by s terms.depot h terms.vehicle terms.limits partial) None 0) left_part
-        ∙ ap (λ (x : VehicleTerms). choose (offer_by s x.depot h x.vehicle x.limits partial) None 0 g.left) told
+        ∙ ap (choose (offer_by s depot h v limits partial) None 0) left_part
+        ∙ ap (λ (x : Vehicle). choose (offer_by s depot h x limits partial) None 0 g.left) told
+        ∙ ap (λ (x : RouteLimits). choose (offer_by s depot h (vehicle_of s index) x partial) None 0 g.left) held
         ∙ ap (λ (x : Partial). choose (offer_by s depot h (vehicle_of s index) (limits_by s h index) x) None 0 g.left) g.kept
         ∙ choose_alike (offer_by s depot h (vehicle_of s index) (limits_by s h index) (ride_of s depot (limits_by s h index).rest g.trip)) (rule.offer g.trip)
         (λ i. offers s depot (vehicle_of s index) (limits_by s h index) g.trip g.driven i h index refl refl) None 0 g.left)

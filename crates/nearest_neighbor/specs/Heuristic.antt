@@ -5,7 +5,6 @@ use Rattle.evaluation_clock.specs.Sums.{◌⊕◌}
 use Rattle.evaluation.specs.Limits.{limits_of, limits_at}
 use Rattle.evaluation.specs.declared.limits.RouteLimits.{RouteLimits}
 use Rattle.nearest_neighbor_choice.specs.declared.partial.Partial.{Partial}
-use Rattle.nearest_neighbor_choice.specs.declared.terms.VehicleTerms.{VehicleTerms}
 use Rattle.nearest_neighbor_choice.specs.Heuristic.{Heuristic, Nearest, NearestTw, ignores_due, clock_by}
 use Rattle.nearest_neighbor_choice.specs.Partial.{pushed_by}
 use Rattle.nearest_neighbor.specs.Greedy.{Rule}
@@ -14,10 +13,6 @@ use Rattle.nearest_neighbor.specs.Nearest.{nearest_rule, window_rule}
 -- what a vehicle's rounds are held to: the depot's due too, but for nearest neighbour without a rest
 abbrev pub limits_by : List ℕ → Heuristic → ℕ → RouteLimits
 limits_by s h v = cond (ignores_due h (vehicle_of s v).rest) (limits_of (vehicle_of s v)) (limits_at s v)
-
--- what its stops are judged by
-abbrev pub terms_by : List ℕ → ℕ → Heuristic → ℕ → VehicleTerms
-terms_by s depot h v = record { depot = depot; vehicle = vehicle_of s v; limits = limits_by s h v }
 
 unfoldable pub rule_of : List ℕ → ℕ → Heuristic → ℕ → Rule
 rule_of s depot Nearest v = nearest_rule s depot v

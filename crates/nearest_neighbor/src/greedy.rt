@@ -2,38 +2,34 @@
 ghost use Rattle.std.specs.Prelude.{◌≡◌, ◌++◌, ◌+◌, ◌<◌, length};
 ghost use Rattle.wire.specs.Bytes.{write};
 ghost use Rattle.sheet.specs.Fields.{rows_of, vehicles_of};
+ghost use Rattle.sheet.specs.Values.{vehicle_of};
 ghost use Rattle.constructive.specs.Stored.{Stored, Room, filled_by};
 ghost use Rattle.constructive.specs.Members.{part, Members, Fleet};
 ghost use Rattle.nearest_neighbor.specs.Greedy.{vehicle_round, greedy};
 ghost use Rattle.nearest_neighbor_choice.specs.Partial.{pushed_by, ClockKept, PartialRoute};
-ghost use Rattle.nearest_neighbor.specs.Heuristic.{terms_by, rule_of, onward_by};
+ghost use Rattle.nearest_neighbor.specs.Heuristic.{limits_by, rule_of, onward_by};
 
 use constructive::tables;
 use constructive::tables::{Filled, RouteTables};
 use evaluation::limits;
+use evaluation::limits::RouteLimits;
 use evaluation_clock::clock::BreakClock;
 use nearest_neighbor_choice::partial::Partial;
 use nearest_neighbor_choice::rule::Rule;
-use nearest_neighbor_choice::terms::VehicleTerms;
 use nearest_neighbor_choice::{partial, rule};
 use sheet::Sheet;
+use sheet::vehicle::Vehicle;
 
-// What the stops of the vehicle at `index` are judged by.
-fn terms_for<R: Rule>(sheet: &Sheet, depot: usize, rule: R, index: usize) -> VehicleTerms
+// What the rounds of the vehicle at `index` are held to.
+fn limits_for<R: Rule>(sheet: &Sheet, rule: R, vehicle: Vehicle, index: usize) -> RouteLimits
     requires index_bound { (index < vehicles_of sheet.now) × (0 < rows_of sheet.now) }
-    ensures { result ≡ terms_by sheet.now depot (R.which rule) index }
+    requires vehicle_value { vehicle ≡ vehicle_of sheet.now index }
+    ensures { result ≡ limits_by sheet.now (R.which rule) index }
 {
-    let vehicle = sheet.vehicle_at(index);
-    let limits = if rule.ignores_due(vehicle.rest) {
-        limits::limits_of(vehicle)
-    } else {
-        limits::limits_at(sheet, index)
-    };
-    VehicleTerms {
-        depot,
-        vehicle,
-        limits,
+    if rule.ignores_due(vehicle.rest) {
+        return limits::limits_of(vehicle);
     }
+    limits::limits_at(sheet, index)
 }
 
 // The clock driven on to `row`.
@@ -79,10 +75,21 @@ fn grow_round<R: Rule>(
     ensures value { result ≡ start + length (vehicle_round (rule_of sheet.now depot (R.which rule) index) depot (part stops.old start total)).stops }
     ensures stops_after { stops.new ≡ write stops.old start ((vehicle_round (rule_of sheet.now depot (R.which rule) index) depot (part stops.old start total)).stops ++ (vehicle_round (rule_of sheet.now depot (R.which rule) index) depot (part stops.old start total)).left) }
 {
-    let terms = terms_for(sheet, depot, rule, index);
-    let mut partial = partial::empty_partial(terms.limits.rest, depot);
+    let vehicle = sheet.vehicle_at(index);
+    let limits = limits_for(sheet, rule, vehicle, index);
+    let rest = limits.rest;
+    let mut partial = partial::empty_partial(rest, depot);
+    // by numbers: each is where the round may end, and that is answered
     for end in start..total {
-        let Some((j, _)) = rule::nearest(rule, sheet, terms, partial, &stops[end..total]) else {
+        let Some((j, _)) = rule::nearest(
+            rule,
+            sheet,
+            depot,
+            vehicle,
+            limits,
+            partial,
+            &stops[end..total],
+        ) else {
             return end;
         };
         let from = end + j;

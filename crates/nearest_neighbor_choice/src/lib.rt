@@ -6,4 +6,3 @@ pub mod nearest;
 pub mod nn_tw;
 pub mod partial;
 pub mod rule;
-pub mod terms;

@@ -11,11 +11,11 @@ ghost use Rattle.nearest_neighbor_choice.specs.Partial.{trip_of, partial_too_dea
 use crate::choice::StopChoice;
 use crate::partial::Partial;
 use crate::rule::Rule;
-use crate::terms::VehicleTerms;
 use crate::{choice, partial};
+use evaluation::limits::RouteLimits;
 use evaluation_clock::window;
 use sheet::customer::Gate;
-use sheet::vehicle::VehicleBreak;
+use sheet::vehicle::{Vehicle, VehicleBreak};
 use sheet::{Sheet, vehicle};
 
 // By how much an arrival is late, whatever the window costs.
@@ -69,23 +69,25 @@ fn added(sheet: &Sheet, depot: usize, partial: Partial, row: usize, late_cost: f
 // Whether the stop had better go by itself: asked where a window has a penalty, and of no round's first stop.
 fn is_too_dear(
     sheet: &Sheet,
-    terms: VehicleTerms,
+    depot: usize,
+    vehicle: Vehicle,
+    limits: RouteLimits,
     soft: bool,
     partial: Partial,
     row: u16,
     late_cost: f64,
 ) -> bool
     requires partial_route { PartialRoute sheet.now partial }
-    requires row_bound { (row < rows_of sheet.now) × (terms.depot < rows_of sheet.now) }
-    ensures { result ≡ partial_too_dear sheet.now terms.depot terms.vehicle terms.limits soft partial row late_cost }
+    requires row_bound { (row < rows_of sheet.now) × (depot < rows_of sheet.now) }
+    ensures { result ≡ partial_too_dear sheet.now depot vehicle limits soft partial row late_cost }
 {
     if !soft || partial.served == 0 {
         return false;
     }
     let alone = [row];
-    let cost = evaluation::effective_cost(sheet, &alone, terms.depot, terms.limits);
-    let most = cost + vehicle::fixed_cost_in_distance(terms.vehicle);
-    most <= added(sheet, terms.depot, partial, row as usize, late_cost)
+    let cost = evaluation::effective_cost(sheet, &alone, depot, limits);
+    let most = cost + vehicle::fixed_cost_in_distance(vehicle);
+    most <= added(sheet, depot, partial, row as usize, late_cost)
 }
 
 // What the key of a stop is made of.
@@ -119,33 +121,44 @@ fn candidate_at(sheet: &Sheet, partial: Partial, row: usize) -> Candidate
 // Whether the round can take the stop.
 fn takes(
     sheet: &Sheet,
-    terms: VehicleTerms,
+    depot: usize,
+    vehicle: Vehicle,
+    limits: RouteLimits,
     soft: bool,
     partial: Partial,
     row: u16,
     seen: Candidate,
 ) -> bool
     requires partial_route { PartialRoute sheet.now partial }
-    requires row_bound { (row < rows_of sheet.now) × (terms.depot < rows_of sheet.now) }
-    ensures { result ≡ takes_by sheet.now terms.depot terms.vehicle terms.limits soft partial row seen }
+    requires row_bound { (row < rows_of sheet.now) × (depot < rows_of sheet.now) }
+    ensures { result ≡ takes_by sheet.now depot vehicle limits soft partial row seen }
 {
     let at = row as usize;
     // Asked before the rest of the stop is read.
-    if !partial::carries(sheet, terms.vehicle, partial, at) {
+    if !partial::carries(sheet, vehicle, partial, at) {
         return false;
     }
     let stop = sheet.stop_at(at);
     let gate = stop.gate;
     !is_missed(gate, seen.late)
-        && terms.allows(
+        && partial::allows(
             sheet,
+            depot,
+            limits,
             partial,
             at,
-            window::service_start(gate, seen.arrival)
-                + stop.service
-                + sheet.travel_time(at, terms.depot),
+            window::service_start(gate, seen.arrival) + stop.service + sheet.travel_time(at, depot),
         )
-        && !is_too_dear(sheet, terms, soft, partial, row, seen.late_cost)
+        && !is_too_dear(
+            sheet,
+            depot,
+            vehicle,
+            limits,
+            soft,
+            partial,
+            row,
+            seen.late_cost,
+        )
 }
 
 // With windows; `soft` where some window has a penalty.
@@ -165,14 +178,18 @@ impl Rule for NearestNeighborTw {
     fn nearer(
         self,
         sheet: &Sheet,
-        terms: VehicleTerms,
+        depot: usize,
+        vehicle: Vehicle,
+        limits: RouteLimits,
         partial: Partial,
         best: StopChoice,
         j: usize,
         row: u16,
     ) -> StopChoice {
         let seen = candidate_at(sheet, partial, row as usize);
-        if choice::wins(seen.key, best) && takes(sheet, terms, self.soft, partial, row, seen) {
+        if choice::wins(seen.key, best)
+            && takes(sheet, depot, vehicle, limits, self.soft, partial, row, seen)
+        {
             return Some((j, seen.key));
         }
         best

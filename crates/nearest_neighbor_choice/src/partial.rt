@@ -1,8 +1,11 @@
 // A round so far, with what a next stop is judged by.
 ghost use Rattle.std.specs.Prelude.{◌≡◌, ◌<◌};
 ghost use Rattle.sheet.specs.Fields.{rows_of};
-ghost use Rattle.nearest_neighbor_choice.specs.Partial.{empty_partial, clock_for, partial_carries, PartialRoute};
+ghost use Rattle.nearest_neighbor_choice.specs.Offers.{there_and_home};
+ghost use Rattle.nearest_neighbor_choice.specs.Partial.{trip_of, empty_partial, clock_for, allows_by, allows_on_way, allows_home, partial_carries, PartialRoute, ClockKept};
 
+use evaluation::keeping;
+use evaluation::limits::RouteLimits;
 use evaluation_clock::clock::BreakClock;
 use sheet::Sheet;
 use sheet::vehicle::{Vehicle, VehicleBreak};
@@ -46,4 +49,70 @@ pub fn carries(sheet: &Sheet, vehicle: Vehicle, partial: Partial, row: usize) ->
     ensures { result ≡ partial_carries sheet.now vehicle partial row }
 {
     partial.load + sheet.demand(row) <= vehicle.capacity
+}
+
+// Whether the limits are kept with the row as the last stop and no rest at home: by the clock, where there is one to keep;
+// else by the distance and the duration that are given.
+fn allows_on_way(
+    sheet: &Sheet,
+    depot: usize,
+    limits: RouteLimits,
+    kept: Option<BreakClock>,
+    row: usize,
+    distance: f64,
+    duration: f64,
+) -> bool
+    requires clock_kept { ClockKept sheet.now kept }
+    requires row_bound { (row < rows_of sheet.now) × (depot < rows_of sheet.now) }
+    ensures { result ≡ allows_on_way sheet.now depot limits kept row distance duration }
+{
+    match kept {
+        None => limits.allow(distance, duration),
+        Some(clock) => keeping::keeps_with(clock, sheet, row, depot, distance, limits),
+    }
+}
+
+// Whether they are kept with the rest at home, where the vehicle has one and may take it there: asked only of what is
+// turned down.
+fn allows_home(
+    sheet: &Sheet,
+    depot: usize,
+    limits: RouteLimits,
+    kept: Option<BreakClock>,
+    row: usize,
+    distance: f64,
+) -> bool
+    requires clock_kept { ClockKept sheet.now kept }
+    requires row_bound { (row < rows_of sheet.now) × (depot < rows_of sheet.now) }
+    ensures { result ≡ allows_home sheet.now depot limits kept row distance }
+{
+    match kept {
+        None => false,
+        Some(clock) => {
+            limits.at_home && keeping::keeps_home(clock, sheet, row, depot, distance, limits)
+        }
+    }
+}
+
+// Whether the limits are kept with the row as the last stop, and the duration as given where there is no clock to keep.
+// Each rule judges every stop by it, so it is inlined in both.
+#[inline(always)]
+pub fn allows(
+    sheet: &Sheet,
+    depot: usize,
+    limits: RouteLimits,
+    partial: Partial,
+    row: usize,
+    duration: f64,
+) -> bool
+    requires partial_route { PartialRoute sheet.now partial }
+    requires row_bound { (row < rows_of sheet.now) × (depot < rows_of sheet.now) }
+    ensures { result ≡ allows_by sheet.now depot limits partial.rest row (there_and_home sheet.now depot (trip_of partial) row) duration }
+{
+    let kept = partial.rest;
+    let distance = partial.travelled
+        + sheet.distance(partial.current, row)
+        + sheet.distance(row, depot);
+    allows_on_way(sheet, depot, limits, kept, row, distance, duration)
+        || allows_home(sheet, depot, limits, kept, row, distance)
 }

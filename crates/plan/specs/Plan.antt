@@ -25,6 +25,7 @@ first_of (row ∷ rows) = row
 
 -- ---- where the records stand
 -- "Then `rows` round records of 56 bytes": the k-th, from 0
+-- (that k is below the sheet's rows is a clause: a number of a round is no row)
 abbrev pub round_record_at : ℕ → ℕ
 round_record_at k = 16 + 56 * k
 

@@ -10,7 +10,8 @@ use constructive::tables::RouteTables;
 use sheet::refusal::Refusal;
 use sheet::{Sheet, customer};
 
-// What is told before the plan is read. `room` says whether a further buffer has its length, `one` whether one depot is asked for.
+// What is told before the plan is read. `room` says whether a further buffer has its length, `one` whether one depot is asked for:
+// apart, as in the definition, where each is a question of its own.
 pub fn unread_refusal(sheet: &[u8], plan_len: usize, room: bool, one: bool) -> Result<(), Refusal>
     ensures { told result ≡ unread_refusal sheet.now plan_len room one }
 {

@@ -10,7 +10,7 @@ ghost use Rattle.plan.specs.Read.{rounds_at, next_at, chain_of};
 ghost use Rattle.plan_reader.specs.Reading.{stop_count, ReaderTables, ReadAs};
 ghost use Rattle.plan_reader.specs.Chains.{FollowedAs, RoundsRead, RoundsAs, ChainsAs, SingleAs};
 
-use constructive::tables::RouteTables;
+use constructive::tables::{Filled, RouteTables};
 use sheet::Sheet;
 
 // The id of a vehicle, of which nothing else is read.
@@ -83,8 +83,11 @@ fn read_round<const N: usize>(
     let index = index_of(sheet, wire::u32_at(plan, place))?;
     let first = wire::u16_at(plan, place + 8) as usize;
     let end = follow(sheet, plan, first, &mut tables.stops, at)?;
-    tables.ends[k] = end as u16;
-    tables.vehicles[k] = index as u16;
+    let filled = Filled {
+        rounds: k,
+        routed: at,
+    };
+    tables.close_round(filled, index as u16, end);
     Some(end)
 }
 

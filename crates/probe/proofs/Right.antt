@@ -8,7 +8,6 @@ use lib.Dec.{T, ltb, leb, eqb, ltb→lt, leb→le, eqb→eq, T_not}
 use borrow.Author.Tests.{eq-eqb, lt-leb}
 use lib.Ieee.Fits.{and_l, and_r}
 use lib.ListN.{length, get_or}
-use Rattle.wire.specs.Laws.Bytes.{le_lt}
 use Rattle.sheet.specs.Fields.{rows_of, vehicles_of, plan_length}
 use Rattle.sheet.specs.Refusal.{header_right, refusal_of}
 use Rattle.sheet.specs.Accepted.{Accepted}
@@ -31,11 +30,6 @@ too_short s h = rw (lt-leb 16 (length s) h)
 pub accepted_of_lem : (s : List ℕ) → T (accepted_of s) → Accepted s
 unfolding accepted_of
 accepted_of_lem s t = (accepted s (plan_length s) (eqb→eq (refusal_of s (plan_length s)) 0 t)).0
-
--- the header's number of rows, in any bytes
-pub rows_fit : (s : List ℕ) → ((i : ℕ) → get_or s i 0 < 256) → rows_of s < 65536
-unfolding rows_of
-rows_fit s h = omega (arith, le_lt 2 s 0 h)
 
 -- ---- the vehicle
 pub vehicled : (s : List ℕ) (v : ℕ) → T (askable s v) → Vehicled s v

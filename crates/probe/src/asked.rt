@@ -14,7 +14,7 @@ fn accepted(sheet: &[u8]) -> bool
     if sheet.len() < sheet::HEADER_SIZE {
         return false;
     }
-    sheet_refusal::refusal(sheet, 16 + 80 * sheet::rows(sheet)).is_ok()
+    sheet_refusal::refusal(sheet, sheet::plan_length(sheet)).is_ok()
 }
 
 // Whether rounds of a vehicle can be asked about.

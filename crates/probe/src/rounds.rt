@@ -13,6 +13,7 @@ pub fn passed(sheet: &Sheet, stops: &[u16], len: usize, depot: usize, limits: Ro
     requires len_nonzero { (0 < len) × ((len ≤ most_rows) × (length stops.now < 0xffff_ffff)) }
     ensures { result ≡ passed_of sheet.now depot limits stops.now len }
 {
+    // `filter(..).count() as u32` was tried: `search` proves neither that each round may be asked nor that the count is the promised one.
     let mut count = 0;
     for round in stops.chunks_exact(len) {
         count += u32::from(evaluation::route_feasible(sheet, round, depot, limits));

@@ -24,6 +24,7 @@ pub fn replay_import<R: Read, W: Write>(input: &mut R, out: &mut W) -> Result<()
     let mut sheet = [0u8; ROOM];
     let text = record::part(input, text_len, &mut text)?;
     let sheet = record::lend(sheet_len, &mut sheet)?;
+    // By the number that a host has: a slice of `long` bytes would have to be shown to lie within the sheet.
     let answer = match planner::import_solomon(text, sheet) {
         Ok(long) => long as i32,
         Err(refusal) => -(refusal as i32),

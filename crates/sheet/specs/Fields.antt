@@ -13,6 +13,7 @@ abbrev pub vehicle_size : ℕ
 vehicle_size = 72
 
 -- "rows 0 to 101; vehicles 0 to 16"
+-- (that rows are no more is a clause of what goes by their number before there is a `Sheet`)
 abbrev pub most_rows : ℕ
 most_rows = 101
 

@@ -4,7 +4,7 @@
 ghost use Rattle.std.specs.Prelude.{◌≡◌, ℕ, ◌+◌, ◌*◌, ◌<◌, ◌≤◌, List, length};
 ghost use Rattle.sheet.specs.Accepted.{Accepted};
 ghost use Rattle.sheet.specs.Depots.{depots_of};
-ghost use Rattle.sheet.specs.Fields.{rows_of, vehicles_of, method_of, times_of, marked, row_at, header_size, row_size, vehicle_size, most_rows, most_vehicles};
+ghost use Rattle.sheet.specs.Fields.{rows_of, vehicles_of, method_of, times_of, marked, row_at, header_size, row_size, vehicle_size, plan_length, most_rows, most_vehicles};
 ghost use Rattle.sheet.specs.Located.{Located};
 ghost use Rattle.sheet.specs.Method.{code_of};
 
@@ -52,6 +52,15 @@ pub fn rows(sheet: &[u8]) -> usize
     ensures { result ≡ rows_of sheet.now }
 {
     wire::u16_at(sheet, 0) as usize
+}
+
+// How long the sheet's plan is. Asked before the check too, so that the rows may be more than a sheet has.
+#[inline(always)]
+pub fn plan_length(sheet: &[u8]) -> usize
+    requires { header_size ≤ length sheet.now }
+    ensures { result ≡ plan_length sheet.now }
+{
+    16 + 80 * rows(sheet)
 }
 
 pub fn vehicles(sheet: &[u8]) -> usize

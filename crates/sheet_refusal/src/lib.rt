@@ -56,7 +56,7 @@ fn lengths_right(sheet: &[u8], plan_len: usize) -> bool
     let rows = sheet::rows(sheet);
     let entries = entries(rows, sheet::times(sheet) as usize);
     let sheet_len = sheet::vehicle_place(rows, sheet::vehicles(sheet)) + 8 * entries;
-    sheet.len() == sheet_len && plan_len == 16 + 80 * rows
+    sheet.len() == sheet_len && plan_len == sheet::plan_length(sheet)
 }
 
 // A method that the sheet does not have needs none.

@@ -18,6 +18,7 @@ use Rattle.evaluation.specs.Routed.{Routed}
 use Rattle.constructive.specs.declared.tables.Filled.{Filled}
 use Rattle.constructive.specs.Outcome.{Round, Outcome, chains, stops_of}
 use Rattle.constructive.specs.Members.{part}
+use Rattle.constructive.specs.Laws.TableContents.{part_long}
 use Rattle.constructive.specs.Stored.{routed_in, Room}
 use Rattle.constructive.specs.Laws.Stored.{chains_aside, chains_append, length_chains, routed_append}
 use Rattle.constructive.specs.Entered.{Entered}
@@ -103,9 +104,6 @@ pub record Laying (s : List ℕ) (t : Terms) (stops₀ ends₀ vehicles₀ trial
   pub each : length done ≤ routed_in done
   pub joinable : Joinable s t [] left
   pub same : plan_on s t (length (part stops₀ f₀.routed total)) (part stops₀ f₀.routed total) ≡ joined done aside (plan_on s t (length left) left)
-
-part_long : (stops : List ℕ) (start total : ℕ) → total ≤ length stops → length (part stops start total) ≡ total - start
-part_long stops start total k = length-take-le (total - start) (drop start stops) (omega (arith, length-drop start stops))
 
 -- a table in three parts
 in_parts : (stops : List ℕ) (start total : ℕ) → start ≤ total → stops ≡ take start stops ++ (part stops start total ++ drop total stops)

@@ -43,6 +43,7 @@ fn grow_round(sheet: &Sheet, terms: Terms, left: &mut [u16], trial: &mut [u16]) 
     ensures left_after { left.new ≡ growth_stops (round_from sheet.now terms (get_or left.old 0 0) (drop 1 left.old)) }
 {
     let count = left.len();
+    // by numbers: each is where the round may end, and that is answered
     for end in 1..count {
         let Some((j, k, _)) = best_joining(sheet, terms, left, end, trial) else {
             return end;
@@ -89,6 +90,7 @@ pub fn lay_rounds<const N: usize>(
     let mut done = filled;
     let mut at = filled.routed;
     let mut end = total;
+    // two ends move towards each other: which one is told by the stop between
     while at < end {
         let stops = &tables.stops[..];
         let seed = seed::farthest(sheet, terms.depot, &stops[at..end]);

@@ -9,7 +9,7 @@ ghost use Rattle.solomon_import.specs.Reading.{lines_from, RowLinesFound};
 use crate::walk;
 use solomon_text::words;
 
-// What is found of row lines in form.
+// What is found of row lines in form. The count is refused before the ranges are (document 01's order), so one walk finds both.
 #[derive(Clone, Copy)]
 pub struct RowLines {
     pub count: usize,

@@ -12,6 +12,7 @@ ghost use Rattle.solomon_import.specs.Writing.{records_of};
 
 use crate::{reading, walk};
 use sheet::customer;
+use sheet::method::Method;
 use sheet_writer::{RowFields, VehicleFields};
 use solomon_text::words;
 
@@ -77,7 +78,7 @@ fn write_records(text: &[u8], rows: usize, sheet: &mut [u8])
 {
     let first = reading::first_row_line(text);
     let vehicle = vehicle_fields(reading::capacity(text));
-    sheet_writer::put_header(sheet, rows, 1, 1, 0);
+    sheet_writer::put_header(sheet, rows, 1, Method::Insertion as u8, 0);
     write_rows(text, first, sheet);
     sheet_writer::put_vehicle(sheet, sheet::vehicle_place(rows, 0), vehicle);
 }

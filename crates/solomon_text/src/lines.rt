@@ -5,7 +5,8 @@ ghost use Rattle.std.specs.List.{list_any};
 ghost use Rattle.solomon_text.specs.Lines.{is_digit, is_feed, lines_of, first_line, after_first, has_digit, digit_lines, number_lines};
 ghost use Rattle.solomon_text.specs.Laws.Parts.{FirstPart};
 
-// The first LF from `at` on; the text's end if there is none.
+// The first LF from `at` on; the text's end if there is none. The end is a place like any other, from which the lines are none,
+// so that the clauses here and above need no case for it, as they would for an Option.
 fn feed(text: &[u8], at: usize) -> usize
     requires { at ≤ length text.now }
     ensures { FirstPart is_feed text.now at result }

@@ -1,13 +1,16 @@
--- The loop of `square_root::square_root`, and the rounding by the last of 54 digits. Assumes nothing.
-use mathlib.Core.Path.{◌≡◌, sym, ap, ◌∙◌, subst}
+-- The scale of `square_root::square_root`, and the rounding by the last of 54 digits. Assumes nothing.
+use mathlib.Core.Path.{◌≡◌, refl, sym, ap, ◌∙◌, subst}
 use mathlib.Core.Logic.{◌⊎◌, inl, inr}
-use Prim.Native.Nat.{ℕ, suc, ◌+◌, ◌-◌, ◌*◌, ◌^◌, ◌≤◌, ◌<◌}
-use native.Mathlib.Nat.{le_trans, le_of_eq, lt_of_lt_of_le, lt_of_le_of_lt, le_of_lt, eq-or-lt_of_le, mul-le-mul_right, pow-succ'}
+use Prim.Native.Nat.{ℕ, suc, ◌+◌, ◌-◌, ◌*◌, ◌/◌, ◌%◌, ◌^◌, ◌≤◌, ◌<◌}
+use native.Mathlib.Nat.{le_trans, le_of_eq, lt_of_lt_of_le, lt_of_le_of_lt, le_of_lt, eq-or-lt_of_le, mul-le-mul_right}
 use native.Mathlib.Omega.{arith}
-use lib.Pow.{pow-add}
+use lib.Dec.{lit≤}
+use lib.Count.{count_leading_zeros}
+use lib.Pow.{pow-add, pow_mono, shl_lt}
 use lib.IntN.{pos}
 use lib.Ieee.{binary64, of_int}
 use lib.Ieee.Fits.{div-fits}
+use Rattle.std.proofs.lemmas.Nat.{leading_top, one_shl}
 use Rattle.numbers.specs.Laws.Thousandth.{pow_le}
 use Rattle.square_root.specs.ClosestRoot.{ClosestRoot}
 use Rattle.square_root.specs.Laws.Squares.{square_lt, root_lt}
@@ -24,17 +27,38 @@ pub record Scaled (n scaled p : ℕ) : Type 0 where
   pub least : 1 ≤ scaled
   pub small : scaled < 2 ^ 64
 
-pub scaled_more : (n scaled p : ℕ) → scaled < 2 ^ 62 → Scaled n scaled p → Scaled n (4 * scaled) (2 * p)
-scaled_more n scaled p h s = record {
-  e = suc s.e;
-  power = ap (λ (x : ℕ). 2 * x) s.power ∙ sym (pow-succ' 2 s.e);
-  is = omega (arith, s.is);
-  positive = s.positive;
-  least = omega (arith, s.least);
-  small = omega arith;
-}
+-- 2 to half the number of leading zeros of n, as the code shifts it
+abbrev pub scale : ℕ → ℕ
+scale n = 1 * 2 ^ (count_leading_zeros 64 n / 2) % 2 ^ 64
 
-pub power_small : (n scaled p : ℕ) → Scaled n scaled p → p < 2 ^ 32
+-- its square takes those zeros away, but for one at most
+module _ (n : ℕ) (positive : 1 ≤ n) (fits : n < 2 ^ 64) where
+  abbrev half : ℕ
+  half = count_leading_zeros 64 n / 2
+
+  power : scale n ≡ 2 ^ half
+  power = let t = leading_top 64 n positive fits in one_shl half 64 (omega (arith, t.1))
+
+  squared : scale n * scale n ≡ 2 ^ (half + half)
+  squared = ap (λ (x : ℕ). x * x) power ∙ sym (pow-add 2 half half)
+
+  scaled_small : n * (scale n * scale n) < 2 ^ 64
+  scaled_small =
+      let t = leading_top 64 n positive fits in
+      subst (λ (x : ℕ). n * x < 2 ^ 64) (sym squared)
+      (lt_of_lt_of_le (shl_lt (suc t.0) (half + half) t.3) (pow_mono {i = suc t.0 + (half + half)} {j = 64} (omega (arith, t.1))))
+
+  pub scaled_full : 2 ^ 62 ≤ n * (scale n * scale n)
+  scaled_full =
+      let t = leading_top 64 n positive fits in
+      subst (λ (x : ℕ). 2 ^ 62 ≤ n * x) (sym squared)
+      (le_trans (pow_mono {i = 62} {j = t.0 + (half + half)} (omega (arith, t.1)))
+      (le_trans (le_of_eq (pow-add 2 t.0 (half + half))) (mul-le-mul_right (2 ^ (half + half)) t.2)))
+
+  pub scaled_by : Scaled n (n * (scale n * scale n)) (scale n)
+  scaled_by = record { e = half; power = power; is = refl; positive = positive; least = le_trans (lit≤ tt) scaled_full; small = scaled_small }
+
+power_small : (n scaled p : ℕ) → Scaled n scaled p → p < 2 ^ 32
 power_small n scaled p s =
     root_lt p (2 ^ 32)
     (lt_of_le_of_lt (le_trans (let g : 1 * (p * p) ≤ n * (p * p) = mul-le-mul_right (p * p) s.positive in omega arith) (le_of_eq (sym s.is))) s.small)

@@ -5,7 +5,7 @@ ghost use Rattle.std.specs.Prelude.{◌+◌, ◌*◌, ◌^◌, ◌≤◌, ◌<�
 ghost use Rattle.square_root.specs.ClosestRoot.{ClosestRoot};
 
 // The largest r with r * r <= n, by Newton's iteration: a step from any number leads to one that is not below the root. The number that it starts from
-// suits an n from 2^62 up.
+// suits an n from 2^62 up. The library's `isqrt` halves an interval in 32 steps, and takes twice as long.
 fn whole_root(n: u64) -> u64
     requires { 1 ≤ n }
     ensures { (result * result ≤ n) × (n < (result + 1) * (result + 1)) }
@@ -33,20 +33,16 @@ fn longer_root(n: u64, r: u64) -> u64
     }
 }
 
-// √n times p has 32 binary digits before its point, and 22 more make 54: the last of them rounds the 53 that an f64 holds. The division by a power of two
-// is exact.
+// p squared takes the leading zeros of n away, but for one at most: √n times p has 32 binary digits before its point, and 22 more make 54. The last of them
+// rounds the 53 that an f64 holds. The division by a power of two is exact.
 pub fn square_root(n: u64) -> f64
     ensures { ClosestRoot n result }
 {
     if n == 0 {
         return 0.0;
     }
-    let mut scaled = n;
-    let mut p: u64 = 1;
-    while scaled < 0x4000_0000_0000_0000 {
-        scaled = 4 * scaled;
-        p = 2 * p;
-    }
+    let p = 1u64 << (n.leading_zeros() / 2);
+    let scaled = n * (p * p);
     let r = longer_root(scaled, whole_root(scaled));
     ((r + 1) / 2) as f64 / (p * 0x20_0000) as f64
 }

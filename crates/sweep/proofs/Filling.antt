@@ -27,7 +27,8 @@ use Rattle.sweep.specs.declared.rounds.Packing.{Packing}
 use Rattle.sweep.specs.Sweep.{unservable, closes, Swept, swept_round, step, stepped, swept_from, nothing_swept, last_round, finished, swept_by}
 use Rattle.sweep.specs.Laws.Feasible.{closes_some}
 use Rattle.sweep.specs.Met.{open_route, next_in, Midway, packed_by, stops_by, entries_by, Met}
-use Rattle.sweep.proofs.Parts.{part_long, part_at, drop_part}
+use Rattle.constructive.specs.Laws.TableContents.{part_long, part_at}
+use Rattle.sweep.proofs.Parts.{drop_part}
 
 -- what is swept so far, with the stops not met yet, as it stands in the tables
 abbrev standing : Swept → List ℕ → Outcome
@@ -57,7 +58,7 @@ pub begins : (s : List ℕ) (t : Terms) (stops ends vehicles : List ℕ) (f : Fi
 unfolding ends_from vehicles_from routed_in chains load_of
 begins s t stops ends vehicles f total ok room =
     let all = part stops f.routed total in
-    let long : length all ≡ total - f.routed = part_long stops f.routed total ok.from ok.within in
+    let long : length all ≡ total - f.routed = part_long stops f.routed total ok.within in
     record {
       members = ok;
       room = room;

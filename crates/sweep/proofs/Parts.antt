@@ -14,17 +14,12 @@ use Rattle.evaluation.specs.Routed.{Routed}
 use Rattle.constructive.specs.Load.{load_of}
 use Rattle.constructive.specs.Laws.Load.{load_append}
 use Rattle.constructive.specs.Members.{part, Members}
+use Rattle.constructive.specs.Laws.TableContents.{part_long, part_at}
 
 pub part_none : (stops : List ℕ) (at : ℕ) → part stops at at ≡ []
 part_none stops at = let e : at - at ≡ 0 = omega arith in rw e
 
-pub part_at : (stops : List ℕ) (start end k : ℕ) → k < end - start → get_or (part stops start end) k 0 ≡ get_or stops (start + k) 0
-part_at stops start end k h = get_or-take (end - start) (drop start stops) k 0 h ∙ get_or-drop start stops k 0
-
 module _ (stops : List ℕ) (start end : ℕ) (h : start ≤ end) where
-  pub part_long : end ≤ length stops → length (part stops start end) ≡ end - start
-  part_long k = length-take-le (end - start) (drop start stops) (omega (arith, length-drop start stops))
-
   -- with the stop behind it
   pub part_more : end < length stops → part stops start (end + 1) ≡ part stops start end ++ (get_or stops end 0 ∷ [])
   part_more k =
@@ -48,8 +43,8 @@ part_one stops at k = part_more stops at at (omega arith) k ∙ ap (λ (l : List
 -- a part of the members is a round
 pub routed_part : (s : List ℕ) (depot : ℕ) (stops : List ℕ) (start total a b : ℕ) → Members s depot stops start total → start ≤ a → a ≤ b → b ≤ total → Routed s depot (part stops a b)
 routed_part s depot stops start total a b ok h k l =
-    let n = part_long stops a b k (omega (arith, ok.within)) in
-    let m = part_long stops start total ok.from ok.within in
+    let n = part_long stops a b (omega (arith, ok.within)) in
+    let m = part_long stops start total ok.within in
     record {
       sheet = ok.routed.sheet;
       home = ok.routed.home;
@@ -76,7 +71,7 @@ part_some stops start end h k n = go (end - start) refl
   where
     go : (m : ℕ) → end - start ≡ m → 0 < length (part stops start end)
     go zero e = absurd (n (omega arith))
-    go (suc m) e = omega (arith, part_long stops start end h k)
+    go (suc m) e = omega (arith, part_long stops start end k)
 
 -- a front written in comes back as the whole
 pub write_front : (s : List ℕ) (n at : ℕ) (xs : List ℕ) → at + length xs ≤ n → n ≤ length s → write (take n s) at xs ++ drop n s ≡ write s at xs
@@ -99,7 +94,7 @@ pub sent_front : (s : List ℕ) (n at : ℕ) → at < n → n ≤ length s → w
 sent_front s n at h k =
     let front = drop_part s (at + 1) n (omega arith) k in
     let x : get_or (take n s) at 0 ≡ get_or s at 0 = get_or-take n s at 0 h in
-    let long = part_long s (at + 1) n (omega arith) k in
+    let long = part_long s (at + 1) n k in
     ap (λ (l : List ℕ). write (take n s) at (l ++ (get_or (take n s) at 0 ∷ [])) ++ drop n s) front
     ∙ ap (λ (y : ℕ). write (take n s) at (part s (at + 1) n ++ (y ∷ [])) ++ drop n s) x
     ∙ write_front s n at (part s (at + 1) n ++ (get_or s at 0 ∷ [])) (omega (arith, length-append (part s (at + 1) n) (get_or s at 0 ∷ []))) k

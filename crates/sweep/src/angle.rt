@@ -29,6 +29,7 @@ pub fn direction_to(sheet: &Sheet, depot: usize, row: usize) -> Direction
 }
 
 // The part of the circle, in the order of the angle: below 0, at 0, above 0, at π. The depot's own point is at 0.
+// A number, and no enum, which the order alone is asked of: it is a sum of three tests, so that no jump depends on a difference.
 fn part(a: Direction) -> u8
     ensures { result ≡ part_of a }
 {

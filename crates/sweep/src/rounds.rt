@@ -91,10 +91,8 @@ fn meet<const N: usize>(
     if is_unservable(sheet, terms, &tables.stops, end, demand) {
         set_aside(&mut tables.stops, end, total);
         return Packing {
-            filled,
-            end,
-            load: packing.load,
             mid: packing.mid - 1,
+            ..packing
         };
     }
     let load = packing.load + demand;
@@ -104,14 +102,13 @@ fn meet<const N: usize>(
             filled: closed,
             end: end + 1,
             load: demand,
-            mid: packing.mid,
+            ..packing
         };
     }
     Packing {
-        filled,
         end: end + 1,
         load,
-        mid: packing.mid,
+        ..packing
     }
 }
 
@@ -134,6 +131,7 @@ pub fn pack<const N: usize>(
         load: 0,
         mid: total,
     };
+    // No range: a turn moves one of the two ends, the round's or that of the stops not met yet.
     while packing.end < packing.mid {
         packing = meet(sheet, terms, tables, packing, total);
     }

@@ -1,8 +1,9 @@
 -- The library's little-endian bytes are the definitions'. Assumes nothing.
-use Rattle.std.proofs.Common.{◌≡◌, ℕ, zero, suc, ◌+◌, ◌-◌, ◌/◌, ◌%◌, ◌^◌, List, [], ◌∷◌, ◌++◌, get_or, take, drop, refl, sym, ap, ◌∙◌, arith, add_assoc}
+use Rattle.std.proofs.Common.{◌≡◌, ℕ, zero, suc, ◌+◌, ◌-◌, ◌/◌, ◌%◌, ◌^◌, ◌<◌, List, [], ◌∷◌, ◌++◌, get_or, take, drop, refl, sym, ap, ◌∙◌, arith, add_assoc}
 use Rattle.std.proofs.Common.{inl, inr, le-ltb, pow-suc}
 use Rattle.std.proofs.Math.Nat.{div-div-eq-div-mul}
 use Rattle.std.proofs.lemmas.Bool.{cases_lt}
+use Rattle.std.proofs.lemmas.List.{get_or-take, get_or-drop}
 use Rattle.std.specs.Prelude.{negsuc}
 use mir.ValLaws.{to_z_pos}
 use Rattle.std.specs.Int.{w16, w32, w64, from_le_bytes, bytes_low_first, cast_signed}
@@ -18,7 +19,7 @@ pub four : (s : List ℕ) (at : ℕ) → from_le_bytes w32 (get_or s at 0 ∷ ge
 unfolding le
 four s at = simp add_assoc (omega arith)
 
-pub eight : (s : List ℕ) (at : ℕ) → from_le_bytes w64 (get_or s at 0 ∷ get_or s (at + 1) 0 ∷ get_or s (at + 2) 0 ∷ get_or s (at + 3) 0 ∷ get_or s (at + 4) 0 ∷ get_or s (at + 5) 0 ∷ get_or s (at + 6) 0 ∷ get_or s (at + 7) 0 ∷ []) ≡ le 8 s at
+eight : (s : List ℕ) (at : ℕ) → from_le_bytes w64 (get_or s at 0 ∷ get_or s (at + 1) 0 ∷ get_or s (at + 2) 0 ∷ get_or s (at + 3) 0 ∷ get_or s (at + 4) 0 ∷ get_or s (at + 5) 0 ∷ get_or s (at + 6) 0 ∷ get_or s (at + 7) 0 ∷ []) ≡ le 8 s at
 unfolding le
 eight s at = simp add_assoc (omega arith)
 
@@ -42,3 +43,9 @@ as_signed n = elim (cases_lt n 0x8000_0000) [
   | inl h ↦ to_z_pos w32 n h ∙ sym (signed_low n h)
   | inr h ↦ rw (le-ltb n 0x8000_0000 h) (ap negsuc (let e : 2 ^ 32 - suc n ≡ 0xffff_ffff - n = omega arith in e) ∙ sym (signed_high n h))
 ]
+
+pub eight_taken : (s : List ℕ) (at : ℕ) (xs : List ℕ) → xs ≡ take (at + 8 - at) (drop at s) → from_le_bytes w64 xs ≡ le 8 s at
+eight_taken s at xs h = let z : at + 0 ≡ at = omega arith in let e : at + 8 - at ≡ 8 = omega arith in rw (h, e) (rw (here 0 (omega arith), z, here 1 (omega arith), here 2 (omega arith), here 3 (omega arith), here 4 (omega arith), here 5 (omega arith), here 6 (omega arith), here 7 (omega arith)) (eight s at))
+  where
+    here : (i : ℕ) → i < 8 → get_or (take 8 (drop at s)) i 0 ≡ get_or s (at + i) 0
+    here i l = get_or-take 8 (drop at s) i 0 l ∙ get_or-drop at s i 0

@@ -25,16 +25,8 @@ pub fn u64_at(s: &[u8], at: usize) -> u64
     requires { at + 8 ≤ length s.now }
     ensures { result ≡ u64_at s.now at }
 {
-    u64::from_le_bytes([
-        s[at],
-        s[at + 1],
-        s[at + 2],
-        s[at + 3],
-        s[at + 4],
-        s[at + 5],
-        s[at + 6],
-        s[at + 7],
-    ])
+    // By a slice, where two and four bytes are listed in a line: the compiler makes the same of both.
+    u64::from_le_bytes(s[at..at + 8].try_into().unwrap())
 }
 
 pub fn i32_at(s: &[u8], at: usize) -> i32

@@ -28,4 +28,5 @@ take_over-requires g c = (search rules, takes_over c.requires.slotted c.requires
 pub returns : goal.returns
 returns g c =
     let both = taken c.requires.slotted c.requires.way_slots c.in-Some.is c.route-ri.ensures c.route-rj.ensures c.args.terms c.requires.depot_bound c.join-n.ensures.trial_after c.is_passed.ensures c.if-not-is_passed.false c.take_over.ensures.slots_len c.take_over.ensures.slot_taken in
-    record { slotted_2 = both.0; lens_after = both.1 }
+    let kept = c.take_over.ensures.count_kept in
+    record { count_kept = kept; slotted_2 = rw kept both.0; lens_after = rw kept both.1 }

@@ -6,16 +6,16 @@ use Rattle.clarke_wright_savings.specs.Savings.{after_merge}
 use Rattle.clarke_wright_slots.specs.Slots.{slots_in}
 use Rattle.clarke_wright_merging.proofs.Merging.{same_slot, none_from, none_to, two_fit, load_sum, too_much, both_some, ways, merges}
 use Rattle.clarke_wright_merging.proofs.merge.Goals as goal
-use Rattle.clarke_wright_merging.proofs.merge.Goals.{then-a-b-via-then-a-b, then-a-b-via-else-a-b+then-a-count, then-a-b-via-else-a-b+else-a-count+then-b-count, then-a-b-via-else-a-b+else-a-count+else-b-count+then-terms-slots}
+use Rattle.clarke_wright_merging.proofs.merge.Goals.{then-a-b-via-then-a-b, then-a-b-via-else-a-b+then-a-slots, then-a-b-via-else-a-b+else-a-slots+then-b-slots, then-a-b-via-else-a-b+else-a-slots+else-b-slots+then-terms-slots}
 
 pub bounds-slots-a : goal.bounds-slots-a
-bounds-slots-a g c = let f = two_fit c.requires.slotted c.args.terms c.requires.i_bound c.if-a-b.false c.if-a-count.false c.if-b-count.false in omega (arith, f)
+bounds-slots-a g c = let f = two_fit c.requires.slotted c.args.terms c.requires.i_bound c.if-a-b.false c.if-a-slots.false c.if-b-slots.false in omega (arith, f)
 
 pub bounds-slots-b : goal.bounds-slots-b
-bounds-slots-b g c = let f = two_fit c.requires.slotted c.args.terms c.requires.i_bound c.if-a-b.false c.if-a-count.false c.if-b-count.false in omega (arith, f)
+bounds-slots-b g c = let f = two_fit c.requires.slotted c.args.terms c.requires.i_bound c.if-a-b.false c.if-a-slots.false c.if-b-slots.false in omega (arith, f)
 
 pub overflow_add-slots : goal.overflow_add-slots
-overflow_add-slots g c = omega (arith, load_sum c.requires.slotted c.args.terms c.requires.i_bound c.if-a-b.false c.if-a-count.false c.if-b-count.false)
+overflow_add-slots g c = omega (arith, load_sum c.requires.slotted c.args.terms c.requires.i_bound c.if-a-b.false c.if-a-slots.false c.if-b-slots.false)
 
 pub returns-then-a-b-clause-lens_after : goal.returns-then-a-b-clause-lens_after
 returns-then-a-b-clause-lens_after g c =
@@ -23,22 +23,22 @@ returns-then-a-b-clause-lens_after g c =
     let a = c.args in
     elim c.then-a-b.branch [
       | then-a-b-via-then-a-b w ↦ same_slot p.slotted a.terms p.i_bound w.if-a-b.true
-      | then-a-b-via-else-a-b+then-a-count w ↦ none_from p.slotted a.terms p.i_bound w.if-a-count.true
-      | then-a-b-via-else-a-b+else-a-count+then-b-count w ↦ none_to p.slotted a.terms p.i_bound w.if-b-count.true
-      | then-a-b-via-else-a-b+else-a-count+else-b-count+then-terms-slots w ↦ too_much p.slotted a.terms p.i_bound w.if-a-b.false w.if-a-count.false w.if-b-count.false w.if-terms-slots.true
+      | then-a-b-via-else-a-b+then-a-slots w ↦ none_from p.slotted a.terms p.i_bound w.if-a-slots.true
+      | then-a-b-via-else-a-b+else-a-slots+then-b-slots w ↦ none_to p.slotted a.terms p.i_bound w.if-b-slots.true
+      | then-a-b-via-else-a-b+else-a-slots+else-b-slots+then-terms-slots w ↦ too_much p.slotted a.terms p.i_bound w.if-a-b.false w.if-a-slots.false w.if-b-slots.false w.if-terms-slots.true
     ]
 
 pub route-ri-requires : goal.route-ri-requires
-route-ri-requires g c = let f = two_fit c.requires.slotted c.args.terms c.requires.i_bound c.if-a-b.false c.if-a-count.false c.if-b-count.false in (search rules, ((f.into_in, f.into_celled), f.into_long))
+route-ri-requires g c = let f = two_fit c.requires.slotted c.args.terms c.requires.i_bound c.if-a-b.false c.if-a-slots.false c.if-b-slots.false in (search rules, ((f.into_in, f.into_celled), f.into_long))
 
 pub route-rj-requires : goal.route-rj-requires
-route-rj-requires g c = let f = two_fit c.requires.slotted c.args.terms c.requires.i_bound c.if-a-b.false c.if-a-count.false c.if-b-count.false in (search rules, ((f.from_in, f.from_celled), f.from_long))
+route-rj-requires g c = let f = two_fit c.requires.slotted c.args.terms c.requires.i_bound c.if-a-b.false c.if-a-slots.false c.if-b-slots.false in (search rules, ((f.from_in, f.from_celled), f.from_long))
 
 pub way_between-way-requires : goal.way_between-way-requires
-way_between-way-requires g c = both_some c.requires.slotted c.args.terms c.requires.i_bound c.if-a-b.false c.if-a-count.false c.if-b-count.false c.route-ri.ensures c.route-rj.ensures
+way_between-way-requires g c = both_some c.requires.slotted c.args.terms c.requires.i_bound c.if-a-b.false c.if-a-slots.false c.if-b-slots.false c.route-ri.ensures c.route-rj.ensures
 
 pub merge_by-requires : goal.merge_by-requires
-merge_by-requires g c = (search rules, (c.requires.slotted, (c.requires.depot_bound, (ways c.requires.slotted c.args.terms c.requires.i_bound c.if-a-b.false c.if-a-count.false c.if-b-count.false c.route-ri.ensures c.route-rj.ensures c.way_between-way.ensures, c.requires.most_rows_in_bounds))))
+merge_by-requires g c = (search rules, (c.requires.slotted, (c.requires.depot_bound, (ways c.requires.slotted c.args.terms c.requires.i_bound c.if-a-b.false c.if-a-slots.false c.if-b-slots.false c.route-ri.ensures c.route-rj.ensures c.way_between-way.ensures, c.requires.most_rows_in_bounds))))
 
 pub returns-clause-lens_after : goal.returns-clause-lens_after
-returns-clause-lens_after g c = c.merge_by.ensures.lens_after ∙ ap (after_merge (slots_in c.args.count c.args.slots.now.cells c.args.slots.now.lens)) (sym (merges c.requires.slotted c.args.terms c.requires.i_bound c.if-a-b.false c.if-a-count.false c.if-b-count.false c.route-ri.ensures c.route-rj.ensures c.way_between-way.ensures c.if-terms-slots.false))
+returns-clause-lens_after g c = c.merge_by.ensures.lens_after ∙ ap (after_merge (slots_in c.args.slots.now.count c.args.slots.now.cells c.args.slots.now.lens)) (sym (merges c.requires.slotted c.args.terms c.requires.i_bound c.if-a-b.false c.if-a-slots.false c.if-b-slots.false c.route-ri.ensures c.route-rj.ensures c.way_between-way.ensures c.if-terms-slots.false))

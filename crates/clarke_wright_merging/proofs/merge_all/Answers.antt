@@ -4,10 +4,15 @@ use Rattle.clarke_wright_merging.proofs.Merging.{goes_on, ends}
 use Rattle.clarke_wright_merging.proofs.merge_all.Goals as goal
 
 pub loop-entry-preserved : goal.loop-entry-preserved
-loop-entry-preserved g c = record {
-  merging = goes_on c.loop-entry.invariant.merging c.loop-entry-test.true c.merge.ensures.slotted_2 c.merge.ensures.lens_after;
-  long = c.merge.auto.trial ∙ c.loop-entry.invariant.long;
-}
+loop-entry-preserved g c =
+    let i = c.loop-entry.invariant in
+    let m = c.merge.ensures in
+    let kept = m.count_kept ∙ i.counted in
+    record {
+      counted = kept;
+      merging = goes_on i.merging c.loop-entry-test.true (rw kept at m.slotted_2) (rw (kept, i.counted) at m.lens_after);
+      long = c.merge.auto.trial ∙ i.long;
+    }
 
 pub returns-clause-lens_after : goal.returns-clause-lens_after
-returns-clause-lens_after g c = ends c.loop-entry.invariant.merging c.loop-entry-test.false
+returns-clause-lens_after g c = let i = c.loop-entry.invariant in rw i.counted (ends i.merging c.loop-entry-test.false)

@@ -6,6 +6,7 @@ use Rattle.clarke_wright_merging.proofs.merge_all.Given as goal
 
 abbrev pub invariant-loop-entry : goal.invariant-loop-entry
 invariant-loop-entry g l = record {
-  merging : Merging l.sheet l.terms l.count l.savings.from l.savings.to (take l.n l.savings.entries) l.initial.slots.cells l.initial.slots.lens l.slots.cells l.slots.lens l.slots.loads l.slots.slots l.entry-index;
+  counted : l.slots.count ≡ l.initial.slots.count;
+  merging : Merging l.sheet l.terms l.initial.slots.count l.savings.from l.savings.to (take l.savings.count l.savings.entries) l.initial.slots.cells l.initial.slots.lens l.slots.cells l.slots.lens l.slots.loads l.slots.slots l.entry-index;
   long : length l.trial ≡ 101;
 }

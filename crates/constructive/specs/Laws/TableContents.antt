@@ -1,7 +1,7 @@
 -- Tables that hold rounds from their start on: with a round's outcome laid down behind them they hold more, and with the stops set aside they are an outcome's. Assumes nothing.
 use Rattle.std.specs.Prelude.{◌≡◌, ℕ, zero, suc, ◌+◌, ◌-◌, ◌≤◌, ◌<◌, Bool, true, false, ◌&&◌, List, [], ◌∷◌, ◌++◌, T, leb, ltb, length, get_or, take, drop}
 use Rattle.std.proofs.Math.Path.{refl}
-use Rattle.std.proofs.Common.{sym, ap, ◌∙◌, subst, zero-add, add-one, arith, append_assoc, ltb→lt, length-append, length-take, drop_of_length-le, length-take-le, take_at, drop_at, take-take, take-add, drop-cons, drop-drop, get_or-take, ltb-true, ltb-false}
+use Rattle.std.proofs.Common.{sym, ap, ◌∙◌, subst, zero-add, add-one, arith, append_assoc, ltb→lt, length-append, length-drop, length-take, drop_of_length-le, length-take-le, take_at, drop_at, take-take, take-add, drop-cons, drop-drop, get_or-drop, get_or-take, ltb-true, ltb-false}
 use Rattle.std.specs.Float.Ieee.Fits.{and_l, and_r}
 use Rattle.std.proofs.Math.Seq.{take-append_seam, drop-append_seam}
 use Rattle.lists.specs.Laws.Once.{distinct_few}
@@ -12,6 +12,7 @@ use Rattle.sheet.specs.Depots.{depots_of}
 use Rattle.sheet.specs.Accepted.{Accepted}
 use Rattle.sheet.specs.Stops.{is_stop}
 use Rattle.constructive.specs.declared.tables.Filled.{Filled}
+use Rattle.constructive.specs.Members.{part}
 use Rattle.constructive.specs.Outcome.{Round, Outcome, rounds_in, start_in, outcome_in, chains, stops_of}
 use Rattle.constructive.specs.Tables.{Tables}
 use Rattle.constructive.specs.Right.{ids_known, links_right, each_once, outcome_right}
@@ -26,6 +27,13 @@ empty = record { rounds = 0; routed = 0 }
 -- as `Filled::default` tells
 pub is_empty : {f : Filled} → (f.rounds ≡ 0) × (f.routed ≡ 0) → f ≡ empty
 is_empty {f} e = let told : ◌≡◌ {A = Filled} (record { rounds = f.rounds; routed = f.routed }) empty = rw (e.0, e.1) in told
+
+-- ---- a part of a table
+pub part_long : (t : List ℕ) (from to : ℕ) → to ≤ length t → length (part t from to) ≡ to - from
+part_long t from to h = length-take-le (to - from) (drop from t) (omega (arith, length-drop from t))
+
+pub part_at : (t : List ℕ) (from to k : ℕ) → k < to - from → get_or (part t from to) k 0 ≡ get_or t (from + k) 0
+part_at t from to k h = get_or-take (to - from) (drop from t) k 0 h ∙ get_or-drop from t k 0
 
 -- ---- they hold nothing at first, and more after a constructor
 pub holds_none : (stops ends vehicles : List ℕ) → HoldsRounds stops ends vehicles empty []

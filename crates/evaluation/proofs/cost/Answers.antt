@@ -1,12 +1,16 @@
 -- `evaluation::cost` meets its contract. Assumes nothing.
-use lib.Ieee.{of_bits}
-use Rattle.evaluation.specs.Feasible.{cost_of}
+use Rattle.std.proofs.Common.{◌≡◌, rules, Option, Some, None, MatchOption, Float}
+use lib.Ieee.{inf, of_bits}
+use mathlib.Core.Bool.{false}
+use Rattle.evaluation_clock.specs.declared.clock.Schedule.{Schedule}
+use Rattle.evaluation.specs.Feasible.{priced_distance, cost_of}
 use Rattle.evaluation.proofs.cost.Goals as goal
 
-pub returns-in-Some : goal.returns-in-Some
+read : (eval : Option Schedule) (r : Float) (P : Schedule → Type 0) → MatchOption eval (r ≡ inf false) P → ((k : Schedule) → P k → r ≡ priced_distance k) → r ≡ cost_of eval
 unfolding cost_of
-returns-in-Some c = rw c.in-Some.is c.priced_distance.ensures
+read None r P h f = h
+read (Some k) r P h f = f k h
 
-pub returns-in-None : goal.returns-in-None
-unfolding cost_of of_bits
-returns-in-None c = rw c.in-None.is
+pub returns : goal.returns
+unfolding of_bits
+returns c = read _ _ _ c.map_or.ensures (λ k l. search rules)

@@ -22,16 +22,8 @@ returns-in-Err c =
 passed : (s : List ℕ) → 0 ≡ listing_refusal s 0 → (16 ≤ length s) × (rows_of s ≤ 48)
 passed s none = not_early s (sym none)
 
-pub rows-requires : goal.rows-requires
-rows-requires c = (passed c.args.sheet.now c.in_default.ensures).0
-
-pub overflow_mul-n : goal.overflow_mul-n
-overflow_mul-n c =
-    let few = (passed c.args.sheet.now c.in_default.ensures).1 in omega (arith, few)
-
-pub overflow_add-n : goal.overflow_add-n
-overflow_add-n c =
-    let few = (passed c.args.sheet.now c.in_default.ensures).1 in omega (arith, few)
+pub plan_length-n-requires : goal.plan_length-n-requires
+plan_length-n-requires c = (passed c.args.sheet.now c.in_default.ensures).0
 
 pub slice_bounds-write_planned-end : goal.slice_bounds-write_planned-end
 slice_bounds-write_planned-end c =
@@ -50,6 +42,6 @@ unfolding listed_text
 returns c =
     let s = c.args.sheet.now in
     let few = (passed s c.in_default.ensures).1 in
-    let lent = length-take-le (16 + 80 * c.rows.result) c.args.plan.now (omega (arith, few)) ∙ ap (λ (k : ℕ). 16 + 80 * k) c.rows.ensures in
+    let lent = length-take-le c.plan_length-n.result c.args.plan.now (omega (arith, few, c.plan_length-n.ensures)) ∙ c.plan_length-n.ensures in
     rw (told_stands s (refusal_of s (plan_length s)) (sym c.in_default.ensures), ← lent)
     c.write_planned.ensures

@@ -1,5 +1,4 @@
 -- `listing_text::put_chain` meets its contract. Assumes nothing.
-use mathlib.Core.Path.{◌∙◌}
 use native.Mathlib.Omega.{arith}
 use Rattle.sheet.specs.Fields.{rows_of}
 use Rattle.plan.specs.Read.{next_at}
@@ -11,10 +10,10 @@ rows-links-requires c = omega (arith, c.requires.listable.sized.long)
 
 pub loop-row-init : goal.loop-row-init
 loop-row-init c = let a = c.args in
-    rw c.rows-links.ensures (starts a.plan.now (rows_of a.sheet.now) a.out.now a.at (rows_of a.sheet.now) a.first c.requires.stops c.requires.text_room)
+    rw c.rows-links.ensures (starts a.plan.now (rows_of a.sheet.now) a.text.now (rows_of a.sheet.now) a.first c.requires.stops c.requires.text_room)
 
-pub put_stop_line-end-requires : goal.put_stop_line-end-requires
-put_stop_line-end-requires c = let f = c.loop-row.invariant in
+pub put_stop_line-requires : goal.put_stop_line-requires
+put_stop_line-requires c = let f = c.loop-row.invariant in
     let h = c.loop-row-test.true in
     record {
       listable = c.requires.listable;
@@ -22,11 +21,8 @@ put_stop_line-end-requires c = let f = c.loop-row.invariant in
       text_room = line_fits f h;
     }
 
-pub shape_of-out-then-links-eq0 : goal.shape_of-out-then-links-eq0
-shape_of-out-then-links-eq0 c = c.put_stop_line-end.auto.out ∙ c.loop-row.invariant.left.kept
-
 pub returns-then-links-eq0 : goal.returns-then-links-eq0
-returns-then-links-eq0 c = last c.loop-row.invariant c.loop-row-test.true c.put_stop_line-end.ensures c.if-links-eq0.true
+returns-then-links-eq0 c = last c.loop-row.invariant c.loop-row-test.true c.put_stop_line.ensures c.if-links-eq0.true
 
 pub overflow_sub-links : goal.overflow_sub-links
 overflow_sub-links c = omega arith
@@ -45,10 +41,7 @@ loop-row-smaller c = omega arith
 
 pub loop-row-preserved : goal.loop-row-preserved
 unfolding next_at
-loop-row-preserved c = rw (c.u16_at-row.ensures, c.visit_place.ensures.0, c.rows.ensures) (goes_on c.loop-row.invariant c.loop-row-test.true c.put_stop_line-end.ensures c.if-links-eq0.false)
-
-pub shape_of-out : goal.shape_of-out
-shape_of-out c = c.loop-row.invariant.left.kept
+loop-row-preserved c = rw (c.u16_at-row.ensures, c.visit_place.ensures.0, c.rows.ensures) (goes_on c.loop-row.invariant c.loop-row-test.true c.put_stop_line.ensures c.if-links-eq0.false)
 
 pub returns : goal.returns
 returns c = done c.loop-row.invariant c.loop-row-test.false

@@ -7,7 +7,7 @@ use Rattle.listing_text.proofs.Following.{Following}
 use Rattle.listing_text.proofs.put_chain.Given as goal
 
 abbrev pub invariant-loop-row : goal.invariant-loop-row
-invariant-loop-row l = Following l.plan (rows_of l.sheet) l.initial.out l.out l.at l.end (concatenated (stop_lines l.plan (rows_of l.sheet) (chain_of l.sheet l.plan l.first))) l.links l.row
+invariant-loop-row l = Following l.plan (rows_of l.sheet) l.initial.text l.text (concatenated (stop_lines l.plan (rows_of l.sheet) (chain_of l.sheet l.plan l.first))) l.links l.row
 
 abbrev pub decreases-loop-row : goal.decreases-loop-row
 decreases-loop-row l = l.links

@@ -15,10 +15,10 @@ overflow_cast-rounds c = omega arith
 pub loop-k-init : goal.loop-k-init
 unfolding rounds_at read_plan
 loop-k-init c = let a = c.args in
-    (c.u16_at-rounds.ensures, starts a.sheet.now a.plan.now (rounds_at a.plan.now) (chain_of a.sheet.now a.plan.now (aside_at a.plan.now)) a.out.now a.at (stops a.sheet.now a.plan.now c.requires.listable) c.requires.text_room)
+    (c.u16_at-rounds.ensures, starts a.sheet.now a.plan.now (rounds_at a.plan.now) (chain_of a.sheet.now a.plan.now (aside_at a.plan.now)) a.text.now (stops a.sheet.now a.plan.now c.requires.listable) c.requires.text_room)
 
-pub put_round-end-requires : goal.put_round-end-requires
-put_round-end-requires c = let a = c.args in
+pub put_round-requires : goal.put_round-requires
+put_round-requires c = let a = c.args in
     let l = c.loop-k in
     let h : l.k < rounds_at a.plan.now = omega (arith, l.invariant.0, c.loop-k-test.true) in
     record {
@@ -38,10 +38,7 @@ pub loop-k-preserved : goal.loop-k-preserved
 loop-k-preserved c = let a = c.args in
     let l = c.loop-k in
     let h : l.k < rounds_at a.plan.now = omega (arith, l.invariant.0, c.loop-k-test.true) in
-    (l.invariant.0, goes_on l.invariant.1 h c.put_round-end.ensures)
-
-pub shape_of-out : goal.shape_of-out
-shape_of-out c = c.loop-k.invariant.1.left.kept
+    (l.invariant.0, goes_on l.invariant.1 h c.put_round.ensures)
 
 pub returns : goal.returns
 unfolding read_plan

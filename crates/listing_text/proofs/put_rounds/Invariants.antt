@@ -6,7 +6,7 @@ use Rattle.listing_text.proofs.Counting.{Counting}
 use Rattle.listing_text.proofs.put_rounds.Given as goal
 
 abbrev pub invariant-loop-k : goal.invariant-loop-k
-invariant-loop-k l = (l.rounds ≡ rounds_at l.plan) × Counting l.sheet l.plan (rounds_at l.plan) (chain_of l.sheet l.plan (aside_at l.plan)) l.initial.out l.out l.at l.end l.k
+invariant-loop-k l = (l.rounds ≡ rounds_at l.plan) × Counting l.sheet l.plan (rounds_at l.plan) (chain_of l.sheet l.plan (aside_at l.plan)) l.initial.text l.text l.k
 
 abbrev pub decreases-loop-k : goal.decreases-loop-k
 decreases-loop-k l = l.rounds - l.k

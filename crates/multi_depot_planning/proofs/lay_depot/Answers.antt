@@ -12,7 +12,7 @@ returns-then-total-from g c = let p = c.requires in
 pub by_savings-saved-requires : goal.by_savings-saved-requires
 by_savings-saved-requires g c = let p = c.requires in
     let m = c.members_of-total.ensures in
-    (search rules, (ready p.planning_tables p.next m.value m.stops_after c.if-total-from.false, sym c.method.ensures ∙ c.saves_many.ensures.method_value c.if-saves_many.true))
+    (search rules, (ready p.planning_tables p.next m.value m.stops_after c.if-total-from.false, rw (← c.bytes.ensures.value) (c.saves_many.ensures.sheet_value c.if-saves_many.true)))
 
 pub returns-then-saves_many : goal.returns-then-saves_many
 returns-then-saves_many g c = let p = c.requires in
@@ -23,7 +23,7 @@ returns-then-saves_many g c = let p = c.requires in
 pub construct-done-requires : goal.construct-done-requires
 construct-done-requires g c = let p = c.requires in
     let m = c.members_of-total.ensures in
-    (search rules, (ready p.planning_tables p.next m.value m.stops_after c.if-total-from.false, λ q. c.saves_many.ensures.members_bound c.if-saves_many.false (c.method.ensures ∙ q)))
+    (search rules, (ready p.planning_tables p.next m.value m.stops_after c.if-total-from.false, λ q. c.saves_many.ensures.members_bound c.if-saves_many.false (rw c.bytes.ensures.value q)))
 
 pub returns : goal.returns
 returns g c = let p = c.requires in

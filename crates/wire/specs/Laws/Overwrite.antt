@@ -1,7 +1,7 @@
 -- Writes over what was written, and what stands where. Assumes nothing.
 use Rattle.std.specs.Prelude.{◌≡◌, ℕ, ◌+◌, ◌≤◌}
 use Rattle.std.proofs.Math.Path.{sym, ap}
-use Rattle.std.proofs.Common.{◌∙◌, arith, length-append, length-drop, take-append-drop, length-take-le, take_at, drop_at, drop-drop}
+use Rattle.std.proofs.Common.{◌∙◌, arith, zero-add, length-append, length-drop, take-append-drop, length-take-le, take_at, drop_at, drop-drop}
 use mathlib.Core.List.{List, ◌++◌, append_assoc, append-nil}
 use Rattle.std.proofs.Math.ListN.{length, take, drop}
 use Rattle.std.proofs.Math.Seq.{take-append_seam, drop-append-le, drop-length}
@@ -11,6 +11,11 @@ use Rattle.wire.specs.Bytes.{write}
 pub put_part : (s : List ℕ) (at n : ℕ) (xs : List ℕ) → length xs ≡ n → take at s ++ (xs ++ drop n (drop at s)) ≡ write s at xs
 unfolding write
 put_part s at n xs e = rw (drop-drop n at s, e)
+
+-- what is as long as all
+pub write_all : (s xs : List ℕ) → length xs ≡ length s → write s 0 xs ≡ xs
+unfolding write
+write_all s xs e = rw (zero-add, e) (rw (drop-length s) (append-nil xs))
 
 -- what stands there already changes nothing
 pub write_same : (s : List ℕ) (at n : ℕ) → at + n ≤ length s → write s at (take n (drop at s)) ≡ s

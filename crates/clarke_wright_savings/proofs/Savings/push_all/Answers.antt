@@ -11,7 +11,7 @@ unfolding savings_of
 loop-start-init g c = none_yet _ refl _ _ _ _ _ _
 
 pub loop-start-preserved : goal.loop-start-preserved
-loop-start-preserved g c = let p = c.push_from-end in of_takes _ _ c.loop-start.invariant c.loop-start-test.true _ _ _ _ _ p.ensures.value p.ensures.savings_pushed
+loop-start-preserved g c = let p = c.push_from in of_takes _ _ c.loop-start.invariant c.loop-start-test.true _ _ _ _ _ p.ensures.count_after p.ensures.savings_pushed
 
-pub push_from-end-requires : goal.push_from-end-requires
-push_from-end-requires g c = (search rules, (c.requires.routed, (c.requires.routed.row c.loop-start.start-index (omega arith), (omega (arith, few _ _ c.loop-start.invariant c.loop-start-test.true, c.requires.members_in_bounds), of_fits _ _ c.loop-start.invariant c.loop-start-test.true c.requires.routed.few))))
+pub push_from-requires : goal.push_from-requires
+push_from-requires g c = (search rules, (c.requires.routed, (c.requires.routed.row c.loop-start.start-index (omega arith), (omega (arith, few _ _ c.loop-start.invariant c.loop-start-test.true, c.requires.members_in_bounds), of_fits _ _ c.loop-start.invariant c.loop-start-test.true c.requires.routed.few))))

@@ -16,11 +16,8 @@ loop-other-preserved-then-not-is_paired g c = from_skips _ _ _ c.loop-other.inva
 pub loop-other-preserved-then-not-value : goal.loop-other-preserved-then-not-value
 loop-other-preserved-then-not-value g c = from_skips _ _ _ c.loop-other.invariant c.loop-other-test.true (rw (← c.is_paired.ensures, ← c.value_of-value.ensures, c.if-not-is_paired.false) (c.if-not-value.true))
 
-pub overflow_add-end : goal.overflow_add-end
-overflow_add-end g c = omega (arith, from_fits _ _ _ c.loop-other.invariant c.loop-other-test.true 0xffff (omega (arith, c.requires.members_bound)))
-
 pub loop-other-preserved : goal.loop-other-preserved
-loop-other-preserved g c = let p = c.push in from_takes _ _ _ c.loop-other.invariant c.loop-other-test.true (rw (← c.is_paired.ensures, ← c.value_of-value.ensures, c.if-not-is_paired.false) (c.if-not-value.false)) _ _ _ _ (rw (← c.value_of-value.ensures) p.ensures)
+loop-other-preserved g c = let p = c.push in from_takes _ _ _ c.loop-other.invariant c.loop-other-test.true (rw (← c.is_paired.ensures, ← c.value_of-value.ensures, c.if-not-is_paired.false) (c.if-not-value.false)) _ _ _ _ _ p.ensures.count_after (rw (← c.value_of-value.ensures) p.ensures.savings_pushed)
 
 pub push-requires : goal.push-requires
 push-requires g c = let n = from_fits _ _ _ c.loop-other.invariant c.loop-other-test.true in (search rules, (omega (arith, n _ c.requires.members_in_bounds), omega (arith, n 0xffff (omega (arith, c.requires.members_bound)))))

@@ -8,24 +8,24 @@ use Rattle.clarke_wright_savings.proofs.Ranking.{listed, entries_hold, numbers, 
 use Rattle.clarke_wright_savings.proofs.Savings.rank.Goals as goal
 
 pub shared_whole_as_front-sort_descending : goal.shared_whole_as_front-sort_descending
-shared_whole_as_front-sort_descending g c = let o = c.push_all-count.ensures in (le_trans (few _ _ _ o.value o.savings_pushed) c.requires.members_in_bounds, search rules)
+shared_whole_as_front-sort_descending g c = let o = c.push_all.ensures in (le_trans (few _ _ _ o.count_after o.savings_pushed) c.requires.members_in_bounds, search rules)
 
 pub whole_as_front-sort_descending : goal.whole_as_front-sort_descending
-whole_as_front-sort_descending g c = let o = c.push_all-count.ensures in (le_trans (few _ _ _ o.value o.savings_pushed) c.requires.members_in_bounds, search rules)
+whole_as_front-sort_descending g c = let o = c.push_all.ensures in (le_trans (few _ _ _ o.count_after o.savings_pushed) c.requires.members_in_bounds, search rules)
 
 pub sort_descending-requires : goal.sort_descending-requires
-sort_descending-requires g c = let o = c.push_all-count in record {
-  numbers = (numbers _ _ _ o.ensures.value o.ensures.savings_pushed, placed _ _ _ o.ensures.value o.ensures.savings_pushed);
-  entries_in_bounds = omega (arith, length-take-le o.result o.new.self.entries (entries_hold _ _ _ o.ensures.value o.ensures.savings_pushed), few _ _ _ o.ensures.value o.ensures.savings_pushed, c.requires.scratch_in_bounds);
+sort_descending-requires g c = let o = c.push_all in record {
+  numbers = (numbers _ _ _ o.ensures.count_after o.ensures.savings_pushed, placed _ _ _ o.ensures.count_after o.ensures.savings_pushed);
+  entries_in_bounds = omega (arith, length-take-le o.new.self.count o.new.self.entries (entries_hold _ _ _ o.ensures.count_after o.ensures.savings_pushed), few _ _ _ o.ensures.count_after o.ensures.savings_pushed, c.requires.scratch_in_bounds);
 }
 
 pub returns : goal.returns
-returns g c = let o = c.push_all-count in
+returns g c = let o = c.push_all in
     let d = c.sort_descending in
     let e = o.ensures in
-    let l = d.auto.entries ∙ length-take-le o.result o.new.self.entries (entries_hold _ _ _ e.value e.savings_pushed) in
+    let l = d.auto.entries ∙ length-take-le o.new.self.count o.new.self.entries (entries_hold _ _ _ e.count_after e.savings_pushed) in
     record {
-      value = e.value;
-      listed = listed _ _ _ e.value e.savings_pushed;
-      entries_after = in_rank _ _ _ e.value e.savings_pushed d.new.entries _ l d.ensures;
+      count_after = e.count_after;
+      listed = listed _ _ _ e.count_after e.savings_pushed;
+      entries_after = in_rank _ _ _ e.count_after e.savings_pushed d.new.entries _ l d.ensures;
     }

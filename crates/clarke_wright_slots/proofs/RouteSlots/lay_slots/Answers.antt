@@ -5,7 +5,7 @@ use Rattle.clarke_wright_slots.proofs.Rounds.{begins, fits, passes_on, close_roo
 use Rattle.clarke_wright_slots.proofs.RouteSlots.lay_slots.Goals as goal
 
 pub loop-k-init : goal.loop-k-init
-loop-k-init g c = begins c.args.count c.args.self.now.cells c.args.self.now.lens c.args.vehicle c.args.tables.now.stops c.args.tables.now.ends c.args.tables.now.vehicles c.args.filled c.requires
+loop-k-init g c = begins c.args.self.now.count c.args.self.now.cells c.args.self.now.lens c.args.vehicle c.args.tables.now.stops c.args.tables.now.ends c.args.tables.now.vehicles c.args.filled c.requires
 
 pub loop-k-preserved-then-n-eq0 : goal.loop-k-preserved-then-n-eq0
 loop-k-preserved-then-n-eq0 g c = passes_on c.loop-k.invariant c.loop-k-test.true c.if-n-eq0.true

@@ -4,4 +4,4 @@ use Rattle.nearest_neighbor_choice.proofs.Judging.{Choosing}
 use Rattle.nearest_neighbor_choice.proofs.rule.nearest.Given as goal
 
 abbrev pub invariant-loop-j : goal.invariant-loop-j
-invariant-loop-j g l = Choosing (offer_by l.sheet l.terms.depot (g.R.Rule.which l.rule) l.terms.vehicle l.terms.limits l.partial) l.left l.best l.j l.j-end
+invariant-loop-j g l = Choosing (offer_by l.sheet l.depot (g.R.Rule.which l.rule) l.vehicle l.limits l.partial) l.left l.best l.j l.j-end

@@ -9,12 +9,12 @@ use Rattle.nearest_neighbor_choice.proofs.nn_tw.NearestNeighborTwRule.nearer.Goa
 
 pub returns-then-takes : goal.returns-then-takes
 unfolding offer_by window_by
-returns-then-takes c = is_taken c.args.best c.args.j (takes_by c.args.sheet.now c.args.terms.depot c.args.terms.vehicle c.args.terms.limits c.args.self.soft c.args.partial c.args.row (candidate_of c.args.sheet.now c.args.partial c.args.row)) (candidate_of c.args.sheet.now c.args.partial c.args.row).key c.candidate_at-seen.result.key (ap (λ (l : Candidate). l.key) c.candidate_at-seen.ensures) (sym c.wins.ensures ∙ c.if-wins.true) (ap (λ (l : Candidate). takes_by c.args.sheet.now c.args.terms.depot c.args.terms.vehicle c.args.terms.limits c.args.self.soft c.args.partial c.args.row l) (sym c.candidate_at-seen.ensures) ∙ sym c.takes.ensures ∙ c.if-takes.true)
+returns-then-takes c = is_taken c.args.best c.args.j (takes_by c.args.sheet.now c.args.depot c.args.vehicle c.args.limits c.args.self.soft c.args.partial c.args.row (candidate_of c.args.sheet.now c.args.partial c.args.row)) (candidate_of c.args.sheet.now c.args.partial c.args.row).key c.candidate_at-seen.result.key (ap (λ (l : Candidate). l.key) c.candidate_at-seen.ensures) (sym c.wins.ensures ∙ c.if-wins.true) (ap (λ (l : Candidate). takes_by c.args.sheet.now c.args.depot c.args.vehicle c.args.limits c.args.self.soft c.args.partial c.args.row l) (sym c.candidate_at-seen.ensures) ∙ sym c.takes.ensures ∙ c.if-takes.true)
 
 pub returns : goal.returns
 unfolding offer_by window_by
 returns c =
     elim c.else-wins.branch [
-      | else-wins-via-else-wins w ↦ loses c.args.best c.args.j (takes_by c.args.sheet.now c.args.terms.depot c.args.terms.vehicle c.args.terms.limits c.args.self.soft c.args.partial c.args.row (candidate_of c.args.sheet.now c.args.partial c.args.row)) (candidate_of c.args.sheet.now c.args.partial c.args.row).key c.candidate_at-seen.result.key (ap (λ (l : Candidate). l.key) c.candidate_at-seen.ensures) (sym c.wins.ensures ∙ w.if-wins.false)
-      | else-wins-via-then-wins+else-takes w ↦ stays_out c.args.best c.args.j (takes_by c.args.sheet.now c.args.terms.depot c.args.terms.vehicle c.args.terms.limits c.args.self.soft c.args.partial c.args.row (candidate_of c.args.sheet.now c.args.partial c.args.row)) (candidate_of c.args.sheet.now c.args.partial c.args.row).key (ap (λ (l : Candidate). takes_by c.args.sheet.now c.args.terms.depot c.args.terms.vehicle c.args.terms.limits c.args.self.soft c.args.partial c.args.row l) (sym c.candidate_at-seen.ensures) ∙ sym w.takes.ensures ∙ w.if-takes.false)
+      | else-wins-via-else-wins w ↦ loses c.args.best c.args.j (takes_by c.args.sheet.now c.args.depot c.args.vehicle c.args.limits c.args.self.soft c.args.partial c.args.row (candidate_of c.args.sheet.now c.args.partial c.args.row)) (candidate_of c.args.sheet.now c.args.partial c.args.row).key c.candidate_at-seen.result.key (ap (λ (l : Candidate). l.key) c.candidate_at-seen.ensures) (sym c.wins.ensures ∙ w.if-wins.false)
+      | else-wins-via-then-wins+else-takes w ↦ stays_out c.args.best c.args.j (takes_by c.args.sheet.now c.args.depot c.args.vehicle c.args.limits c.args.self.soft c.args.partial c.args.row (candidate_of c.args.sheet.now c.args.partial c.args.row)) (candidate_of c.args.sheet.now c.args.partial c.args.row).key (ap (λ (l : Candidate). takes_by c.args.sheet.now c.args.depot c.args.vehicle c.args.limits c.args.self.soft c.args.partial c.args.row l) (sym c.candidate_at-seen.ensures) ∙ sym w.takes.ensures ∙ w.if-takes.false)
     ]

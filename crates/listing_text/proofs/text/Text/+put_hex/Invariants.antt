@@ -1,4 +1,4 @@
-use Rattle.listing_text.proofs.text.+put_hex.Given as goal
+use Rattle.listing_text.proofs.text.Text.+put_hex.Given as goal
 
 abbrev pub decreases-put_hex : goal.decreases-put_hex
 decreases-put_hex l = l.digits

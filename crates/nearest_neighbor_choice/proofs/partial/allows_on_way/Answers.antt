@@ -1,6 +1,6 @@
--- `nearest_neighbor_choice::terms::VehicleTerms::allows_on_way` meets its contract. Assumes nothing.
+-- `nearest_neighbor_choice::partial::allows_on_way` meets its contract. Assumes nothing.
 use Rattle.nearest_neighbor_choice.specs.Partial.{allows_on_way}
-use Rattle.nearest_neighbor_choice.proofs.terms.VehicleTerms.allows_on_way.Goals as goal
+use Rattle.nearest_neighbor_choice.proofs.partial.allows_on_way.Goals as goal
 
 pub returns-in-None : goal.returns-in-None
 unfolding allows_on_way

@@ -1,4 +1,4 @@
-use Rattle.listing_text.proofs.text.+put_decimal.Given as goal
+use Rattle.listing_text.proofs.text.Text.+put_decimal.Given as goal
 
 abbrev pub decreases-put_decimal : goal.decreases-put_decimal
 decreases-put_decimal l = l.n
