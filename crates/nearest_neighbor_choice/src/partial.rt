@@ -52,7 +52,8 @@ pub fn carries(sheet: &Sheet, vehicle: Vehicle, partial: Partial, row: usize) ->
 }
 
 // Whether the limits are kept with the row as the last stop and no rest at home: by the clock, where there is one to keep;
-// else by the distance and the duration that are given.
+// else by the distance and the duration that are given. Depot, limits, row and distance go apart here and in `allows_home`, as in
+// `evaluation::keeping`, which is called with them.
 fn allows_on_way(
     sheet: &Sheet,
     depot: usize,

@@ -41,7 +41,7 @@ fn walk_rounds<const N: usize>(sheet: &Sheet, tables: &RouteTables<N>, figures: 
     requires { RoundTables sheet.now tables.now.stops tables.now.ends tables.now.vehicles (length figures.old) }
     ensures { figures.new ≡ map (route_figures sheet.now) (rounds_in tables.now.stops tables.now.ends tables.now.vehicles (length figures.old) 0 0) }
 {
-    // by places: a round stands in two tables, told by k
+    // by places: a round stands in two tables, told by k; the loop of `plan` writes the bytes of what it makes
     for (k, place) in figures.iter_mut().enumerate() {
         *place = built(sheet, tables.vehicle_of(k) as usize, tables.route(k));
     }

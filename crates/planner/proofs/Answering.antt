@@ -1,10 +1,7 @@
 -- The answer, refused or planned, and that it keeps what is promised. Assumes nothing.
 use mathlib.Core.Path.{◌≡◌, refl, sym, ◌∙◌}
 use Prim.Native.Nat.{ℕ, zero, suc, ◌<◌}
-use mathlib.Core.Bool.{Bool, true, false, not}
 use mathlib.Core.List.{List}
-use lib.Dec.{leb, ltb}
-use borrow.Author.Tests.{lt-leb, le-leb, ltb-true, ltb-false}
 use lib.ListN.{length, get_or}
 use Rattle.sheet.specs.Fields.{plan_length}
 use Rattle.sheet.specs.Refusal.{refusal_of}
@@ -55,11 +52,3 @@ module _ (s lent : List ℕ) (n : ℕ) (told : n ≡ refusal_of s (length lent))
           ),
         ),
       )
-
--- more than one row
-pub above_one : (n : ℕ) → ltb 1 n ≡ not (leb n 1)
-above_one n = go (ltb 1 n) refl
-  where
-    go : (b : Bool) → ltb 1 n ≡ b → ltb 1 n ≡ not (leb n 1)
-    go true e = rw (e, lt-leb n 1 (ltb-true 1 n e))
-    go false e = rw (e, le-leb n 1 (ltb-false 1 n e))
