@@ -1,5 +1,5 @@
-// The rule that a round grows by. A stop is judged by the depot, the vehicle and its limits, which go apart: with a struct of the
-// three, plans by plain nearest neighbour took 1.1 to 1.2 of the time.
+// The rule that a round grows by. A stop is judged by the depot, the vehicle and its limits, which go apart: a struct of the three
+// was tried, with 1.02 to 1.04 of the instructions of a plan of 50 and 101 rows by plain nearest neighbour.
 ghost use Rattle.std.specs.Prelude.{◌≡◌, ◌<◌, None};
 ghost use Rattle.sheet.specs.Fields.{rows_of};
 ghost use Rattle.evaluation.specs.Routed.{Routed};
