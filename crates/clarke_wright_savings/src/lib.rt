@@ -17,8 +17,8 @@ use sheet::Sheet;
 use terms::Directed;
 
 // The savings: from where, to where, what each saves, the places in which they are tried, and how many there are. The values stand
-// by themselves, as the keys that are sorted by; and the rows from and to in two tables, as the definition of the legs has them. That there is
-// room for all pairs of some members is a clause: N is told by who holds the tables.
+// by themselves, as the keys that are sorted by; and the rows from and to in two tables, as the definition of the legs has them.
+// That there is room for all pairs of some members is a clause: N is told by who holds the tables.
 #[derive(Drop)]
 pub struct Savings<const N: usize> {
     pub from: [u16; N],

@@ -6,10 +6,10 @@ ghost use Rattle.constructive.specs.Members.{part};
 ghost use Rattle.constructive.specs.Outcome.{start_in};
 
 // How far the tables are filled: so many rounds, with so many stops in all. It goes beside them: it is what each constructor
-// answers, and a caller that drops what was laid down goes on from the one before. That there are no more rounds than stops is a clause of who
-// adds rounds (`Room`): as an invariant it would have `close_round` ask for a stop in each round, which it does not. Nor does one
-// struct take the sheet, the depot, the tables, this and the end of the members, which go through all constructors: the tables are
-// lent to be changed and the others are not, and every clause on them would go by one name more.
+// answers, and a caller that drops what was laid down goes on from the one before. That there are no more rounds than stops is
+// a clause of who adds rounds (`Room`): as an invariant it would have `close_round` ask for a stop in each round, which it
+// does not. Nor does one struct take the sheet, the depot, the tables, this and the end of the members, which go through all
+// constructors: the tables are lent to be changed and the others are not, and every clause on them would go by one name more.
 #[derive(Clone, Copy, Default)]
 pub struct Filled {
     pub rounds: usize,

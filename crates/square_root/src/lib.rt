@@ -4,8 +4,9 @@
 ghost use Rattle.std.specs.Prelude.{◌+◌, ◌*◌, ◌^◌, ◌≤◌, ◌<◌};
 ghost use Rattle.square_root.specs.ClosestRoot.{ClosestRoot};
 
-// The largest r with r * r <= n, by Newton's iteration: a step from any number leads to one that is not below the root. The number that it starts from
-// suits an n from 2^62 up. The library's `isqrt` halves an interval in 32 steps, and takes twice as long.
+// The largest r with r * r <= n, by Newton's iteration: a step from any number leads to one that is not below the root. The
+// number that it starts from suits an n from 2^62 up. The library's `isqrt` halves an interval in 32 steps, and takes twice as
+// long.
 fn whole_root(n: u64) -> u64
     requires { 1 ≤ n }
     ensures { (result * result ≤ n) × (n < (result + 1) * (result + 1)) }
