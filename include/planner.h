@@ -71,9 +71,9 @@
 
 /* The major number rises where bytes that a version accepts are refused or get another
    meaning, the minor one where something is added. */
-#define PLANNER_VERSION_MAJOR 2
-#define PLANNER_VERSION_MINOR 3
-#define PLANNER_VERSION "2.3"
+#define PLANNER_VERSION_MAJOR 3
+#define PLANNER_VERSION_MINOR 0
+#define PLANNER_VERSION "3.0"
 
 /* Bytes of stack to keep free for a call, beside what its thread takes otherwise:
    half as much again, or more, as any call was seen to take (tests/c/stack.c).
@@ -180,13 +180,13 @@ extern "C" {
  *
  *   offset  type     field
  *        0  u16      the next stop of its chain, 0 at the end
- *        2  u16      zero
+ *        2  u16      reason of a stop set aside, see enum planner_reason; 0 of others
  *        4  i32      load after it
  *        8  f64      arrival; a rest at this stop comes after it
  *       16  f64      departure
  *
  * A chain starts at a round's first stop, or at the first stop set aside. A stop
- * set aside has only its next; a depot's row is all zero.
+ * set aside has only its next and its reason; a depot's row is all zero.
  *
  * THE BILL of a plan of N rounds has exactly 8 * (N + 1) bytes, little-endian too:
  *
@@ -281,6 +281,43 @@ enum {
     PLANNER_REST_AT_HOME = 8 /* only with PLANNER_REST */
 };
 
+/*
+ * Why a stop is set aside. From plan_rounds it is one of 1 to 7, the first that holds of
+ * the stop's lone round, depot to stop to depot. The depot is the one tried last: of those
+ * that have a vehicle the farthest by its leg to the stop, of equally far ones the higher
+ * row. The vehicle is that depot's first. From limit_rounds it is one of 0 to 8.
+ *
+ * Each is asked as the method asks it: savings pass over PLANNER_ASIDE_CAPACITY, and plain
+ * nearest neighbour, on a vehicle without a rest, over PLANNER_ASIDE_WINDOW, the depot's
+ * due and waiting.
+ */
+enum planner_reason {
+    /* Not told: limit_rounds copies it from a plan in that is older than version 3.0, or
+       made up. */
+    PLANNER_ASIDE_UNTOLD = 0,
+    /* No depot has a vehicle: the sheet has none. */
+    PLANNER_ASIDE_NO_VEHICLE = 1,
+    /* The demand is above the capacity. */
+    PLANNER_ASIDE_CAPACITY = 2,
+    /* Even without a rest the arrival is after the due of a hard window. */
+    PLANNER_ASIDE_WINDOW = 3,
+    /* The rest has no place, maxima and the depot's due apart: before the stop it would
+       start after latest, or end after the due of a hard window; and at the depot it may
+       not stand, or would start after latest there too. */
+    PLANNER_ASIDE_REST = 4,
+    /* The distance is above the maximum. */
+    PLANNER_ASIDE_DISTANCE = 5,
+    /* The duration is above the maximum, or after the depot's due, with the rest at every
+       place that it has. */
+    PLANNER_ASIDE_DURATION = 6,
+    /* The fleet is used up: nothing of this holds of the first vehicle; or, whatever does,
+       another one of that depot could make the lone round. Only by the nearest neighbours,
+       since the other methods use a vehicle as often as it takes. */
+    PLANNER_ASIDE_FLEET = 7,
+    /* limit_rounds dropped the stop's round, and no round that was left took the stop. */
+    PLANNER_ASIDE_LIMITED = 8
+};
+
 #ifdef __cplusplus
 #define PLANNER_CAST(type, value) static_cast<type>(value)
 #else
@@ -339,8 +376,8 @@ enum planner_refusal {
     /* The sheet has several depots. */
     PLANNER_SEVERAL_DEPOTS = 9,
     /* The plan in has more rounds than the sheet has rows, a round whose id is
-       no vehicle's, a link to no stop, or a stop that does not stand exactly
-       once in all its chains. */
+       no vehicle's, a link to no stop, a stop that does not stand exactly once
+       in all its chains, or a stop set aside with a reason above 8. */
     PLANNER_BAD_PLAN = 10,
     /* Text not of its form. */
     PLANNER_BAD_TEXT = 11,
@@ -371,8 +408,10 @@ uint32_t check_sheet(const uint8_t *sheet, size_t sheet_len, size_t plan_len);
  *   plan_len          how many bytes are lent: PLANNER_PLAN_BYTES(rows) is the only
  *                     length accepted
  *
- * Every stop stands once in the plan, in a round or set aside. The rest of what is
- * promised is so on sheets where no row has both PLANNER_WINDOW and PLANNER_PENALTY,
+ * Every stop stands once in the plan, in a round or set aside. One that is set aside has
+ * a reason from 1 to 7: PLANNER_ASIDE_NO_VEHICLE where the sheet has no vehicle, and only
+ * there, and PLANNER_ASIDE_FLEET never by savings, insertion or sweep. The rest of what
+ * is promised is so on sheets where no row has both PLANNER_WINDOW and PLANNER_PENALTY,
  * and where distances, times, windows, service and rests are whole numbers:
  *
  *   - every round keeps its windows, its rest and its maxima, by every method but
@@ -391,24 +430,26 @@ uint32_t plan_rounds(const uint8_t *sheet, size_t sheet_len, uint8_t *plan, size
  * first. Its stops go, the cheapest first, to the rounds that stay, each at the
  * cheapest place that keeps its vehicle's capacity, limits and rest and all hard
  * windows; what a place costs is the detour, and with soft windows the lateness
- * too. A stop that fits nowhere is set aside. A round that takes no stop stays as it
- * was, whatever it breaks.
+ * too. A stop that fits nowhere is set aside, by PLANNER_ASIDE_LIMITED. A round that
+ * takes no stop stays as it was, whatever it breaks.
  *
  * PLANNER_ACCEPTED, and the plan out fills its buffer, with the figures of every
  * round walked anew; or the first refusal of enum planner_refusal that holds. Every
  * stop stands once in the plan out, and there are at most `greatest` rounds. Stops
- * that the plan in sets aside stay so; the chain of those set aside comes out
- * ascending. A round whose rest has no place, nor one at home where that is allowed,
- * has the figures of the walk without it.
+ * that the plan in sets aside stay so, each with the reason that it has there, 0 too;
+ * the chain of those set aside comes out ascending. A round whose rest has no place, nor
+ * one at home where that is allowed, has the figures of the walk without it.
  * Stack: PLANNER_STACK.
  *
  *   sheet, sheet_len    as for check_sheet; of any method, with one depot
  *   plan_in             the plan's bytes: a plan of plan_rounds', of this function's,
  *                       or made up. What is read of it: the number of rounds, the ids
  *                       and first stops of so many records, the first stop set aside,
- *                       and each stop's next. No figure is read, and none of the other
- *                       bytes needs to be zero. Rounds may be empty, over capacity or
- *                       late, and several may have one vehicle
+ *                       each stop's next, and the reasons of the stops set aside, which
+ *                       are not held to the sheet. No figure is read, and none of the
+ *                       other bytes needs to be zero, nor has a stop on a round to have
+ *                       the reason 0. Rounds may be empty, over capacity or late, and
+ *                       several may have one vehicle
  *   plan_in_len         how many bytes are lent: PLANNER_PLAN_BYTES(rows) is the only
  *                       length accepted
  *   greatest            the most rounds of the plan out, any number; with 0 every
@@ -474,8 +515,8 @@ int32_t import_solomon(const uint8_t *text, size_t text_len, uint8_t *sheet, siz
  *
  *   sheet, sheet_len    as for check_sheet; of any method, with any depots
  *   plan, plan_len      as limit_rounds takes a plan in: plan_rounds', limit_rounds', or
- *                       made up, and read as there. With several depots a link to any of
- *                       them is a link to no stop
+ *                       made up, and read as there, reasons too. With several depots a
+ *                       link to any of them is a link to no stop
  *   distance_rate       cents for each begun 1,000 of distance, up to PLANNER_MOST_RATE
  *   duration_rate       cents for each begun 900 of duration, up to the same
  *   least               cents that a round with a stop costs at least, up to the same

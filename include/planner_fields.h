@@ -1,7 +1,7 @@
 /*
  * Readers and writers of every field of a sheet and of a plan, readers of a bill, and
- * the words of a refusal, for C and C++ hosts of planner.h. Everything is inline:
- * nothing of it is in the archive, and nothing of it is proved.
+ * the words of a refusal and of a reason, for C and C++ hosts of planner.h. Everything
+ * is inline: nothing of it is in the archive, and nothing of it is proved.
  *
  * A sheet, a plan and a bill are the bytes that planner.h lays out. The functions take
  * their address, and a row's, vehicle's or round's number from 0 on; they read and
@@ -131,7 +131,7 @@ enum {
 
 enum {
     PLANNER_STOP_NEXT = 0,
-    PLANNER_STOP_SPARE = 2,
+    PLANNER_STOP_REASON = 2,
     PLANNER_STOP_LOAD = 4,
     PLANNER_STOP_ARRIVAL = 8,
     PLANNER_STOP_DEPARTURE = 16
@@ -314,6 +314,7 @@ PLANNER_FIELD_F64(round, planner_round_at(number), lateness_cost, PLANNER_ROUND_
 PLANNER_FIELD_F64(round, planner_round_at(number), rest_start, PLANNER_ROUND_REST_START)
 
 PLANNER_FIELD_UINT(stop, planner_stop_at(bytes, number), next, PLANNER_STOP_NEXT, 2)
+PLANNER_FIELD_UINT(stop, planner_stop_at(bytes, number), reason, PLANNER_STOP_REASON, 2)
 PLANNER_FIELD_I32(stop, planner_stop_at(bytes, number), load, PLANNER_STOP_LOAD)
 PLANNER_FIELD_F64(stop, planner_stop_at(bytes, number), arrival, PLANNER_STOP_ARRIVAL)
 PLANNER_FIELD_F64(stop, planner_stop_at(bytes, number), departure, PLANNER_STOP_DEPARTURE)
@@ -401,11 +402,30 @@ static inline const char *planner_refusal_text(uint32_t number)
     case PLANNER_BAD_VEHICLE: return "a field, a mark or the depot of a vehicle is out of range, a rest at home is marked without a rest, an unmarked field is not zero, or an id stands twice";
     case PLANNER_NO_VEHICLE: return "savings, insertion and sweep need a vehicle, and the sheet has none";
     case PLANNER_SEVERAL_DEPOTS: return "the sheet has several depots, and the limiter takes one";
-    case PLANNER_BAD_PLAN: return "the plan has more rounds than the sheet has rows, an unknown vehicle, a link to no stop, or a stop that does not stand exactly once";
+    case PLANNER_BAD_PLAN: return "the plan has more rounds than the sheet has rows, an unknown vehicle, a link to no stop, a stop that does not stand exactly once, or a stop set aside with a reason above 8";
     case PLANNER_BAD_TEXT: return "the text is not of the form of Solomon's instances";
     case PLANNER_TOO_MANY_CUSTOMERS: return "the text has more than 100 customers after its depot";
     case PLANNER_BAD_RATE: return "a rate or the least charge is above 1,000,000 cents";
     default: return "no answer of the planner's";
+    }
+}
+
+/* ---- the sentence of a reason */
+
+/* Of a stop set aside: planner_reason_text(planner_stop_reason(plan, stop)). */
+static inline const char *planner_reason_text(uint32_t number)
+{
+    switch (number) {
+    case PLANNER_ASIDE_UNTOLD: return "the plan does not say why";
+    case PLANNER_ASIDE_NO_VEHICLE: return "no depot has a vehicle";
+    case PLANNER_ASIDE_CAPACITY: return "its demand is above the vehicle's capacity";
+    case PLANNER_ASIDE_WINDOW: return "even a round of its own is too late for its window";
+    case PLANNER_ASIDE_REST: return "a round of its own has no place for the rest";
+    case PLANNER_ASIDE_DISTANCE: return "a round of its own is over the maximum distance";
+    case PLANNER_ASIDE_DURATION: return "a round of its own is over the maximum duration, or the depot's due";
+    case PLANNER_ASIDE_FLEET: return "the fleet is used up";
+    case PLANNER_ASIDE_LIMITED: return "its round was dropped, and it fits in no other";
+    default: return "no reason of the planner's";
     }
 }
 

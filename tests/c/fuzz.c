@@ -56,6 +56,7 @@ static uint8_t signals[SIGNALS];
 static unsigned signal_count;
 static unsigned long sheets, answers[PLANNER_NO_VEHICLE + 1], planned[PLANNER_SWEEP + 1];
 static unsigned long limits, limit_answers[PLANNER_BAD_PLAN + 1], dropped, home_rests, limited_home_rests;
+static unsigned long reasons[REASONS], limited_reasons[REASONS], reasons_refused;
 static unsigned long bill_answers[PLANNER_BAD_RATE + 1], several_depots_billed, charges_checked, whole_units;
 static unsigned long imports, import_answers[PLANNER_TOO_MANY_CUSTOMERS + 1];
 
@@ -194,6 +195,21 @@ static unsigned incidents(const struct reading *r, unsigned rounds)
     return size_class(rests) << 8 | size_class(late);
 }
 
+/* Which reasons stops are set aside for, one bit for each. */
+static unsigned reasons_met(const struct reading *r)
+{
+    unsigned met = 0;
+    for (unsigned reason = 0; reason < REASONS; reason++)
+        met |= (unsigned)(r->reasons[reason] > 0) << reason;
+    return met;
+}
+
+static void count_reasons(const struct reading *r, unsigned long *counts)
+{
+    for (unsigned reason = 0; reason < REASONS; reason++)
+        counts[reason] += r->reasons[reason];
+}
+
 /* Whether a planned sheet shows something new. */
 static int planned_is_new(const struct reading *r)
 {
@@ -204,6 +220,7 @@ static int planned_is_new(const struct reading *r)
     found |= is_new(2, by << 16 | size_class(r->rows) << 8 | r->vehicles);
     found |= is_new(3, by << 16 | incidents(r, rounds));
     found |= is_new(15, by << 16 | size_class(r->home_rests) << 8 | size_class(rounds));
+    found |= is_new(17, by << 16 | reasons_met(r));
     found |= is_new(4, r->method << 16 | marks_met(row_of(r->sheet, 0), r->rows, PLANNER_ROW_BYTES));
     found |= is_new(5, r->method << 16 | fleet);
     found |= is_new(6, r->method << 16 | (unsigned)(planner_get(r->plan + PLANNER_PLAN_COST, 8) >> 52));
@@ -240,6 +257,7 @@ static int ask(struct sheet *s, struct reading *r)
     }
     planned[r->method]++;
     home_rests += r->home_rests;
+    count_reasons(r, reasons);
     if (planned_is_new(r))
         keep(&accepted, s->bytes, s->len);
     return 1;
@@ -254,7 +272,11 @@ static uint32_t expected_answer(struct sheet *s, const struct plan_in *p, struct
         return answer;
     if (planner_depots(s->bytes) > 1)
         return PLANNER_SEVERAL_DEPOTS;
-    return plan_in_is_good(r, s->bytes, (uint8_t *)p->bytes) ? PLANNER_ACCEPTED : PLANNER_BAD_PLAN;
+    if (!chains_are_good(r, s->bytes, (uint8_t *)p->bytes))
+        return PLANNER_BAD_PLAN;
+    int is_good = reasons_are_good(r);
+    reasons_refused += !is_good;
+    return is_good ? PLANNER_ACCEPTED : PLANNER_BAD_PLAN;
 }
 
 /* Whether a plan out shows something new. */
@@ -264,6 +286,7 @@ static int limited_is_new(const struct reading *r)
     int found = is_new(11, size_class(before) << 16 | size_class(after) << 8 | size_class(r->aside));
     found |= is_new(12, size_class(before - after) << 16 | incidents(r, after));
     found |= is_new(16, size_class(r->home_rests) << 8 | size_class(after));
+    found |= is_new(18, reasons_met(r));
     if (r->rows < 12)
         found |= is_new(13, links_class(r));
     return found;
@@ -288,6 +311,7 @@ static int ask_to_limit(struct sheet *s, const struct plan_in *p)
     }
     dropped += planner_plan_rounds(p->bytes) > p->greatest;
     limited_home_rests += r.home_rests;
+    count_reasons(&r, limited_reasons);
     if (limited_is_new(&r))
         keep(&accepted, s->bytes, s->len);
     return planner_plan_rounds(p->bytes) <= p->greatest;
@@ -556,16 +580,30 @@ static void print_counts(const char *what, const unsigned long *counts, unsigned
         printf(" %u: %lu%s", i, counts[i], i < last ? "," : "\n");
 }
 
+/* Whether some reason from `first` to `last` was not seen. */
+static int lacks_reason(const unsigned long *counts, unsigned first, unsigned last)
+{
+    for (unsigned reason = first; reason <= last; reason++)
+        if (counts[reason] == 0)
+            return 1;
+    return 0;
+}
+
 static int report(void)
 {
     int lacking = home_rests == 0 || limited_home_rests == 0 || dropped == 0 || import_answers[PLANNER_ACCEPTED] == 0
-                  || several_depots_billed == 0 || charges_checked == 0 || whole_units == 0;
+                  || several_depots_billed == 0 || charges_checked == 0 || whole_units == 0 || reasons_refused == 0
+                  || lacks_reason(reasons, PLANNER_ASIDE_NO_VEHICLE, PLANNER_ASIDE_FLEET)
+                  || lacks_reason(limited_reasons, PLANNER_ASIDE_UNTOLD, PLANNER_ASIDE_LIMITED);
     printf("fuzz: %lu sheets, %lu plans in and %lu texts, %lu calls\n", sheets, limits, imports, calls);
     print_counts("answers", answers, PLANNER_NO_VEHICLE);
     print_counts("planned by method", planned, PLANNER_SWEEP);
+    print_counts("stops set aside by reason", reasons, PLANNER_ASIDE_LIMITED);
     print_counts("answers of the limiter", limit_answers, PLANNER_BAD_PLAN);
     printf("fuzz: %lu plans out with fewer rounds; rests at home: %lu in plans, %lu in plans out\n", dropped, home_rests,
            limited_home_rests);
+    print_counts("stops set aside in plans out by reason", limited_reasons, PLANNER_ASIDE_LIMITED);
+    printf("fuzz: %lu plans in refused for a reason alone\n", reasons_refused);
     print_counts("answers of the biller", bill_answers, PLANNER_BAD_RATE);
     printf("fuzz: %lu plans of several depots billed; %lu charges held to their figures, of which %lu are whole units\n",
            several_depots_billed, charges_checked, whole_units);
@@ -573,7 +611,7 @@ static int report(void)
     printf("fuzz: corpus of %u sheets planned, %u refused and %u texts, %u signals\n", accepted.count, refused.count,
            texts.count, signal_count);
     if (lacking)
-        fprintf(stderr, "fuzz: nothing was planned or limited, with a rest at home, or billed, or imported\n");
+        fprintf(stderr, "fuzz: nothing was planned or limited, with a rest at home, for each reason, or billed, or imported\n");
     return lacking;
 }
 

@@ -425,6 +425,31 @@ static void lend_to_biller(uint8_t *sheet)
     bill_dealt(sheet, plan, &state);
 }
 
+/* Reasons of each row: those of stops set aside are up to 8, and no other is read. */
+static void lend_reasons(uint8_t *sheet)
+{
+    static const unsigned reasons[] = {0, 1, 7, 8, 9, 10, 255, 256, 264, 0x7fff, 0x8000, UINT16_MAX};
+    static uint8_t plan[MOST_PLAN];
+    uint64_t state = UINT64_C(0x9e3779b97f4a7c15);
+    unsigned rows = 5;
+    size_t len = plain_sheet(sheet, rows, 2, 0);
+    lending = "reasons";
+    for (unsigned row = 0; row < rows; row++) {
+        deal_plan(plan, sheet, 2, 1, &state);
+        unsigned aside = planner_plan_aside(plan);
+        uint64_t last = planner_get(stop_of(plan, rows, aside) + PLANNER_STOP_NEXT, 2);
+        for (unsigned i = 0; i < sizeof reasons / sizeof reasons[0]; i++) {
+            int is_none = reasons[i] > PLANNER_ASIDE_LIMITED && (row == aside || row == last);
+            struct billing b = with_bill(sheet, len, plan);
+            planner_put(stop_of(plan, rows, row) + PLANNER_STOP_REASON, 2, reasons[i]);
+            expect_limit(with_plan(sheet, len, plan, 1), is_none ? PLANNER_BAD_PLAN : PLANNER_ACCEPTED);
+            expect_bill(b, is_none ? PLANNER_BAD_PLAN : PLANNER_ACCEPTED);
+            b.least = PLANNER_MOST_RATE + 1;
+            expect_bill(b, is_none ? PLANNER_BAD_PLAN : PLANNER_BAD_RATE);
+        }
+    }
+}
+
 static int32_t import(const struct text *t, size_t sheet_len)
 {
     static uint8_t sheet[MOST_IMPORT];
@@ -557,6 +582,7 @@ int main(void)
     lend_planned(sheet);
     lend_to_limiter(sheet);
     lend_to_biller(sheet);
+    lend_reasons(sheet);
     lend_to_importer();
     printf("guard: %lu calls, %lu sheets planned, %lu plans limited, %lu billed and %lu texts imported at both ends\n", calls,
            planned, limited, billed, imported);

@@ -1,7 +1,8 @@
 /*
  * A host in C: builds sheet A (docs/SCOPE.md), has it planned and its plans limited and
- * billed, prints the rounds in plain words, then damages it in the way of each refusal's
- * example. At the end it imports a text, has its sheet planned, and damages that.
+ * billed, prints the rounds and why a stop is set aside in plain words, then damages it in
+ * the way of each refusal's example. At the end it imports a text, has its sheet planned,
+ * and damages that.
  */
 #include <inttypes.h>
 #include <stdint.h>
@@ -114,7 +115,7 @@ static void print_plan(const uint8_t *plan)
     for (unsigned k = 0; k < rounds; k++)
         print_round(plan, k);
     for (unsigned stop = planner_plan_aside(plan); stop != 0; stop = planner_stop_next(plan, stop))
-        printf("    stop %u is set aside\n", stop);
+        printf("    stop %u is set aside: %s\n", stop, planner_reason_text(planner_stop_reason(plan, stop)));
 }
 
 struct plan {
@@ -209,6 +210,48 @@ static void bill_sheet_a(void)
     bill_it("its bill, 7 a begun 1,000 and 11 a begun 900", &s, &plan, rates, 0);
 }
 
+/* Each reason of a stop set aside; reasons copied, and one that is none, which is read of stops set aside alone. */
+static void set_aside(void)
+{
+    const struct tariff rates = {7, 11, 0};
+    struct sheet s = without_vehicle(PLANNER_NEAREST_NEIGHBOR);
+    plan_it("sheet A, nearest neighbour, 0 vehicles", &s);
+
+    s = sheet_a();
+    planner_set_sheet_method(s.bytes, PLANNER_INSERTION);
+    planner_set_row_marks(s.bytes, 1, PLANNER_WINDOW);
+    planner_set_row_due(s.bytes, 1, 9.0);
+    plan_it("sheet A, insertion, stop 1 due 9", &s);
+    planner_set_row_due(s.bytes, 1, 14.0);
+    planner_set_vehicle_marks(s.bytes, 0, PLANNER_REST);
+    planner_set_vehicle_earliest(s.bytes, 0, 12.0);
+    planner_set_vehicle_latest(s.bytes, 0, 15.0);
+    planner_set_vehicle_rest_duration(s.bytes, 0, 5.0);
+    plan_it("sheet A, insertion, stop 1 due 14, a rest of 5 from 12 to 15", &s);
+
+    s = sheet_a();
+    planner_set_vehicle_marks(s.bytes, 0, PLANNER_MAX_DISTANCE);
+    planner_set_vehicle_max_distance(s.bytes, 0, 19.0);
+    plan_it("sheet A, savings, distance at most 19", &s);
+    planner_set_vehicle_marks(s.bytes, 0, PLANNER_MAX_DURATION);
+    planner_set_vehicle_max_distance(s.bytes, 0, 0.0);
+    planner_set_vehicle_max_duration(s.bytes, 0, 19.0);
+    plan_it("sheet A, savings, duration at most 19", &s);
+
+    s = sheet_a();
+    planner_set_sheet_method(s.bytes, PLANNER_NN_TW);
+    planner_set_vehicle_capacity(s.bytes, 0, 1);
+    struct plan plan = plan_it("sheet A, nn_tw, capacity 1", &s);
+    limit_it("its plan within 0 rounds", &s, &plan, 0);
+    planner_set_stop_reason(plan.bytes, 2, PLANNER_ASIDE_UNTOLD);
+    limit_it("its plan within 0 rounds, stop 2 without a reason", &s, &plan, 0);
+    planner_set_stop_reason(plan.bytes, 1, PLANNER_ASIDE_LIMITED + 1);
+    limit_it("its plan within 1 round, stop 1 on its round with reason 9", &s, &plan, 1);
+    planner_set_stop_reason(plan.bytes, 2, PLANNER_ASIDE_LIMITED + 1);
+    limit_it("its plan within 1 round, stop 2 set aside with reason 9", &s, &plan, 1);
+    bill_it("its bill, stop 2 set aside with reason 9", &s, &plan, rates, 0);
+}
+
 /* A text of ROWS rows, and a customer's row. */
 static const char brickworks[] = "BRICKWORKS\n"
                                  "VEHICLE\n"
@@ -280,6 +323,7 @@ int main(void)
     limit_it("the same, duration at most 28", &s, &rested, 1);
 
     bill_sheet_a();
+    set_aside();
 
     s = sheet_a();
     s.len = 0;

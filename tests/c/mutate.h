@@ -494,6 +494,13 @@ static inline void put_beside(uint8_t *at, const uint8_t *reached, double most)
         planner_put(at, 8, bits);
 }
 
+static inline void put_beside_number(uint8_t *at, double reached, double most)
+{
+    uint8_t bytes[8];
+    planner_put_f64(bytes, reached);
+    put_beside(at, bytes, most);
+}
+
 /* A window that opens or closes at the stop's arrival. */
 static inline void fit_stop(struct sheet *s, const struct reading *r)
 {
@@ -509,7 +516,6 @@ static inline void fit_stop(struct sheet *s, const struct reading *r)
 /* A rest that fits at home alone: from the round's end on, and it ends just at the maximum duration. */
 static inline void fit_home(const struct reading *r, unsigned v, const uint8_t *round)
 {
-    uint8_t ended[8];
     uint8_t *vehicle = vehicle_of(r->sheet, v);
     uint32_t marks = planner_vehicle_marks(r->sheet, v);
     planner_set_vehicle_marks(r->sheet, v, marks | PLANNER_MAX_DURATION | PLANNER_REST | PLANNER_REST_AT_HOME);
@@ -517,8 +523,8 @@ static inline void fit_home(const struct reading *r, unsigned v, const uint8_t *
         planner_set_vehicle_rest_duration(r->sheet, v, 1 + draw(9));
     put_beside(vehicle + PLANNER_VEHICLE_EARLIEST, round + PLANNER_ROUND_DURATION, 1e9);
     put_beside(vehicle + PLANNER_VEHICLE_LATEST, round + PLANNER_ROUND_DURATION, 1e9);
-    planner_put_f64(ended, planner_get_f64(round + PLANNER_ROUND_DURATION) + planner_vehicle_rest_duration(r->sheet, v));
-    put_beside(vehicle + PLANNER_VEHICLE_MAX_DURATION, ended, 1e12);
+    put_beside_number(vehicle + PLANNER_VEHICLE_MAX_DURATION,
+                      planner_get_f64(round + PLANNER_ROUND_DURATION) + planner_vehicle_rest_duration(r->sheet, v), 1e12);
 }
 
 /* A round's vehicle that just carries it, reaches its end, or has its rest then, at the first stop or at home. */
@@ -552,7 +558,6 @@ static inline void fit_vehicle(const struct reading *r, unsigned rounds)
 /* A way home by which a round ends at a whole number of the tariff's units, of distance or of duration. */
 static inline void fit_units(struct sheet *s, const struct reading *r, unsigned rounds)
 {
-    uint8_t leg[8];
     unsigned k = draw(rounds), last = planner_round_first(r->plan, k), next;
     unsigned depot = planner_vehicle_depot(s->bytes, vehicle_by_id(r, planner_round_id(r->plan, k)));
     while ((next = next_of(r, r->plan, last)) != 0)
@@ -561,16 +566,60 @@ static inline void fit_units(struct sheet *s, const struct reading *r, unsigned 
     uint8_t *home = s->bytes + (of_times ? planner_time_at(s->bytes, last, depot) : planner_distance_at(s->bytes, last, depot));
     double figure = by_time ? planner_round_duration(r->plan, k) : planner_round_distance(r->plan, k);
     double fitted = planner_get_f64(home) + ((by_time ? 900 : 1000) * (1.0 + draw(4)) - figure);
-    if (!(fitted >= 0.0))
-        return;
-    planner_put_f64(leg, fitted);
-    put_beside(home, leg, MOST_LEG);
+    if (fitted >= 0.0)
+        put_beside_number(home, fitted, MOST_LEG);
+}
+
+/* A stop set aside whose lone round just keeps what is asked of it, or just does not. There is a vehicle. */
+static inline void fit_aside(const struct reading *r)
+{
+    unsigned stop = planner_plan_aside(r->plan);
+    for (unsigned k = draw(r->aside); k > 0; k--)
+        stop = next_of(r, r->plan, stop);
+    unsigned v = tried_last(r, stop), depot = planner_vehicle_depot(r->sheet, v);
+    uint8_t *vehicle = vehicle_of(r->sheet, v), *row = row_of(r->sheet, stop);
+    uint32_t marks = planner_vehicle_marks(r->sheet, v);
+    double ends[2], arrival = planner_time(r->sheet, depot, stop), returned = back_from(r, v, stop, arrival);
+    double start = arrival < planner_vehicle_earliest(r->sheet, v) ? planner_vehicle_earliest(r->sheet, v) : arrival;
+    unsigned count = lone_ends(r, v, stop, ends);
+    double end = count > 0 ? ends[draw(count)] : returned;
+    int32_t demand = planner_row_demand(r->sheet, stop);
+    switch (draw(7)) {
+    case 0: planner_set_vehicle_capacity(r->sheet, v, demand - (demand > 0 && one_in(2))); break;
+    case 1:
+        planner_set_row_marks(r->sheet, stop, planner_row_marks(r->sheet, stop) | PLANNER_WINDOW);
+        put_beside_number(row + PLANNER_ROW_DUE,
+                          one_in(2) ? arrival : start + planner_vehicle_rest_duration(r->sheet, v), 1e9);
+        break;
+    case 2:
+        planner_set_vehicle_marks(r->sheet, v, marks | PLANNER_MAX_DISTANCE);
+        put_beside_number(vehicle + PLANNER_VEHICLE_MAX_DISTANCE, lone_distance(r, v, stop), 1e12);
+        break;
+    case 3:
+        planner_set_vehicle_marks(r->sheet, v, marks | PLANNER_MAX_DURATION);
+        put_beside_number(vehicle + PLANNER_VEHICLE_MAX_DURATION, end, 1e12);
+        break;
+    case 4:
+        planner_set_row_marks(r->sheet, depot, planner_row_marks(r->sheet, depot) | PLANNER_WINDOW);
+        put_beside_number(row_of(r->sheet, depot) + PLANNER_ROW_DUE, end, 1e9);
+        break;
+    case 5:
+        planner_set_vehicle_marks(r->sheet, v, marks | PLANNER_REST);
+        put_beside_number(vehicle + PLANNER_VEHICLE_EARLIEST, returned, 1e9);
+        break;
+    default:
+        planner_set_vehicle_marks(r->sheet, v, marks | PLANNER_REST);
+        put_beside_number(vehicle + PLANNER_VEHICLE_LATEST, one_in(2) ? start : returned, 1e9);
+        break;
+    }
 }
 
 static inline void fit(struct sheet *s, const struct reading *r)
 {
     unsigned rounds = planner_plan_rounds(r->plan);
-    if (rounds > 0 && one_in(6))
+    if (r->aside > 0 && r->vehicles > 0 && one_in(3))
+        fit_aside(r);
+    else if (rounds > 0 && one_in(6))
         fit_units(s, r, rounds);
     else if (rounds > 0 && one_in(2))
         fit_vehicle(r, rounds);

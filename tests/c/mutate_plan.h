@@ -1,6 +1,6 @@
 /*
  * Plans for the limiter and the biller to take, and mutations of them that know their
- * form: links, the number of rounds, ids, and what is not read.
+ * form: links, the number of rounds, ids, reasons, and what is not read.
  */
 #ifndef MUTATE_PLAN_H
 #define MUTATE_PLAN_H
@@ -55,7 +55,17 @@ static inline void change_round_id(struct sheet *s, uint8_t *plan, unsigned rows
         planner_set_round_id(plan, k, planner_round_id(plan, k) ^ UINT32_C(1) << draw(32));
 }
 
-/* Noise behind a plan's links, so that what is not read differs. */
+/* Of any row, so of stops on rounds and of depots too, where it is not read. */
+static inline void change_reason(uint8_t *plan, unsigned rows)
+{
+    uint8_t *reason = stop_of(plan, rows, draw(rows)) + PLANNER_STOP_REASON;
+    uint64_t had = planner_get(reason, 2);
+    const uint64_t to[] = {0, draw(PLANNER_ASIDE_LIMITED), PLANNER_ASIDE_LIMITED, PLANNER_ASIDE_LIMITED + 1, had ^ 0x100,
+                           had ^ 0x8000, had << 8, 0xffff};
+    planner_put(reason, 2, PICK(to));
+}
+
+/* Noise behind a plan's links and reasons, so that what is not read differs. */
 static inline void deal_on_noise(struct sheet *s, uint8_t *plan)
 {
     for (size_t i = 0; i < PLANNER_PLAN_BYTES(rows_in(s)); i++)
@@ -66,11 +76,12 @@ static inline void deal_on_noise(struct sheet *s, uint8_t *plan)
 static inline void mutate_plan(struct sheet *s, uint8_t *plan)
 {
     unsigned rows = rows_in(s);
-    switch (rows > 0 ? draw(6) : 5) {
+    switch (rows > 0 ? draw(7) : 6) {
     case 0:
     case 1: change_link(plan, rows); break;
     case 2: change_round_count(plan, rows); break;
     case 3: change_round_id(s, plan, rows); break;
+    case 4: change_reason(plan, rows); break;
     default: plan[draw((unsigned)PLANNER_PLAN_BYTES(rows))] = (uint8_t)next_random(&state); break;
     }
 }

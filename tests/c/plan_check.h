@@ -2,18 +2,21 @@
  * A plan held to what docs/SCOPE.md says of its bytes, from the sheet and the plan
  * alone: every stop once, ids of vehicles, loads as running sums, the figures of
  * each round as they are walked with the rest where the plan has it, a rest at home
- * where it mends the round and nowhere else, and zero bytes everywhere else; a plan out
- * of the limiter also to its plan in. Not whether another plan would have been right.
+ * where it mends the round and nowhere else, the reason of each stop set aside, and zero
+ * bytes everywhere else; a plan out of the limiter also to its plan in. Not whether
+ * another plan would have been right.
  */
 #ifndef PLAN_CHECK_H
 #define PLAN_CHECK_H
 
 #include "plans.h"
 
-/* An accepted sheet, its plan, the plan in where that is a plan out, and the stops met in its chains so far. */
+enum { REASONS = PLANNER_ASIDE_LIMITED + 1 };
+
+/* An accepted sheet, its plan, the plan in where that is a plan out, and the stops and reasons met in its chains so far. */
 struct reading {
     uint8_t *sheet, *plan, *plan_in;
-    unsigned rows, depots, vehicles, method, stops, aside, home_rests;
+    unsigned rows, depots, vehicles, method, stops, aside, home_rests, reasons[REASONS];
     uint8_t met[PLANNER_MOST_ROWS];
     double cost;
 };
@@ -35,6 +38,11 @@ static inline uint8_t *stop_record(const struct reading *r, unsigned stop)
 static inline unsigned next_of(const struct reading *r, uint8_t *plan, unsigned stop)
 {
     return (unsigned)planner_get(stop_of(plan, r->rows, stop) + PLANNER_STOP_NEXT, 2);
+}
+
+static inline unsigned reason_in(const struct reading *r, uint8_t *plan, unsigned stop)
+{
+    return (unsigned)planner_get(stop_of(plan, r->rows, stop) + PLANNER_STOP_REASON, 2);
 }
 
 static inline int none_set(const uint8_t *at, size_t len)
@@ -116,8 +124,8 @@ static inline const char *walk_to(struct reading *r, struct walked *w, unsigned 
     w->time = serve(r, w, stop, arrival);
     serve_unrested(r, w, stop);
     w->last = stop;
-    if (!none_set(record + PLANNER_STOP_SPARE, 2))
-        return "a stop's unused bytes";
+    if (reason_in(r, r->plan, stop) != 0)
+        return "a reason of a stop on a round";
     if ((uint32_t)planner_stop_load(r->plan, stop) != w->load)
         return "a load that is not the sum of the demands";
     if (!holds(record + PLANNER_STOP_ARRIVAL, arrival) || !holds(record + PLANNER_STOP_DEPARTURE, w->time))
@@ -298,6 +306,132 @@ static inline const char *round_fault(struct reading *r, unsigned k)
     return home_fault(r, &w, depot);
 }
 
+/* ---- why a stop is set aside */
+
+/* When the lone round of vehicle v is back that is free to serve the stop then. */
+static inline double back_from(const struct reading *r, unsigned v, unsigned stop, double free)
+{
+    unsigned depot = planner_vehicle_depot(r->sheet, v);
+    return start_at(r, stop, free) + planner_row_service(r->sheet, stop) + planner_time(r->sheet, stop, depot);
+}
+
+/* The ends of a lone round that misses no hard window without a rest: one where no rest is due, else one for each place that
+   the rest has, before the stop or at home. */
+static inline unsigned lone_ends(const struct reading *r, unsigned v, unsigned stop, double ends[2])
+{
+    uint32_t marks = planner_vehicle_marks(r->sheet, v);
+    double arrival = planner_time(r->sheet, planner_vehicle_depot(r->sheet, v), stop);
+    double returned = back_from(r, v, stop, arrival);
+    double earliest = planner_vehicle_earliest(r->sheet, v), latest = planner_vehicle_latest(r->sheet, v);
+    double rest = planner_vehicle_rest_duration(r->sheet, v), start = arrival < earliest ? earliest : arrival;
+    unsigned count = 0;
+    if (!(marks & PLANNER_REST) || returned <= earliest) {
+        ends[0] = returned;
+        return 1;
+    }
+    if (start <= latest && !misses(r, stop, start + rest))
+        ends[count++] = back_from(r, v, stop, start + rest);
+    if (marks & PLANNER_REST_AT_HOME && returned <= latest)
+        ends[count++] = returned + rest;
+    return count;
+}
+
+static inline double lone_distance(const struct reading *r, unsigned v, unsigned stop)
+{
+    unsigned depot = planner_vehicle_depot(r->sheet, v);
+    return planner_distance(r->sheet, depot, stop) + planner_distance(r->sheet, stop, depot);
+}
+
+static inline int is_over_distance(const struct reading *r, unsigned v, unsigned stop)
+{
+    return planner_vehicle_marks(r->sheet, v) & PLANNER_MAX_DISTANCE
+           && lone_distance(r, v, stop) > planner_vehicle_max_distance(r->sheet, v);
+}
+
+/* What plain nearest neighbour asks of a vehicle without a rest beside the capacity: no window, no waiting, no due of the
+   depot. PLANNER_ASIDE_FLEET where the lone round keeps it. */
+static inline unsigned plain_reason(const struct reading *r, unsigned v, unsigned stop)
+{
+    unsigned depot = planner_vehicle_depot(r->sheet, v);
+    double duration = planner_time(r->sheet, depot, stop) + planner_row_service(r->sheet, stop)
+                      + planner_time(r->sheet, stop, depot);
+    int is_over = planner_vehicle_marks(r->sheet, v) & PLANNER_MAX_DURATION
+                  && duration > planner_vehicle_max_duration(r->sheet, v);
+    return is_over_distance(r, v, stop) ? PLANNER_ASIDE_DISTANCE : is_over ? PLANNER_ASIDE_DURATION : PLANNER_ASIDE_FLEET;
+}
+
+/* The first rule that turns the lone round of vehicle v down, PLANNER_ASIDE_FLEET where none does. */
+static inline unsigned lone_reason(const struct reading *r, unsigned v, unsigned stop)
+{
+    double ends[2];
+    int has_rest = (planner_vehicle_marks(r->sheet, v) & PLANNER_REST) != 0;
+    if (r->method != PLANNER_SAVINGS && planner_row_demand(r->sheet, stop) > planner_vehicle_capacity(r->sheet, v))
+        return PLANNER_ASIDE_CAPACITY;
+    if (r->method == PLANNER_NEAREST_NEIGHBOR && !has_rest)
+        return plain_reason(r, v, stop);
+    if (misses(r, stop, planner_time(r->sheet, planner_vehicle_depot(r->sheet, v), stop)))
+        return PLANNER_ASIDE_WINDOW;
+    unsigned count = lone_ends(r, v, stop, ends);
+    if (count == 0)
+        return PLANNER_ASIDE_REST;
+    if (is_over_distance(r, v, stop))
+        return PLANNER_ASIDE_DISTANCE;
+    while (count > 0)
+        if (keeps_limits(r, v, 0.0, ends[--count]))
+            return PLANNER_ASIDE_FLEET;
+    return PLANNER_ASIDE_DURATION;
+}
+
+/* The first vehicle of the depot that the stop is tried at last: the farthest, of equals the higher. There is a vehicle. */
+static inline unsigned tried_last(const struct reading *r, unsigned stop)
+{
+    unsigned last = 0;
+    for (unsigned v = 1; v < r->vehicles; v++) {
+        unsigned depot = planner_vehicle_depot(r->sheet, v), last_depot = planner_vehicle_depot(r->sheet, last);
+        double far = planner_distance(r->sheet, depot, stop), farthest = planner_distance(r->sheet, last_depot, stop);
+        if (far > farthest || (far == farthest && depot > last_depot))
+            last = v;
+    }
+    return last;
+}
+
+static inline unsigned reason_of(const struct reading *r, unsigned stop)
+{
+    if (r->vehicles == 0)
+        return PLANNER_ASIDE_NO_VEHICLE;
+    unsigned first = tried_last(r, stop);
+    for (unsigned v = first + 1; v < r->vehicles && !needs_vehicle(r->method); v++)
+        if (planner_vehicle_depot(r->sheet, v) == planner_vehicle_depot(r->sheet, first)
+            && lone_reason(r, v, stop) == PLANNER_ASIDE_FLEET)
+            return PLANNER_ASIDE_FLEET;
+    return lone_reason(r, first, stop);
+}
+
+static inline int is_aside(const struct reading *r, uint8_t *plan, unsigned sought)
+{
+    unsigned stop = planner_plan_aside(plan);
+    while (stop != 0 && stop != sought)
+        stop = next_of(r, plan, stop);
+    return stop != 0;
+}
+
+/* The limiter copies what the plan in has, and drops the others. */
+static inline unsigned limited_reason(const struct reading *r, unsigned stop)
+{
+    return is_aside(r, r->plan_in, stop) ? reason_in(r, r->plan_in, stop) : PLANNER_ASIDE_LIMITED;
+}
+
+static inline const char *reason_fault(struct reading *r, unsigned stop)
+{
+    unsigned reason = reason_in(r, r->plan, stop);
+    if (reason != (r->plan_in != NULL ? limited_reason(r, stop) : reason_of(r, stop)))
+        return "a reason";
+    if (r->plan_in == NULL && reason == PLANNER_ASIDE_FLEET && needs_vehicle(r->method))
+        return "a stop set aside that could make a round alone";
+    r->reasons[reason]++;
+    return NULL;
+}
+
 /* Plain nearest neighbour sets aside ascending, and so do every method with several depots and the limiter. */
 static inline const char *aside_fault(struct reading *r)
 {
@@ -305,9 +439,11 @@ static inline const char *aside_fault(struct reading *r)
     unsigned last = 0, stop = planner_plan_aside(r->plan);
     for (; stop != 0; stop = next_of(r, r->plan, stop)) {
         const char *fault = meet(r, stop);
+        if (fault == NULL)
+            fault = reason_fault(r, stop);
         if (fault != NULL)
             return fault;
-        if (!none_set(stop_record(r, stop) + PLANNER_STOP_SPARE, PLANNER_PLAN_STOP_BYTES - PLANNER_STOP_SPARE))
+        if (!none_set(stop_record(r, stop) + PLANNER_STOP_LOAD, PLANNER_PLAN_STOP_BYTES - PLANNER_STOP_LOAD))
             return "figures of a stop set aside";
         if (ascending && stop < last)
             return "the order of the stops set aside";
@@ -369,8 +505,8 @@ static inline int chain_is_good(struct reading *r, unsigned stop)
     return 1;
 }
 
-/* Whether the limiter, if there is one depot, and the biller can take a plan in, of an accepted sheet. */
-static inline int plan_in_is_good(struct reading *r, uint8_t *sheet, uint8_t *plan_in)
+/* Whether every stop stands once in the chains of a plan in of an accepted sheet, and every round has a vehicle. */
+static inline int chains_are_good(struct reading *r, uint8_t *sheet, uint8_t *plan_in)
 {
     begin(r, sheet, plan_in, NULL);
     unsigned rounds = planner_plan_rounds(plan_in);
@@ -383,12 +519,19 @@ static inline int plan_in_is_good(struct reading *r, uint8_t *sheet, uint8_t *pl
     return chain_is_good(r, planner_plan_aside(plan_in)) && (r->rows == 0 || r->stops == r->rows - r->depots);
 }
 
-static inline int is_aside(const struct reading *r, uint8_t *plan, unsigned sought)
+/* Whether the stops that it sets aside have reasons, of a plan in whose chains are good. */
+static inline int reasons_are_good(const struct reading *r)
 {
-    unsigned stop = planner_plan_aside(plan);
-    while (stop != 0 && stop != sought)
-        stop = next_of(r, plan, stop);
-    return stop != 0;
+    for (unsigned stop = planner_plan_aside(r->plan); stop != 0; stop = next_of(r, r->plan, stop))
+        if (reason_in(r, r->plan, stop) >= REASONS)
+            return 0;
+    return 1;
+}
+
+/* Whether the limiter, if there is one depot, and the biller can take it. */
+static inline int plan_in_is_good(struct reading *r, uint8_t *sheet, uint8_t *plan_in)
+{
+    return chains_are_good(r, sheet, plan_in) && reasons_are_good(r);
 }
 
 /* The same of a plan out and its plan in, which can be taken. */

@@ -18,8 +18,8 @@ static inline uint8_t *stop_of(uint8_t *plan, unsigned rows, unsigned stop)
     return round_record(plan, rows) + PLANNER_PLAN_STOP_BYTES * stop;
 }
 
-/* Any stops in any order in so many rounds of any vehicles, and some set aside; or one in each round, as far as
-   there are rounds. A sheet without a vehicle has no rounds. Only what is read of a plan in is written. */
+/* Any stops in any order in so many rounds of any vehicles, and some set aside, for any reason; or one in each round, as far
+   as there are rounds. A sheet without a vehicle has no rounds. Only what is read of a plan in is written. */
 static inline void deal_plan(uint8_t *plan, uint8_t *sheet, unsigned rounds, int lone, uint64_t *state)
 {
     unsigned rows = planner_rows(sheet), depots = planner_depots(sheet), vehicles = planner_vehicles(sheet);
@@ -39,8 +39,11 @@ static inline void deal_plan(uint8_t *plan, uint8_t *sheet, unsigned rounds, int
     }
     for (unsigned i = depots; i < rows; i++) {
         uint8_t **end = &ends[!lone ? below(state, rounds + 1) : i - depots < rounds ? i - depots : rounds];
+        uint8_t *record = stop_of(plan, rows, stops[i]);
         planner_put(*end, 2, stops[i]);
-        *end = stop_of(plan, rows, stops[i]) + PLANNER_STOP_NEXT;
+        if (end == &ends[rounds])
+            planner_put(record + PLANNER_STOP_REASON, 2, below(state, PLANNER_ASIDE_LIMITED + 1));
+        *end = record + PLANNER_STOP_NEXT;
     }
     for (unsigned k = 0; k <= rounds; k++)
         planner_put(ends[k], 2, 0);

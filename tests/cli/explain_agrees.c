@@ -1,7 +1,8 @@
 /*
  * explain_agrees [SHEETS [SEED]]: guchfenor's own reading of what is wrong with a sheet
  * and a plan in (tools/guchfenor/faults.c) against check_sheet, limit_rounds and
- * bill_rounds, on drawn and mutated ones. Every refusal has to occur.
+ * bill_rounds, on drawn and mutated ones. Every refusal has to occur, and a plan whose
+ * reasons alone are wrong.
  */
 #define _GNU_SOURCE
 #include "drawn.h"
@@ -11,7 +12,7 @@
 static struct sheet sheet;
 static struct plan_in plan_in;
 static uint8_t plan_out[MOST_PLAN], bill[PLANNER_BILL_BYTES(UINT16_MAX)];
-static unsigned long answers[PLANNER_BAD_PLAN + 1], told;
+static unsigned long answers[PLANNER_BAD_PLAN + 1], told, reasons;
 
 static void keep(const char *name, const uint8_t *bytes, size_t len)
 {
@@ -57,6 +58,7 @@ static void plan_agrees(void)
     make_plan_in(&plan_in, &sheet, NULL);
     plan_in.len = PLANNER_PLAN_BYTES(rows_in(&sheet));
     find_plan_faults(&faults, sheet.bytes, plan_in.bytes);
+    reasons += faults.count == 1 && strstr(faults.list[0].where, "reason") != NULL;
     agree(refusal_of(&faults), bill_rounds(sheet.bytes, sheet.len, plan_in.bytes, plan_in.len, 0, 0, 0, bill,
                                            planner_bill_bytes(plan_in.bytes)));
     agree(planner_depots(sheet.bytes) > 1 ? PLANNER_SEVERAL_DEPOTS : refusal_of(&faults),
@@ -78,6 +80,8 @@ int main(int count, char **words)
         if (refusal > 0)
             printf(" %u", refusal);
     }
-    printf("; %lu faults told\n", told);
+    if (reasons == 0 && sheets >= 5000)
+        end(", and no reason was wrong");
+    printf(", %lu of them for a reason alone; %lu faults told\n", reasons, told);
     return 0;
 }

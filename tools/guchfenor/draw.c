@@ -1,4 +1,4 @@
-/* draw: a picture of a plan as SVG, rounds on the map and, by strips.c, over time. */
+/* draw: a picture of a plan as SVG, rounds on the map and, by strips.c, over time; by reasons.c what is set aside. */
 #include <stdarg.h>
 #include <string.h>
 
@@ -139,7 +139,7 @@ static void spread(struct map *m)
 
 static void draw_head(const struct map *m)
 {
-    int height = SIDE + strips_height(m->r);
+    int height = SIDE + strips_height(m->r) + reasons_height(m->r);
     fprintf(m->out,
             "<svg xmlns=\"http://www.w3.org/2000/svg\" viewBox=\"0 0 %d %d\" width=\"%d\" height=\"%d\" "
             "font-family=\"Helvetica, Arial, sans-serif\">\n",
@@ -218,7 +218,7 @@ static void stop_title(const struct map *m, unsigned row)
         fprintf(m->out, "; place %u of round %u, arrival %s, departure %s", visit->place, m->r->round_of[row],
                 plain(visit->arrival), plain(visit->departure));
     } else
-        fputs("; set aside", m->out);
+        fprintf(m->out, "; set aside: %s", planner_reason_text(planner_stop_reason(m->r->plan.bytes, row)));
     fputs("</title>\n", m->out);
 }
 
@@ -347,6 +347,7 @@ static int run_draw(const struct call *call)
         draw_stop(&m, row);
     legend(&m);
     draw_strips(m.out, &r, SIDE);
+    draw_reasons(m.out, &r, SIDE + strips_height(&r));
     fputs("</svg>\n", m.out);
     status = close_out(m.out, call->out);
     return status == DONE && r.strange > 0 ? WRONG : status;
@@ -360,7 +361,7 @@ const struct command draw_command = {
     "strip for each round over time: driving, waiting, service and rest, and over them a\n"
     "bracket for each stop's window with a dot where the stop could be served from. A\n"
     "missed window, and a soft one that was late, is red. A tick through the bar is the\n"
-    "due of the round's depot, red where the round is back after it. Stops and bars have\n"
-    "titles.\n\n"
-    "A plan whose counts or links do not fit the sheet is told and not drawn. One whose\n"
-    "figures are not what the sheet gives is drawn, and told; the status is then 1.\n"};
+    "due of the round's depot, red where the round is back after it. Then come the reasons\n"
+    "for which stops are set aside, each with its stops. Stops and bars have titles.\n\n"
+    "A plan whose counts, links or reasons do not fit the sheet is told and not drawn. One\n"
+    "whose figures are not what the sheet gives is drawn, and told; the status is then 1.\n"};

@@ -297,11 +297,13 @@ void find_faults(struct faults *faults, const uint8_t *sheet, size_t len, size_t
 
 /* ---- 10: a plan in */
 
+enum met { NOWHERE, ON_A_ROUND, ASIDE };
+
 struct chains {
     struct reader r;
     const uint8_t *sheet;
     unsigned rows, depots;
-    uint8_t met[PLANNER_MOST_ROWS];
+    enum met met[PLANNER_MOST_ROWS];
 };
 
 /* By the sheet's rows: those of the plan's header are not read. */
@@ -310,7 +312,7 @@ static size_t stop_record(const struct chains *c, unsigned stop)
     return planner_round_at(c->rows) + (size_t)PLANNER_PLAN_STOP_BYTES * stop;
 }
 
-static void follow(struct chains *c, size_t link, const char *chain)
+static void follow(struct chains *c, size_t link, const char *chain, enum met met)
 {
     snprintf(c->r.record_name, sizeof c->r.record_name, "%s", chain);
     for (;;) {
@@ -321,11 +323,11 @@ static void follow(struct chains *c, size_t link, const char *chain)
             add(&c->r, "link", link, "to row %u, which is %s", stop, stop < c->rows ? "a depot" : "not there");
             return;
         }
-        if (c->met[stop]) {
+        if (c->met[stop] != NOWHERE) {
             add(&c->r, "link", link, "to stop %u, which stands in a chain already", stop);
             return;
         }
-        c->met[stop] = 1;
+        c->met[stop] = met;
         link = stop_record(c, stop) + PLANNER_STOP_NEXT;
     }
 }
@@ -346,14 +348,28 @@ static void follow_round(struct chains *c, unsigned k)
     if (!is_vehicle(c->sheet, planner_round_id(c->r.bytes, k)))
         add(&c->r, "vehicle", planner_round_at(k) + PLANNER_ROUND_ID, "%lu, which is no vehicle's id",
             (unsigned long)planner_round_id(c->r.bytes, k));
-    follow(c, planner_round_at(k) + PLANNER_ROUND_FIRST, name);
+    follow(c, planner_round_at(k) + PLANNER_ROUND_FIRST, name, ON_A_ROUND);
+}
+
+/* Of stops set aside alone: that of a stop on a round is not read. */
+static void read_reasons(struct chains *c)
+{
+    for (unsigned stop = c->depots; stop < c->rows; stop++) {
+        size_t at = stop_record(c, stop) + PLANNER_STOP_REASON;
+        unsigned reason = (unsigned)planner_get(c->r.bytes + at, 2);
+        if (c->met[stop] != ASIDE || reason <= PLANNER_ASIDE_LIMITED)
+            continue;
+        c->r.number = stop;
+        snprintf(c->r.record_name, sizeof c->r.record_name, "stop %u, set aside", stop);
+        add(&c->r, "reason", at, "%u, above %d", reason, PLANNER_ASIDE_LIMITED);
+    }
 }
 
 static void find_missed(struct chains *c)
 {
     c->r.record_name[0] = '\0';
     for (unsigned stop = c->depots; stop < c->rows; stop++)
-        if (!c->met[stop]) {
+        if (c->met[stop] == NOWHERE) {
             c->r.number = stop;
             add(&c->r, "chains", stop_record(c, stop), "none leads to stop %u", stop);
         }
@@ -377,6 +393,7 @@ void find_plan_faults(struct faults *faults, const uint8_t *sheet, const uint8_t
     }
     for (unsigned k = 0; k < planner_plan_rounds(plan); k++)
         follow_round(&c, k);
-    follow(&c, PLANNER_PLAN_ASIDE, "stops set aside");
+    follow(&c, PLANNER_PLAN_ASIDE, "stops set aside", ASIDE);
+    read_reasons(&c);
     find_missed(&c);
 }

@@ -31,4 +31,8 @@ void fit(FILE *out, double x, double y, int size, const char *fill, int room, co
 int strips_height(const struct reading *reading);
 void draw_strips(FILE *out, const struct reading *reading, int top);
 
+/* Under the strips why stops are set aside, likewise. */
+int reasons_height(const struct reading *reading);
+void draw_reasons(FILE *out, const struct reading *reading, int top);
+
 #endif

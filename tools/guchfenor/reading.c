@@ -29,7 +29,7 @@ unsigned depots_there(const struct reading *r)
     return r->depots < r->rows ? r->depots : r->rows;
 }
 
-/* Chains and counts, before any is followed. */
+/* Chains, counts and reasons, before any is followed. */
 static int plan_fits(const struct reading *r)
 {
     struct faults faults;

@@ -151,10 +151,9 @@ static void print_aside(FILE *out, const struct reading *r)
         fputs("no stop is set aside\n", out);
         return;
     }
-    fprintf(out, "set aside, %u stop%s:", r->asides, plural(r->asides));
+    fprintf(out, "set aside, %u stop%s:\n", r->asides, plural(r->asides));
     for (unsigned i = 0; i < r->asides; i++)
-        fprintf(out, " %u", r->aside[i]);
-    fputc('\n', out);
+        fprintf(out, "  stop %u: %s\n", r->aside[i], planner_reason_text(planner_stop_reason(r->plan.bytes, r->aside[i])));
 }
 
 static int run_show(const struct call *call)
@@ -185,9 +184,10 @@ const struct command show_command = {
     "waiting, the start of service, the departure, the load after it, its window and how\n"
     "late it is (MISSED: a hard window; a soft one costs); a rest at the depot on return\n"
     "has a line after the stops. Then come totals, vehicles that make several rounds, and\n"
-    "the stops set aside. Times are in the sheet's unit, up to three decimals. Arrival,\n"
-    "departure, loads, sums and the rest's start are the plan's; waiting, start, the rest's\n"
-    "end, the return before a rest at the depot and how late a stop is are worked out with\n"
-    "the sheet.\n\n"
-    "A plan whose counts or links do not fit the sheet is told and not followed. One whose\n"
-    "figures are not what the sheet gives is shown, and told; the status is then 1.\n"};
+    "the stops set aside, each with the reason. Times are in the sheet's unit, up to three\n"
+    "decimals. Arrival, departure, loads, sums, the rest's start and reasons are the plan's;\n"
+    "waiting, start, the rest's end, the return before a rest at the depot and how late a\n"
+    "stop is are worked out with the sheet.\n\n"
+    "A plan whose counts, links or reasons do not fit the sheet is told and not followed.\n"
+    "One whose figures are not what the sheet gives is shown, and told; the status is then\n"
+    "1.\n"};

@@ -8,7 +8,7 @@ ghost use Rattle.multi_depot_offers.specs.ByDepot.{has_vehicle, is_no_depot, soo
 use sheet::Sheet;
 
 // Whether a depot has a vehicle.
-fn has_vehicle(sheet: &Sheet, depot: usize) -> bool
+pub fn has_vehicle(sheet: &Sheet, depot: usize) -> bool
     ensures { result ≡ has_vehicle sheet.now depot }
 {
     (0..sheet.vehicles()).any(|v| sheet.vehicle_at(v).depot as usize == depot)
@@ -16,7 +16,7 @@ fn has_vehicle(sheet: &Sheet, depot: usize) -> bool
 
 // Whether the stop is nearer to depot d than to depot e; a tie goes to the lower.
 #[tactic(auto, unfolding(crate::specs::ByDepot::sooner))]
-fn is_sooner(sheet: &Sheet, stop: usize, d: usize, e: usize) -> bool
+pub fn is_sooner(sheet: &Sheet, stop: usize, d: usize, e: usize) -> bool
     requires { (stop < rows_of sheet.now) × ((d < rows_of sheet.now) × (e < rows_of sheet.now)) }
     ensures { result ≡ sooner sheet.now stop d e }
 {

@@ -12,7 +12,7 @@ ghost use Rattle.multi_depot_offers.specs.Promises.{Cleared, Alike};
 
 use sheet::Sheet;
 
-mod depots;
+pub mod depots;
 pub mod members;
 
 // Every row at its nearest depot with a vehicle; the table, in fixed memory, has the number of depots for none.

@@ -3,4 +3,5 @@ pub mod Cases
 pub mod Plan
 pub mod Chained
 pub mod RoundTrip
+pub mod Spare
 pub mod Stated

@@ -1,7 +1,4 @@
 -- The refusals of a sheet and a plan before the plan is read, from those of the planner. Assumes nothing.
-use Rattle.std.specs.Prelude.{Option, Some, None, ℕ}
-use Rattle.std.specs.Option.{ok_or}
-use Rattle.sheet.specs.declared.refusal.Refusal.{Refusal}
 use mathlib.Core.Path.{◌≡◌, refl, sym, ◌∙◌}
 use Prim.Native.Nat.{ℕ, zero, suc, ◌≤◌, ◌<◌}
 use native.Mathlib.Omega.{arith}
@@ -16,9 +13,10 @@ use native.Mathlib.Nat.{le_trans}
 use Rattle.sheet.specs.Fields.{plan_length}
 use Rattle.sheet.specs.Accepted.{Accepted}
 use Rattle.sheet.specs.Laws.Accepted.{accepted}
-use Rattle.plan.specs.Read.{plan_right}
-use Rattle.plan_reader.specs.Reading.{ReaderTables, ReadRight, ReadAs}
-use Rattle.plan_door.specs.Door.{or_else, one_depot, unread_refusal, door_refusal, DoorTables, LetIn, EntryAs}
+use Rattle.plan.specs.Read.{read_plan, plan_right}
+use Rattle.plan_reasons.specs.Reasons.{reasons_right}
+use Rattle.plan_reader.specs.Reading.{ReaderTables, ReadRight}
+use Rattle.plan_door.specs.Door.{or_else, one_depot, unread_refusal, plan_taken, door_refusal, DoorTables, LetIn}
 use Rattle.plan_door.specs.Laws.Door.{unread_open}
 
 module _ (s : List ℕ) (m : ℕ) (room one : Bool) where
@@ -70,7 +68,7 @@ module _ (s plan : List ℕ) (room one : Bool) where
   unfolding door_refusal
   door_refused {n} h = go (unread_refusal s (length plan) room one)
     where
-      go : (k : ℕ) → n ≡ k → n ≡ or_else k (unless (plan_right s plan) 10 0)
+      go : (k : ℕ) → n ≡ k → n ≡ or_else k (unless (plan_taken s plan) 10 0)
       go zero e = absurd (omega arith)
       go (suc k) e = e
 
@@ -83,17 +81,19 @@ module _ (s plan : List ℕ) (room one : Bool) where
         let few = fine.0.sized.rows in
         record { sheet = fine.0; planned = fine.1; rows = le_trans few t.stopped; ended = le_trans few t.ended; fleet = le_trans few t.driven }
 
-    past : door_refusal s plan room one ≡ unless (plan_right s plan) 10 0
+    past : door_refusal s plan room one ≡ unless (plan_taken s plan) 10 0
     unfolding door_refusal
     past = rw (← none) refl
 
-    door_wrong : plan_right s plan ≡ false → 10 ≡ door_refusal s plan room one
+    pub door_wrong : plan_right s plan ≡ false → 10 ≡ door_refusal s plan room one
+    unfolding plan_taken
     door_wrong h = sym (past ∙ rw h refl)
 
-    door_right : (stops ends vehicles : List ℕ) (k : ℕ) → ReadRight s plan stops ends vehicles k → LetIn s plan room one stops ends vehicles k
-    door_right stops ends vehicles k r = record { free = past ∙ rw r.right refl; sheet = fine.0; read = r }
+    module _ {stops ends vehicles : List ℕ} {k : ℕ} (r : ReadRight s plan stops ends vehicles k) where
+      pub door_unreasoned : reasons_right s plan (read_plan s plan).aside ≡ false → 10 ≡ door_refusal s plan room one
+      unfolding plan_taken
+      door_unreasoned h = sym (past ∙ rw (r.right, h) refl)
 
-    -- by what the reader told
-    pub entered : (stops ends vehicles : List ℕ) (r : Option ℕ) → ReadAs s plan r stops ends vehicles → EntryAs s plan room one (ok_or r Refusal.Plan) stops ends vehicles
-    entered stops ends vehicles None h = door_wrong h
-    entered stops ends vehicles (Some n) h = door_right stops ends vehicles n h
+      pub door_right : reasons_right s plan (read_plan s plan).aside ≡ true → LetIn s plan room one stops ends vehicles k
+      unfolding plan_taken
+      door_right h = record { free = past ∙ rw (r.right, h) refl; sheet = fine.0; read = r }

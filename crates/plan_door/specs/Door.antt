@@ -7,7 +7,8 @@ use Rattle.sheet.specs.Depots.{depots_of}
 use Rattle.sheet.specs.declared.refusal.Refusal.{Refusal}
 use Rattle.sheet.specs.Told.{number_of}
 use Rattle.sheet.specs.Refusal.{header_right, counts_right, method_right, lengths_right, unless, contents}
-use Rattle.plan.specs.Read.{plan_right}
+use Rattle.plan.specs.Read.{read_plan, plan_right}
+use Rattle.plan_reasons.specs.Reasons.{reasons_right}
 use Rattle.plan_reader.specs.Reading.{ReadRight}
 
 -- a number, or what follows where it is 0
@@ -29,9 +30,12 @@ unread_refusal s m room one =
     (or_else (contents s)
     (unless (not one || one_depot s) 9 0)))))
 
--- 10: "limiter's plan: over `rows` rounds, unknown id, a link to no stop, or a stop not exactly once in all chains"
+-- 10: "limiter's plan: over `rows` rounds, unknown id, a link to no stop, or a stop not exactly once in all chains"; and request Six of the reasons of earlier stops: "one of theirs above 8 makes any plan a 10"
+unfoldable pub plan_taken : List ℕ → List ℕ → Bool
+plan_taken s plan = plan_right s plan && reasons_right s plan (read_plan s plan).aside
+
 unfoldable pub door_refusal : List ℕ → List ℕ → Bool → Bool → ℕ
-door_refusal s plan room one = or_else (unread_refusal s (length plan) room one) (unless (plan_right s plan) 10 0)
+door_refusal s plan room one = or_else (unread_refusal s (length plan) room one) (unless (plan_taken s plan) 10 0)
 
 -- the bytes of the further buffer after a call that makes `made`: "A refused call writes no lent byte."
 abbrev pub unless_refused : ℕ → List ℕ → List ℕ → List ℕ

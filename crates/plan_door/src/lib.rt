@@ -2,8 +2,13 @@
 // read into tables.
 #![tactic(auto)]
 
-ghost use Rattle.std.specs.Prelude.{◌≡◌};
+ghost use Rattle.std.specs.Prelude.{◌≡◌, ℕ, List, length};
+ghost use Rattle.sheet.specs.Accepted.{Sized};
+ghost use Rattle.sheet.specs.Fields.{plan_length};
 ghost use Rattle.sheet.specs.Told.{told};
+ghost use Rattle.plan.specs.Read.{read_plan};
+ghost use Rattle.plan_reader.specs.Reading.{stop_count, ReadRight};
+ghost use Rattle.plan_reasons.specs.Reasons.{reasons_right};
 ghost use Rattle.plan_door.specs.Door.{unread_refusal, DoorTables, EntryAs};
 
 use constructive::tables::RouteTables;
@@ -26,6 +31,30 @@ pub fn unread_refusal(sheet: &[u8], plan_len: usize, room: bool, one: bool) -> R
     Ok(())
 }
 
+// How many rows are no depots.
+pub fn stops_in(sheet: &[u8]) -> usize
+    requires { Sized sheet.now }
+    ensures { result ≡ stop_count sheet.now }
+{
+    sheet::rows(sheet).saturating_sub(customer::depots(sheet))
+}
+
+// Whether the stops that the plan in the tables sets aside have reasons that there are.
+fn reasons_taken<const N: usize>(
+    sheet: &Sheet,
+    plan: &[u8],
+    tables: &RouteTables<N>,
+    rounds: usize,
+) -> bool
+    requires read_right { ReadRight sheet.now plan.now tables.now.stops tables.now.ends tables.now.vehicles rounds }
+    requires plan_len { length plan.now ≡ plan_length sheet.now }
+    ensures { result ≡ reasons_right sheet.now plan.now (read_plan sheet.now plan.now).aside }
+{
+    let total = stops_in(sheet.bytes());
+    let aside = plan_reasons::aside_of(sheet, tables, rounds, total);
+    plan_reasons::reasons_right(sheet, plan, aside)
+}
+
 // The same, and the plan read: how many rounds are in the tables.
 pub fn enter<const N: usize>(
     sheet: &[u8],
@@ -38,5 +67,12 @@ pub fn enter<const N: usize>(
     ensures { EntryAs sheet.now plan.now room one result tables.new.stops tables.new.ends tables.new.vehicles }
 {
     unread_refusal(sheet, plan.len(), room, one)?;
-    plan_reader::read_plan(&Sheet::new(sheet), plan, tables).ok_or(Refusal::Plan)
+    let sheet = Sheet::new(sheet);
+    let Some(rounds) = plan_reader::read_plan(&sheet, plan, tables) else {
+        return Err(Refusal::Plan);
+    };
+    if !reasons_taken(&sheet, plan, tables, rounds) {
+        return Err(Refusal::Plan);
+    }
+    Ok(rounds)
 }

@@ -9,7 +9,9 @@ use Rattle.sheet.specs.Accepted.{Accepted}
 use Rattle.sheet.specs.Laws.Accepted.{accepted}
 use Rattle.planner.specs.Answer.{plan_for, answer_of, Answered, Once, Feasibly, Lawful, Alone, Closed}
 use Rattle.planner.specs.Laws.Promised.{stands, feasible_rounds, lawful_rounds}
+use Rattle.planner.specs.Reasoned.{Reasoned}
 use Rattle.planner.specs.Laws.Insertion.{alone_kept, closed_kept}
+use Rattle.planner.specs.Laws.Reasoned.{reasons_given}
 
 module _ (s lent : List ℕ) (n : ℕ) (told : n ≡ refusal_of s (length lent)) where
   -- a refused sheet: nothing is promised of it
@@ -22,8 +24,8 @@ module _ (s lent : List ℕ) (n : ℕ) (told : n ≡ refusal_of s (length lent))
         go zero e = absurd (refused (told ∙ e))
         go (suc m) e = record { number = rw e (told ∙ e); bytes = rw e }
 
-    pub refused_parts : Once s n lent × (Feasibly s n lent × (Lawful s n lent × (Alone s n lent × Closed s n lent)))
-    refused_parts = (λ e. absurd (refused e), (λ e. absurd (refused e), (λ e. absurd (refused e), (λ e. absurd (refused e), λ e. absurd (refused e)))))
+    pub refused_parts : Once s n lent × (Feasibly s n lent × (Lawful s n lent × (Alone s n lent × (Closed s n lent × Reasoned s n lent))))
+    refused_parts = (λ e. absurd (refused e), (λ e. absurd (refused e), (λ e. absurd (refused e), (λ e. absurd (refused e), (λ e. absurd (refused e), λ e. absurd (refused e))))))
 
   -- a sheet that is accepted
   module _ (none : n ≡ 0) where
@@ -38,7 +40,7 @@ module _ (s lent : List ℕ) (n : ℕ) (told : n ≡ refusal_of s (length lent))
       unfolding answer_of
       planned_answer = let e : refusal_of s (length lent) ≡ 0 = sym told ∙ none in record { number = rw e; bytes = rw e filled }
 
-      pub planned_parts : ((i : ℕ) → get_or s i 0 < 256) → Once s 0 plan × (Feasibly s 0 plan × (Lawful s 0 plan × (Alone s 0 plan × Closed s 0 plan)))
+      pub planned_parts : ((i : ℕ) → get_or s i 0 < 256) → Once s 0 plan × (Feasibly s 0 plan × (Lawful s 0 plan × (Alone s 0 plan × (Closed s 0 plan × Reasoned s 0 plan))))
       planned_parts small = (
         λ e. rw filled (stands s fine small),
         (
@@ -47,7 +49,7 @@ module _ (s lent : List ℕ) (n : ℕ) (told : n ≡ refusal_of s (length lent))
             λ e whole other. rw filled (lawful_rounds s fine small whole other),
             (
               λ e whole method one. rw filled (alone_kept s fine small whole method one),
-              λ e whole method one. rw filled (closed_kept s fine small whole method one),
+              (λ e whole method one. rw filled (closed_kept s fine small whole method one), λ e. rw filled (reasons_given s fine small)),
             ),
           ),
         ),

@@ -12,16 +12,19 @@ use Rattle.constructive.specs.Outcome.{Round, Outcome, stops_of, round_at}
 use Rattle.constructive.specs.Rounds.{passes}
 use Rattle.multi_depot_offers.specs.ByDepot.{outcome_of}
 use Rattle.plan.specs.Plan.{plan_of}
-use Rattle.plan.specs.Read.{read_plan, plan_right}
+use Rattle.plan.specs.Read.{read_plan}
+use Rattle.reason.specs.Reason.{reason_of}
+use Rattle.plan_reasons.specs.Reasons.{with_reasons}
+use Rattle.plan_door.specs.Door.{plan_taken}
 
 -- ---- the answer
 -- with one depot and no stop the Rust returns before it prices
 unfoldable pub priced : List ℕ → Bool
 priced s = not (eqb (depots_of s) 1 && leb (rows_of s) 1)
 
--- the plan of an accepted sheet
+-- the plan of an accepted sheet, with the reason of each stop set aside
 unfoldable pub plan_for : List ℕ → List ℕ
-plan_for s = plan_of s (outcome_of s) (priced s)
+plan_for s = with_reasons s (reason_of s) (outcome_of s).aside (plan_of s (outcome_of s) (priced s))
 
 -- a sheet, of any bytes and length, is refused or planned: "The number is the whole answer."
 pub data Answer : Type 0 where
@@ -56,7 +59,7 @@ pub record Answered (s lent : List ℕ) (r : ℕ) (plan : List ℕ) : Type 0 whe
 pub record Standing (s plan : List ℕ) : Type 0 where
   pub each : (i : ℕ) → depots_of s ≤ i → i < rows_of s → count i (stops_of (read_plan s plan)) ≡ 1
   -- nothing else does: every id is a vehicle's, every link a stop's, and refusal 10 is not told of it
-  pub right : T (plan_right s plan)
+  pub right : T (plan_taken s plan)
 
 abbrev pub Once : List ℕ → ℕ → List ℕ → Type 0
 Once s r plan = r ≡ 0 → Standing s plan

@@ -1,4 +1,5 @@
 pub mod Promised
 pub mod Insertion
 pub mod LimitPromised
+pub mod Reasoned
 pub mod Billed

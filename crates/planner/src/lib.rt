@@ -2,13 +2,15 @@
 #![tactic(auto)]
 
 ghost use Rattle.std.specs.Prelude.{◌≡◌, ◌^◌, ◌<◌, length, IfOk};
-ghost use Rattle.sheet.specs.Fields.{plan_length};
+ghost use Rattle.sheet.specs.Fields.{rows_of, plan_length};
 ghost use Rattle.sheet.specs.Refusal.{refusal_of};
 ghost use Rattle.sheet.specs.Told.{told};
+ghost use Rattle.reason.specs.Reason.{reason_of};
 ghost use Rattle.solomon_import.specs.Import.{import_answer, ImportAnswered, ImportAccepted};
 ghost use Rattle.tariff_bill.specs.Bill.{BillAnswered, BillExact};
 ghost use Rattle.planner.specs.Answer.{priced, plan_for, Answered, Once, Feasibly, Lawful, Alone, Closed};
 ghost use Rattle.planner.specs.Limited.{LimitAnswered, LimitOnce, LimitFew, LimitStood, LimitAside};
+ghost use Rattle.planner.specs.Reasoned.{Reasoned, LimitReasoned};
 
 use constructive::tables::RouteTables;
 use sheet::Sheet;
@@ -29,6 +31,14 @@ fn is_priced(sheet: &Sheet) -> bool
     sheet.depots() != 1 || 1 < sheet.rows()
 }
 
+// Why a stop is set aside, as the plan says it.
+fn reason_number(sheet: &Sheet, row: u16) -> u16
+    requires { row < rows_of sheet.now }
+    ensures { result ≡ reason_of sheet.now row }
+{
+    reason::reason_of(sheet, row).into()
+}
+
 // The plan of an accepted sheet. The tables stand here, some kilobyte in all.
 fn fill(sheet: &Sheet, plan: &mut [u8])
     requires { length plan.old ≡ plan_length sheet.now }
@@ -37,9 +47,11 @@ fn fill(sheet: &Sheet, plan: &mut [u8])
     let mut at = [0u16; sheet::MOST_ROWS];
     let mut marks = [0u16; sheet::MOST_ROWS];
     let mut tables = RouteTables::<{ sheet::MOST_ROWS }>::new();
-    let total = planner_limiting::stops_in(sheet.bytes());
+    let total = plan_door::stops_in(sheet.bytes());
     let filled = multi_depot::outcome(sheet, &mut at, &mut marks, &mut tables);
     plan::write_plan(plan, sheet, &tables, filled.rounds, total, is_priced(sheet));
+    let aside = plan_reasons::aside_of(sheet, &tables, filled.rounds, total);
+    plan_reasons::write_reasons(plan, sheet, aside, |row| reason_number(sheet, row));
 }
 
 // Plans a sheet's rounds. A refusal leaves every byte of `plan` as it was.
@@ -50,6 +62,7 @@ pub fn plan_rounds(sheet: &[u8], plan: &mut [u8]) -> Result<(), Refusal>
     ensures lawful { Lawful sheet.now (told result) plan.new }
     ensures alone { Alone sheet.now (told result) plan.new }
     ensures closed { Closed sheet.now (told result) plan.new }
+    ensures reasoned { Reasoned sheet.now (told result) plan.new }
 {
     sheet_refusal::refusal(sheet, plan.len())?;
     fill(&Sheet::new(sheet), plan);
@@ -68,6 +81,7 @@ pub fn limit_rounds(
     ensures limit_few { LimitFew sheet.now greatest (told result) plan_out.new }
     ensures limit_stood { LimitStood sheet.now plan_in.now (told result) plan_out.new }
     ensures limit_aside { LimitAside sheet.now plan_in.now (told result) plan_out.new }
+    ensures limit_reasoned { LimitReasoned sheet.now plan_in.now (told result) plan_out.new }
 {
     planner_limiting::limit(sheet, plan_in, greatest, plan_out)
 }

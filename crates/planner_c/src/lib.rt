@@ -8,6 +8,7 @@ ghost use Rattle.solomon_import.specs.Import.{import_answer, ImportAnswered, Imp
 ghost use Rattle.tariff_bill.specs.Bill.{BillAnswered, BillExact};
 ghost use Rattle.planner.specs.Answer.{Answered, Once, Feasibly, Lawful, Alone, Closed};
 ghost use Rattle.planner.specs.Limited.{LimitAnswered, LimitOnce, LimitFew, LimitStood, LimitAside};
+ghost use Rattle.planner.specs.Reasoned.{Reasoned, LimitReasoned};
 
 use sheet::refusal;
 use sheet::refusal::Refusal;
@@ -30,6 +31,7 @@ pub extern "C" fn plan_rounds(sheet: &[u8], plan: &mut [u8]) -> u32
     ensures lawful { Lawful sheet.now result plan.new }
     ensures alone { Alone sheet.now result plan.new }
     ensures closed { Closed sheet.now result plan.new }
+    ensures reasoned { Reasoned sheet.now result plan.new }
 {
     let answer = planner::plan_rounds(sheet, plan);
     refusal::number(answer)
@@ -49,6 +51,7 @@ pub extern "C" fn limit_rounds(
     ensures limit_few { LimitFew sheet.now greatest result plan_out.new }
     ensures limit_stood { LimitStood sheet.now plan_in.now result plan_out.new }
     ensures limit_aside { LimitAside sheet.now plan_in.now result plan_out.new }
+    ensures limit_reasoned { LimitReasoned sheet.now plan_in.now result plan_out.new }
 {
     let answer = planner::limit_rounds(sheet, plan_in, greatest, plan_out);
     refusal::number(answer)

@@ -66,7 +66,7 @@ empty_first = plan_header 2 0 twenty_four ++ (round_record 0 0 0 ++ (round_recor
 
 -- an empty round, and both stops aside
 abbrev pub empty_alone : List ℕ
-empty_alone = plan_header 1 1 0 ++ (round_record 0 0 0 ++ (unused_rounds 2 ++ (depot_record ++ (aside_record 2 ++ aside_record 0))))
+empty_alone = plan_header 1 1 0 ++ (round_record 0 0 0 ++ (unused_rounds 2 ++ (depot_record ++ (aside_record 2 0 ++ aside_record 0 0))))
 
 -- sheet A, stop 1 ready at 4 and due at 3
 abbrev pub turned_window : List ℕ
@@ -117,7 +117,7 @@ bill_rows =
     ∷ bill_row (sheet_a 0) empty_first (at_least 100) (0 ∷ 100 ∷ 100 ∷ [])
     ∷ bill_row (sheet_a 0) empty_alone (at_least 100) (0 ∷ 0 ∷ [])
     -- no round
-    ∷ bill_row (sheet_a 0) both_aside (at_least 100) (0 ∷ [])
+    ∷ bill_row (sheet_a 0) (both_aside 0) (at_least 100) (0 ∷ [])
     -- "several depots are no 9 here": 4,000 from the vehicle's own, and "figures walked anew from the chains", not those that the plan states
     ∷ bill_row two_depots from_depot_one (at_least 0) (83 ∷ 83 ∷ [])
     -- rates and a least charge of 1,000,000

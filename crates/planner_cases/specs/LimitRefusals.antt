@@ -4,7 +4,11 @@ use Rattle.wire.specs.Bytes.{bytes}
 use Rattle.sheet.specs.SheetA.{f10, sheet_header, row_bytes, no_times, stop_rows, vehicle_bytes, table_bytes, sheet_a, sheet_carrying}
 use Rattle.solomon_i1.specs.Laws.Cases.{due}
 use Rattle.planner_limiting.specs.Limiting.{limit_refusal}
-use Rattle.planner_cases.specs.Table.{one_and_two, two_alone, both_aside}
+use Rattle.planner_cases.specs.Table.{plan_header, round_record, unused_rounds, depot_record, aside_record, one_and_two, two_alone, both_aside}
+
+-- round 1, 2 of which no figure is stated, with a reason on both stops, which no planner writes
+abbrev pub reason_on_round : ℕ → List ℕ
+reason_on_round reason = plan_header 1 0 0 ++ (round_record 0 1 0 ++ (unused_rounds 2 ++ (depot_record ++ (aside_record 2 reason ++ aside_record 0 reason))))
 
 -- a plan of so many rounds: the first is vehicle 7's from stop 1 on, with what stops 1 and 2 link to
 abbrev pub plan_with : ℕ → ℕ → ℕ → List ℕ
@@ -44,6 +48,10 @@ limit_cases =
     ∷ record { sheet = sheet_a 1; plan = one_and_two; room = 256; answer = 0 }
     ∷ record { sheet = sheet_carrying 1; plan = one_and_two; room = 256; answer = 0 }
     ∷ record { sheet = due f10; plan = one_and_two; room = 256; answer = 0 }
-    ∷ record { sheet = sheet_a 1; plan = two_alone; room = 256; answer = 0 }
-    ∷ record { sheet = sheet_a 1; plan = both_aside; room = 256; answer = 0 }
+    ∷ record { sheet = sheet_a 1; plan = two_alone 0; room = 256; answer = 0 }
+    ∷ record { sheet = sheet_a 1; plan = both_aside 0; room = 256; answer = 0 }
+    -- a reason of 8 and one above it, on the chain of the stops set aside; on that of a round it is not read
+    ∷ record { sheet = sheet_a 1; plan = both_aside 8; room = 256; answer = 0 }
+    ∷ record { sheet = sheet_a 1; plan = both_aside 9; room = 256; answer = 10 }
+    ∷ record { sheet = sheet_a 1; plan = reason_on_round 9; room = 256; answer = 0 }
     ∷ []

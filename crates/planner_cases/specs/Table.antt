@@ -86,9 +86,9 @@ visit_record next load time = left_record next load time time
 abbrev pub depot_record : List ℕ
 depot_record = replicate 24 0
 
--- a stop set aside: next
-abbrev pub aside_record : ℕ → List ℕ
-aside_record next = bytes 2 next ++ replicate 22 0
+-- a stop set aside: next, and the reason
+abbrev pub aside_record : ℕ → ℕ → List ℕ
+aside_record next reason = bytes 2 next ++ (bytes 2 reason ++ replicate 20 0)
 
 -- round 1, 2
 abbrev pub one_two : List ℕ
@@ -111,12 +111,16 @@ abbrev pub one_and_two : List ℕ
 one_and_two = plan_header 2 0 forty ++ (round_record 1 1 twenty ++ (round_record 1 2 twenty ++ (unused_rounds 1 ++ (depot_record ++ (visit_record 0 1 f10 ++ visit_record 0 1 f10)))))
 
 -- 1 aside, round 2
-abbrev pub two_alone : List ℕ
-two_alone = plan_header 1 1 twenty ++ (round_record 1 2 twenty ++ (unused_rounds 2 ++ (depot_record ++ (aside_record 0 ++ visit_record 0 1 f10))))
+abbrev pub two_alone : ℕ → List ℕ
+two_alone reason = plan_header 1 1 twenty ++ (round_record 1 2 twenty ++ (unused_rounds 2 ++ (depot_record ++ (aside_record 0 reason ++ visit_record 0 1 f10))))
 
--- both aside
-abbrev pub both_aside : List ℕ
-both_aside = plan_header 0 1 no_cost ++ (unused_rounds 3 ++ (depot_record ++ (aside_record 2 ++ aside_record 0)))
+-- both aside, each with its reason
+abbrev pub each_aside : ℕ → ℕ → List ℕ
+each_aside reason₁ reason₂ = plan_header 0 1 no_cost ++ (unused_rounds 3 ++ (depot_record ++ (aside_record 2 reason₁ ++ aside_record 0 reason₂)))
+
+-- with the same
+abbrev pub both_aside : ℕ → List ℕ
+both_aside reason = each_aside reason reason
 
 -- ---- schedules
 -- sheet A's vehicle with a rest of 5 that starts from `earliest` to `latest`
@@ -165,6 +169,11 @@ home_between due₁ due₂ earliest latest =
     ++ ((row_bytes 0 0 0 no_times ++ (row_bytes 10 1 2 (0 ∷ 0 ∷ due₁ ∷ 0 ∷ []) ++ row_bytes 0xffff_fff6 1 2 (0 ∷ 0 ∷ due₂ ∷ 0 ∷ [])))
     ++ (home_vehicle earliest latest ++ table_bytes))
 
+-- ---- both maxima
+-- sheet A by savings with a maximum distance and a maximum duration
+abbrev pub within_both : ℕ → ℕ → List ℕ
+within_both distance duration = sheet_header 3 1 0 ++ (stop_rows ++ (bytes 4 7 ++ (bytes 4 0 ++ (bytes 4 2 ++ (bytes 4 3 ++ (f64s (f1 ∷ 0 ∷ distance ∷ duration ∷ 0 ∷ 0 ∷ 0 ∷ []) ++ table_bytes))))))
+
 -- ---- the table
 -- a sheet and its plan, from bytes to bytes; or the time of a rest, and what round 1, 2 then is told
 pub data TableRow : Type 0 where
@@ -186,32 +195,35 @@ table_rows =
     -- "6. Savings, max distance 24: as 1. 7. At 23: rounds 1 and 2. 8. At 19: both aside."
     ∷ plan_row (within twenty_four) one_two
     ∷ plan_row (within twenty_three) one_and_two
-    ∷ plan_row (within nineteen) both_aside
+    ∷ plan_row (within nineteen) (both_aside 5)
     -- "9. Insertion, stop 1 due 10: round 1, 2. 10. Due 9: 1 aside, round 2."
     ∷ plan_row (due f10) one_two
-    ∷ plan_row (due nine) two_alone
+    ∷ plan_row (due nine) (two_alone 3)
     -- "11. Round 1, 2 with rest of 5, earliest and latest 12: rest before stop 1, duration 31. 12. Both 24: no rest. 13. Both 9: no schedule."
     ∷ rest_row twelve (1 ∷ thirty_one ∷ [])
     ∷ rest_row twenty_four (0 ∷ twenty_four ∷ [])
     ∷ rest_row nine []
     -- "14. Savings, capacity 0: rounds 1 and 2. 15. Insertion there: both aside."
     ∷ plan_row (relative 0 0 0) one_and_two
-    ∷ plan_row (sheet_carrying 0) both_aside
+    ∷ plan_row (sheet_carrying 0) (both_aside 2)
     -- and row 11's sheet by savings, from sheet to plan
     ∷ plan_row (sheet_at 0 twelve) one_two_rested
     -- "trucks must be home by its due time". Savings, depot due 24: as 1. At 23: rounds 1 and 2. At 19: both aside.
     ∷ plan_row (sheet_closing 0 2 twenty_four 0) one_two
     ∷ plan_row (sheet_closing 0 2 twenty_three 0) one_and_two
-    ∷ plan_row (sheet_closing 0 2 nineteen 0) both_aside
+    ∷ plan_row (sheet_closing 0 2 nineteen 0) (both_aside 6)
     -- "Plain nearest neighbour without a rest goes on ignoring it": due 19, as 3; with a rest, and by `nn_tw`, both aside
     ∷ plan_row (sheet_closing 2 2 nineteen 0) one_two
-    ∷ plan_row (closing_rested nineteen) both_aside
-    ∷ plan_row (sheet_closing 3 2 nineteen 0) both_aside
+    ∷ plan_row (closing_rested nineteen) (both_aside 6)
+    ∷ plan_row (sheet_closing 3 2 nineteen 0) (both_aside 6)
     -- insertion, due 23, and a depot with due 19 and penalty 1 by savings
     ∷ plan_row (sheet_closing 1 2 twenty_three 0) one_and_two
-    ∷ plan_row (sheet_closing 0 6 nineteen f1) both_aside
+    ∷ plan_row (sheet_closing 0 6 nineteen f1) (both_aside 6)
     -- "Vehicle mark 8 allows it." Both 12: the rest before stop 1, as 11. Stops due 10 and 14, from 20 to 24: at home, from 24 to 29. Both 9: both aside.
     ∷ plan_row (home_at twelve) one_two_rested
     ∷ plan_row (home_between f10 fourteen twenty twenty_four) one_two_home
-    ∷ plan_row (home_at nine) both_aside
+    ∷ plan_row (home_at nine) (both_aside 4)
+    -- the reason is the first that holds: a lone round of 20 over both maxima is over the distance; over that of the duration alone
+    ∷ plan_row (within_both nineteen nineteen) (both_aside 5)
+    ∷ plan_row (within_both twenty nineteen) (both_aside 6)
     ∷ []

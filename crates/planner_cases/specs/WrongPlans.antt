@@ -63,7 +63,7 @@ pub record WholeSheets : Type 0 where
 -- ---- plans
 -- round 1 and nothing of stop 2: rounds counted, first set-aside stop, cost, distance
 abbrev pub one_only : ℕ → ℕ → ℕ → ℕ → List ℕ
-one_only rounds aside cost distance = plan_header rounds aside cost ++ (round_record 1 1 distance ++ (unused_rounds 2 ++ (depot_record ++ (visit_record 0 1 f10 ++ aside_record 0))))
+one_only rounds aside cost distance = plan_header rounds aside cost ++ (round_record 1 1 distance ++ (unused_rounds 2 ++ (depot_record ++ (visit_record 0 1 f10 ++ aside_record 0 0))))
 
 -- round 1, and stop 2 aside
 abbrev pub one_alone : ℕ → List ℕ
@@ -83,7 +83,7 @@ two_twice = plan_header 2 0 forty_four ++ (round_record 2 1 twenty_four ++ (roun
 
 -- both aside, stop 2 first
 abbrev pub aside_two_one : List ℕ
-aside_two_one = plan_header 0 2 no_cost ++ (unused_rounds 3 ++ (depot_record ++ (aside_record 0 ++ aside_record 1)))
+aside_two_one = plan_header 0 2 no_cost ++ (unused_rounds 3 ++ (depot_record ++ (aside_record 0 0 ++ aside_record 1 0)))
 
 -- ---- "A lawful round", of round 1, 2 with a rest of 5
 pub record LawfulRests : Type 0 where

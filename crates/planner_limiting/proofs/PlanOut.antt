@@ -1,20 +1,25 @@
 -- The plan in let in at the door and read into the tables, the limiter's there, and the plan out. Assumes nothing.
 use mathlib.Core.Path.{◌≡◌, refl, sym, ap, ◌∙◌, subst}
-use Prim.Native.Nat.{ℕ, zero, suc, ◌<◌}
+use Prim.Native.Nat.{ℕ, zero, suc, ◌≤◌, ◌<◌}
 use native.Mathlib.Omega.{arith}
 use mathlib.Core.Bool.{Bool, true, false, ◌&&◌, true≢false}
-use mathlib.Core.List.{List}
+use mathlib.Core.List.{List, [], ◌∷◌}
 use lib.Dec.{T, leb, eqb}
 use lib.Ieee.Fits.{and_r}
-use lib.ListN.{length}
+use lib.ListN.{length, get_or}
 use borrow.Author.Tests.{eqb-true}
 use Rattle.sheet.specs.Fields.{rows_of, sheet_length, plan_length}
 use Rattle.sheet.specs.Refusal.{lengths_right}
-use Rattle.constructive.specs.Outcome.{outcome_in}
+use Rattle.lists.specs.Every.{Every}
+use Rattle.lists.specs.Laws.Every.{every_of}
+use Rattle.constructive.specs.Outcome.{Outcome}
 use Rattle.constructive.specs.Right.{outcome_right}
 use Rattle.plan.specs.Plan.{plan_of}
 use Rattle.plan.specs.Read.{rounds_at, read_plan, plan_right}
+use Rattle.plan.specs.Writable.{Chained}
 use Rattle.plan_reader.specs.Reading.{stop_count}
+use Rattle.plan_reasons.specs.Reasons.{with_reasons}
+use Rattle.plan_reasons.specs.Copying.{copied_reason, Copied}
 use Rattle.plan_door.specs.Door.{door_refusal, unless_refused, LetIn}
 use Rattle.plan_door.specs.Laws.Door.{door_room, door_fits, door_accepted, door_one}
 use Rattle.fleet.specs.Limit.{limit_routes}
@@ -62,6 +67,26 @@ module _ (s plan lent : List ℕ) where
     pub limit_fits : length lent ≡ plan_length s
     limit_fits = eqb-true (length lent) (length plan) (door_fits s plan room true let_in.free) ∙ (door_accepted s plan room true let_in.free).1
 
-    pub limit_done : (greatest : ℕ) (out : List ℕ) → out ≡ plan_of s (limit_routes s greatest (outcome_in stops ends vehicles n (stop_count s))) true → LimitDone s plan greatest lent 0 out
-    unfolding limited_plan
-    limit_done greatest out w = let none : limit_refusal s plan (length lent) ≡ 0 = sym door_limit ∙ let_in.free in record { number = sym none; bytes = rw (none, w, let_in.read.outcome) }
+    pub limit_planned : length plan ≡ plan_length s
+    limit_planned = (door_accepted s plan room true let_in.free).1
+
+    pub limit_done : (greatest : ℕ) (out : List ℕ) → out ≡ limited_plan s plan greatest → LimitDone s plan greatest lent 0 out
+    limit_done greatest out w = let none : limit_refusal s plan (length lent) ≡ 0 = sym door_limit ∙ let_in.free in record { number = sym none; bytes = rw (none, w) }
+
+-- ---- the reasons
+-- reasons that agree on the rows are the same
+same_reasons : (s : List ℕ) (f g : ℕ → ℕ) (rows plan : List ℕ) → Every (λ (row : ℕ). f row ≡ g row) rows → with_reasons s f rows plan ≡ with_reasons s g rows plan
+unfolding with_reasons
+same_reasons s f g [] plan e = refl
+same_reasons s f g (row ∷ rows) plan e = rw e.0 (same_reasons s f g rows _ e.1)
+
+-- the plan out: of the outcome that is left, with the reasons from the table
+pub read_out : (s plan : List ℕ) (greatest : ℕ) (why : List ℕ) → rows_of s ≤ length why → Copied s plan (read_plan s plan).aside why
+    → (o : Outcome) → o ≡ limit_routes s greatest (read_plan s plan) → Chained s o.aside
+    → with_reasons s (λ row. get_or why row 0) o.aside (plan_of s o true) ≡ limited_plan s plan greatest
+unfolding limited_plan
+read_out s plan greatest why fits copied o same rows =
+    let told = copied_reason s plan (read_plan s plan).aside in
+    same_reasons s (λ row. get_or why row 0) told o.aside (plan_of s o true)
+    (every_of (λ (row : ℕ). get_or why row 0 ≡ told row) 0 o.aside (λ k h. copied (get_or o.aside k 0) (omega (arith, fits, rows.row k h))))
+    ∙ ap (λ (p : Outcome). with_reasons s told p.aside (plan_of s p true)) same

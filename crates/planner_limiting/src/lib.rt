@@ -1,45 +1,43 @@
 // The limiter's plan out: the plan in is read into tables, rounds are dropped there, and the plan out is written from them.
 #![tactic(auto)]
 
-ghost use Rattle.std.specs.Prelude.{◌≡◌, ◌-◌, true, length};
-ghost use Rattle.sheet.specs.Fields.{rows_of, plan_length};
+ghost use Rattle.std.specs.Prelude.{◌≡◌, length};
+ghost use Rattle.sheet.specs.Fields.{plan_length};
 ghost use Rattle.sheet.specs.Told.{told};
-ghost use Rattle.sheet.specs.Depots.{depots_of};
-ghost use Rattle.sheet.specs.Accepted.{Sized};
 ghost use Rattle.constructive.specs.Outcome.{outcome_in};
-ghost use Rattle.plan.specs.Plan.{plan_of};
+ghost use Rattle.plan.specs.Read.{read_plan};
 ghost use Rattle.plan_reader.specs.Reading.{stop_count};
-ghost use Rattle.fleet.specs.Limit.{limit_routes};
 ghost use Rattle.fleet_limiter.specs.Limitable.{Limitable};
-ghost use Rattle.planner_limiting.specs.Limiting.{LimitDone};
+ghost use Rattle.planner_limiting.specs.Limiting.{limited_plan, LimitDone};
 
 use constructive::tables::RouteTables;
 use sheet::Sheet;
 use sheet::refusal::Refusal;
 
-// How many rows are no depots.
-pub fn stops_in(sheet: &[u8]) -> usize
-    requires { Sized sheet.now }
-    ensures { result ≡ rows_of sheet.now - depots_of sheet.now }
-{
-    sheet::rows(sheet).saturating_sub(sheet::customer::depots(sheet))
-}
-
-// The plan out of the plan in the tables.
-fn limit_read<const N: usize>(
+// The plan out of the plan in, which stands in the tables. A table has the reason of each row: 8 but for those that the plan in
+// sets aside, since the limiter sorts them among those that it drops.
+fn limit_read(
     sheet: &Sheet,
+    plan_in: &[u8],
     greatest: u32,
     plan_out: &mut [u8],
-    tables: &mut RouteTables<N>,
+    tables: &mut RouteTables<{ sheet::MOST_ROWS }>,
     rounds: usize,
 )
     requires limitable { Limitable sheet.now tables.old.stops tables.old.ends tables.old.vehicles rounds (stop_count sheet.now) }
+    requires outcome { outcome_in tables.old.stops tables.old.ends tables.old.vehicles rounds (stop_count sheet.now) ≡ read_plan sheet.now plan_in.now }
+    requires plan_in_len { length plan_in.now ≡ plan_length sheet.now }
     requires plan_out_len { length plan_out.old ≡ plan_length sheet.now }
-    ensures { plan_out.new ≡ plan_of sheet.now (limit_routes sheet.now greatest (outcome_in tables.old.stops tables.old.ends tables.old.vehicles rounds (stop_count sheet.now))) true }
+    ensures { plan_out.new ≡ limited_plan sheet.now plan_in.now greatest }
 {
-    let total = stops_in(sheet.bytes());
+    let mut why = [plan_reasons::DROPPED; sheet::MOST_ROWS];
+    let total = plan_door::stops_in(sheet.bytes());
+    let earlier = plan_reasons::aside_of(sheet, tables, rounds, total);
+    plan_reasons::copy_reasons(sheet, plan_in, earlier, &mut why);
     let left = fleet_limiter::limit_routes(sheet, greatest, tables, rounds, total);
     plan::write_plan(plan_out, sheet, tables, left, total, true);
+    let aside = plan_reasons::aside_of(sheet, tables, left, total);
+    plan_reasons::write_reasons(plan_out, sheet, aside, |row| why[row as usize]);
 }
 
 // The plan out, or a refusal and nothing written. The tables stand here.
@@ -54,6 +52,7 @@ pub fn limit(
     let mut tables = RouteTables::<{ sheet::MOST_ROWS }>::new();
     let room = plan_out.len() == plan_in.len();
     let rounds = plan_door::enter(sheet, plan_in, room, true, &mut tables)?;
-    limit_read(&Sheet::new(sheet), greatest, plan_out, &mut tables, rounds);
+    let sheet = Sheet::new(sheet);
+    limit_read(&sheet, plan_in, greatest, plan_out, &mut tables, rounds);
     Ok(())
 }

@@ -2,7 +2,8 @@
 //!
 //! Both go from a sheet's bytes to a plan's; around the Rust's construction that is this harness's
 //! check, reading and writing. The construction alone, from the Rust's own types to its own
-//! solution, is shown besides: of what the planner does it leaves out the check and the bytes.
+//! solution, is shown besides: of what the planner does it leaves out the check and the bytes. Reasons
+//! are the planner's alone.
 
 use crate::bench_sides::{Drive, Side};
 use crate::generate::straight;
@@ -10,7 +11,7 @@ use crate::plan::plan_len;
 use crate::planner;
 use crate::plans::exact;
 use crate::random::Random;
-use crate::reference::{plan, Problem};
+use crate::reference::{plan, plan_by_rust, Problem};
 use crate::refusal::{needs_vehicle, OFFERED};
 use crate::sheet::{Row, Sheet, Vehicle, DEPOT, PENALTY, REST, WINDOW};
 
@@ -78,7 +79,7 @@ impl Drive for Planning {
         let problem = Problem::taken(&sheet);
         let mut drive = Planning { sheet: bytes, problem, plan: vec![0; plan_len(case.rows)] };
         drive.drive(Side::Port);
-        let exact = exact(&drive.problem).map(|exact| exact.plan);
+        let exact = exact(&sheet, &drive.problem).map(|exact| exact.plan);
         assert!(drive.plan == exact.unwrap_or(right), "the planner's plan is the Rust's");
         drive
     }
@@ -86,7 +87,7 @@ impl Drive for Planning {
     fn drive(&mut self, side: Side) -> usize {
         match side {
             Side::Port => planner::plan(&self.sheet, &mut self.plan) as usize,
-            Side::Rust => plan(OFFERED, &self.sheet).map_or(0, |plan| plan.len()),
+            Side::Rust => plan_by_rust(OFFERED, &self.sheet).map_or(0, |plan| plan.len()),
             Side::Core => self.problem.solution().num_routes(),
         }
     }

@@ -37,7 +37,7 @@ pub struct Makers {
 
 /// Each with its share. The damages of a plan come first; the tiny plans are not drawn but counted
 /// through.
-pub const FLAVOURS: [(&str, usize); 18] = [
+pub const FLAVOURS: [(&str, usize); 19] = [
     (DAMAGES[0], 3),
     (DAMAGES[1], 3),
     (DAMAGES[2], 3),
@@ -47,6 +47,7 @@ pub const FLAVOURS: [(&str, usize); 18] = [
     (DAMAGES[6], 3),
     (DAMAGES[7], 3),
     (DAMAGES[8], 3),
+    (DAMAGES[9], 3),
     ("damaged: a link to a depot", 5),
     ("planned", 40),
     ("limited", 24),
@@ -57,15 +58,15 @@ pub const FLAVOURS: [(&str, usize); 18] = [
     ("refused", 24),
     ("tiny", 0),
 ];
-const DEPOT_LINK: usize = 9;
-pub const PLANNED: usize = 10;
-const LIMITED: usize = 11;
-const FITTED: usize = 12;
-const UNITS: usize = 13;
-const AMOUNTS: usize = 14;
-const LENGTHS: usize = 15;
-const REFUSED: usize = 16;
-pub const TINY: usize = 17;
+const DEPOT_LINK: usize = 10;
+pub const PLANNED: usize = 11;
+const LIMITED: usize = 12;
+const FITTED: usize = 13;
+const UNITS: usize = 14;
+const AMOUNTS: usize = 15;
+const LENGTHS: usize = 16;
+const REFUSED: usize = 17;
+pub const TINY: usize = 18;
 
 /// One sheet in so many has as many rows as there may be.
 const LARGE: usize = 500;

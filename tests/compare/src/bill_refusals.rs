@@ -3,7 +3,7 @@
 
 use crate::bill_calls::Call;
 use crate::billing::{bill_len, MOST_CENTS};
-use crate::plan::{chains, plan_len, round_at, round_count, stop_at};
+use crate::plan::{chains, plan_len, round_at, round_count, stop_at, without_reasons};
 use crate::refusal::bill_accepted;
 use crate::sheet::{field, Header, Sheet, HEADER};
 
@@ -68,6 +68,7 @@ const FAULTS: &[(&str, fn(&Refused) -> bool)] = &[
     ("10, 65,535 rounds", |it| it.number == 10 && it.count() == 65_535),
     ("10, an unknown id", |it| it.number == 10 && it.has_unknown_id()),
     ("10, a link to a depot", |it| it.number == 10 && it.links_depot()),
+    ("10, a reason above 8", |it| it.number == 10 && it.has_wrong_reason()),
     ("10, of several depots", |it| it.number == 10 && it.sheet().depots() > 1),
     ("13, all amounts", |it| it.number == 13 && it.over().len() == 3),
     ("13, no round", |it| it.number == 13 && it.count() == 0),
@@ -147,6 +148,11 @@ impl Refused<'_> {
             sheet.vehicles.iter().all(|vehicle| vehicle.id != id)
         };
         !self.is_over() && (0..self.count()).map(round_at).any(unknown)
+    }
+
+    /// Whether the plan is right but for its reasons.
+    fn has_wrong_reason(&self) -> bool {
+        chains(&without_reasons(&self.call.plan), &self.sheet()).is_some()
     }
 
     fn links_depot(&self) -> bool {

@@ -89,7 +89,7 @@ pub fn bytes(right: &Result<Billed, u32>) -> Result<Vec<u8>, u32> {
     right.as_ref().map(|billed| encoded(&billed.bill())).map_err(|number| *number)
 }
 
-fn answer(call: &Call) -> Result<Vec<u8>, u32> {
+pub fn answer(call: &Call) -> Result<Vec<u8>, u32> {
     lent(&call.sheet, &call.plan, call.bill_len, |sheet, plan, bill| {
         planner::bill(sheet, plan, call.tariff, bill)
     })
@@ -175,7 +175,7 @@ impl Tally {
     }
 }
 
-fn about(call: &Call, seed: u64, number: Option<usize>) -> String {
+pub fn about(call: &Call, seed: u64, number: Option<usize>) -> String {
     let Call { flavour, sheet, plan, tariff, bill_len } = call;
     let which = number.map_or("a tiny plan".into(), |number| format!("call {number}"));
     format!(
@@ -188,7 +188,7 @@ fn about(call: &Call, seed: u64, number: Option<usize>) -> String {
     )
 }
 
-fn shown(call: &Call, who: &str, answer: &Result<Vec<u8>, u32>) -> String {
+pub fn shown(call: &Call, who: &str, answer: &Result<Vec<u8>, u32>) -> String {
     let Ok(bill) = answer else { return decoded(&call.sheet, who, answer) };
     let cents: Vec<u64> = bill.chunks_exact(8).map(|b| u64::from_le_bytes(field(b, 0))).collect();
     format!("{who}: {cents:?}")

@@ -1,10 +1,11 @@
-//! `compare checked`: the checker of demand 3 on the Rust's own plans, which keep it, and on plans
-//! that are damaged, some of which must not.
+//! `compare checked`: the checkers of demand 3 and of reasons on the Rust's own plans, which keep them,
+//! and the first on plans that are damaged, some of which must not.
 
 use std::process::ExitCode;
 
 use crate::flavours::{drawn, whole_sheet};
 use crate::lawful::{judge, Claims};
+use crate::lawful_reasons::judge_plan;
 use crate::plan::{chains, encode_chains, Chains};
 use crate::random::Random;
 use crate::reference::plan;
@@ -73,7 +74,7 @@ impl Tally {
         let sheet = Sheet::decode(&bytes);
         self.plans[usize::from(sheet.method)] += 1;
         let mut claims = Claims::default();
-        if let Err(what) = judge(&bytes, &plan, &mut claims) {
+        if let Err(what) = judge_plan(&bytes, &plan, &mut claims) {
             self.broken += 1;
             if self.broken <= SHOWN {
                 let hex: String = bytes.iter().map(|byte| format!("{byte:02x}")).collect();

@@ -1,12 +1,13 @@
-//! Counts of what the plans of a request's stream have met, by method and by the limiter.
+//! Counts of what the plans of a request's stream have met, by method, by the limiter and by bills.
 
 use crate::lawful::Claims;
 use crate::plans::decoded;
 use crate::refusal::METHODS;
 
-/// The methods by their numbers, and the limiter.
-pub const COLUMNS: usize = 6;
+/// The methods by their numbers, the limiter and the bill.
+pub const COLUMNS: usize = 7;
 pub const LIMITER: u8 = 5;
+pub const BILL: u8 = 6;
 
 /// Differences shown whole.
 const SHOWN: usize = 3;
@@ -51,9 +52,13 @@ impl Tally {
         }
     }
 
-    /// So many calls of the limiter.
+    /// So many calls of the limiter, and for bills.
     pub fn calls(&self) -> usize {
         self.asked[usize::from(LIMITER)]
+    }
+
+    pub fn bills(&self) -> usize {
+        self.asked[usize::from(BILL)]
     }
 
     pub fn differences(&self) -> usize {
@@ -77,23 +82,33 @@ impl Tally {
         sheet: &[u8],
         [right, said]: [&Result<Vec<u8>, u32>; 2],
     ) {
-        self.differences[usize::from(column)] += 1;
-        if self.differences() <= SHOWN {
+        if self.is_shown(column) {
             println!("difference: {what}; {about}");
             println!("{}", decoded(sheet, "Rust", right));
             println!("{}", decoded(sheet, "planner", said));
         }
     }
 
+    /// Counts a difference, and says whether it is one of those shown.
+    pub fn is_shown(&mut self, column: u8) -> bool {
+        self.differences[usize::from(column)] += 1;
+        self.differences() <= SHOWN
+    }
+
+    /// The columns that were asked at all.
     pub fn print(&self) {
-        let line = |name: &str, counts: &[String]| println!("  {name:42} {}", counts.concat());
-        let told = |counts: [usize; COLUMNS]| counts.map(|n| format!("{n:>9}"));
-        let methods = METHODS.iter().map(|method| format!("{method:>9}"));
-        let columns: Vec<String> = methods.chain([format!("{:>9}", "limiter")]).collect();
-        line("method", &columns);
-        line("sheets or calls", &told(self.asked));
-        line("differences", &told(self.differences));
-        for ((name, _), &counts) in self.corners.iter().zip(&self.met) {
+        let asked: Vec<usize> = (0..COLUMNS).filter(|column| self.asked[*column] > 0).collect();
+        let line = |name: &str, cells: &[String]| {
+            let cells = asked.iter().map(|column| format!("{:>9}", cells[*column]));
+            println!("  {name:42} {}", cells.collect::<String>());
+        };
+        let told = |counts: &[usize; COLUMNS]| counts.map(|count| count.to_string());
+        let methods = METHODS.iter().map(u8::to_string);
+        let heads: Vec<String> = methods.chain(["limiter".into(), "bill".into()]).collect();
+        line("method", &heads);
+        line("sheets or calls", &told(&self.asked));
+        line("differences", &told(&self.differences));
+        for ((name, _), counts) in self.corners.iter().zip(&self.met) {
             line(name, &told(counts));
         }
         println!("  {:42} {:>9}", "differences that rounded angles explain", self.explained);

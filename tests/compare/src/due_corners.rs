@@ -5,7 +5,7 @@ use u_routing::models::Solution;
 use crate::corners::{Corners, LIMITER};
 use crate::lawful::{judge, Claims};
 use crate::limit_calls::Call;
-use crate::plan::{chains, encode, round_at};
+use crate::plan::{chains, encode, round_at, without_reasons};
 use crate::reference::{is_held, Problem};
 use crate::refusal::limiter_accepted;
 use crate::sheet::{field, Sheet, Vehicle};
@@ -118,7 +118,7 @@ impl Asked<'_> {
 
 /// Of a sheet and its plan.
 pub fn planned(bytes: &[u8], right: &[u8]) -> Vec<bool> {
-    let sheet = &Sheet::decode(bytes);
+    let (sheet, right) = (&Sheet::decode(bytes), &without_reasons(right)[..]);
     let is_held = |vehicle: &Vehicle| is_held(sheet.method, vehicle);
     let asked = Asked { sheet, held: &is_held, solution: &|problem| problem.solution() };
     let open = &asked.plan(|_| None);
@@ -145,6 +145,7 @@ pub fn planned(bytes: &[u8], right: &[u8]) -> Vec<bool> {
 pub fn limited(call: &Call, right: &[u8]) -> Vec<bool> {
     let accepted = limiter_accepted(&call.sheet, &call.plan_in, right.len());
     let (sheet, before) = &accepted.expect("a plan of the Rust's");
+    let right = &without_reasons(right)[..];
     let greatest = call.greatest as usize;
     let solution = |problem: &Problem| problem.limited(before.clone(), greatest);
     let asked = Asked { sheet, held: &|_| true, solution: &solution };

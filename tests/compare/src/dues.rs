@@ -7,7 +7,7 @@ use std::process::ExitCode;
 use crate::corners::{Tally, LIMITER};
 use crate::due_corners::{self, CORNERS};
 use crate::flavours::{drawn_with_due, Drawn};
-use crate::lawful::judge;
+use crate::lawful_reasons::judge_plan;
 use crate::limit_calls::{call_with_due, Call};
 use crate::random::Random;
 use crate::sheet::Sheet;
@@ -55,7 +55,7 @@ fn try_plan(tally: &mut Tally, drawn: &Drawn, number: usize) {
     let verdict = expected.verdict(&said);
     tally.explained += usize::from(verdict == Ok(true));
     let plan = said.as_ref().ok();
-    let broken = plan.and_then(|plan| judge(&drawn.sheet, plan, &mut tally.claims).err());
+    let broken = plan.and_then(|plan| judge_plan(&drawn.sheet, plan, &mut tally.claims).err());
     let lost = expected.lost.map(String::from);
     if let Some(what) = verdict.err().or(refused).or(lost).or(broken) {
         let about = plans::about(drawn, tally.seed, number);

@@ -470,7 +470,7 @@ impl Step {
 }
 
 /// Takes a vehicle's maxima and its rest away.
-fn unlimit(vehicle: &mut Vehicle) {
+pub fn unlimit(vehicle: &mut Vehicle) {
     vehicle.marks = 0;
     (vehicle.max_distance, vehicle.max_duration) = (0.0, 0.0);
     (vehicle.earliest, vehicle.latest, vehicle.rest_duration) = (0.0, 0.0, 0.0);
@@ -486,7 +486,7 @@ fn between(random: &mut Random, right: f64, wrong: &[f64], most: f64) -> f64 {
 }
 
 /// Puts a stop as far from one depot as from another, or one step beside it.
-fn fit_depot(sheet: &mut Sheet, stop: usize, random: &mut Random) {
+pub fn fit_depot(sheet: &mut Sheet, stop: usize, random: &mut Random) {
     let (depots, rows) = (sheet.depots(), sheet.rows.len());
     let far = sheet.distances[random.below(depots) * rows + stop];
     sheet.distances[random.below(depots) * rows + stop] = beside(random, far, MOST_FIGURE);

@@ -5,6 +5,7 @@
 
 use crate::damage::{noise, noise_after_header, Base, Values};
 use crate::fit::{Fit, Step};
+use crate::fit_reasons::fit_reasons;
 use crate::generate::{mark_rests, random_sheet, straight};
 use crate::plan::plan_len;
 use crate::points::lay_points;
@@ -326,6 +327,11 @@ pub fn drawn_at_home(seed: u64, number: usize) -> Drawn {
         }
         sheet.vehicles.iter().any(|vehicle| vehicle.marks & HOME != 0)
     })
+}
+
+/// A sheet of a number fitted to lone rounds that just keep a rule or just break it.
+pub fn drawn_with_reasons(seed: u64, number: usize) -> Drawn {
+    fitted(&mut Random::numbered(seed, number), fit_reasons)
 }
 
 /// A sheet that is not refused, and that `fit` says it has fitted; whole ones stay whole.

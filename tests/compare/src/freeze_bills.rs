@@ -8,11 +8,15 @@
 use crate::bill_calls::{call, Call, Makers};
 use crate::bill_kinds::{kinds, met};
 use crate::bills::{bytes, expected};
+use crate::corners::{self, BILL};
+use crate::flavours::drawn_with_reasons;
 use crate::freeze::Kept;
+use crate::freeze_limits::REASONS;
 use crate::freeze_plans::is_long;
 use crate::reference::{limit, plan};
 use crate::refusal::METHODS;
 use crate::sample::{Sample, Wanted, MOST_LENT};
+use crate::{reason_corners, reasons};
 
 const BILLS: Wanted =
     Wanted { answers: &[0, 1, 2, 3, 4, 5, 6, 7, 8, 10, 13], often: 2, count: 200 };
@@ -24,18 +28,33 @@ const RUST: Makers = Makers {
     limit: |sheet, plan_in, greatest| limit(sheet, plan_in, greatest).expect("a lawful plan in"),
 };
 
+/// Of the comparison of bills, and then of that of reasons.
 pub fn sample(seed: u64) -> Vec<Kept> {
     let mut kinds = kinds();
     kinds.retain(|kind| !LARGE.contains(kind));
-    Sample::kept(0..kinds.len(), BILLS, |sample, number| {
+    let mut kept = Sample::kept(0..kinds.len(), BILLS, |sample, number| {
         let call = call(seed, number, &RUST);
-        let lens = [call.sheet.len(), call.plan.len(), call.bill_len];
-        if !is_long(&call.sheet) && lens.iter().all(|&len| len <= MOST_LENT) {
+        if is_kept(&call) {
             let right = expected(&call);
             let met = met(&call, &right);
             sample.offer(&bytes(&right), |kind| met.contains(&kinds[kind]), asked(&call));
         }
-    })
+    });
+    let corners = corners::numbers(reason_corners::CORNERS, &[BILL]);
+    kept.extend(Sample::kept(corners, REASONS, |sample, number| {
+        let call = reasons::bill_call(&drawn_with_reasons(seed, number), seed, number);
+        if is_kept(&call) {
+            let right = bytes(&expected(&call));
+            let met = reason_corners::billed(&call, &right);
+            sample.offer(&right, corners::seen(BILL, &met), asked(&call));
+        }
+    }));
+    kept
+}
+
+fn is_kept(call: &Call) -> bool {
+    let lens = [call.sheet.len(), call.plan.len(), call.bill_len];
+    !is_long(&call.sheet) && lens.iter().all(|&len| len <= MOST_LENT)
 }
 
 fn asked(call: &Call) -> Vec<u8> {

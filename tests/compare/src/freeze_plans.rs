@@ -7,47 +7,55 @@
 //! No sheet that is planned has more than `MOST_ROWS` rows, and no plan buffer has more than
 //! `MOST_LENT` bytes.
 
-use crate::flavours::{drawn, drawn_at_home, drawn_with_due, Drawn};
+use crate::corners::{self, Corners};
+use crate::flavours::{drawn, drawn_at_home, drawn_with_due, drawn_with_reasons, Drawn};
 use crate::freeze::Kept;
 use crate::kinds::kinds;
 use crate::plans::{expected, Expected};
 use crate::refusal::{self, OFFERED};
 use crate::sample::{Sample, Wanted, MOST_LENT};
-use crate::{corners, due_corners, rest_corners};
+use crate::{due_corners, reason_corners, rest_corners};
 
 const PLANS: Wanted = Wanted { answers: &[0, 1, 2, 3, 4, 5, 6, 7, 8], often: 4, count: 300 };
-/// Every corner of depots' dues and of rests at home, plans and limited plans alike.
+/// Every corner of depots' dues, of rests at home and of reasons, plans and limited plans alike.
 pub const CORNERS: Wanted = Wanted { answers: &[0], often: 2, count: 0 };
 const MOST_ROWS: usize = 12;
 
-/// Of the comparison of plans, and then of those of depots' dues and of rests at home.
+/// Of the comparison of plans, and then of those of depots' dues, of rests at home and of reasons.
 pub fn sample(seed: u64) -> Vec<Kept> {
     let kinds = kinds(OFFERED).map(|(kind, _)| kind);
-    let mut kept = Sample::kept(kinds, PLANS, |sample, number| {
+    let kept = Sample::kept(kinds, PLANS, |sample, number| {
         let drawn = drawn(OFFERED, seed, number);
         if let Some(Expected { right, seen, .. }) = kept_answer(&drawn) {
             sample.offer(&right, |kind| seen.has(kind), asked(&drawn));
         }
     });
-    let dues = corners::numbers(due_corners::CORNERS, OFFERED);
-    kept.extend(Sample::kept(dues, CORNERS, |sample, number| {
-        let drawn = drawn_with_due(seed, number);
+    let dues =
+        met(due_corners::CORNERS, |number| drawn_with_due(seed, number), due_corners::planned);
+    let rests =
+        met(rest_corners::CORNERS, |number| drawn_at_home(seed, number), rest_corners::planned);
+    let reasons = met(
+        reason_corners::CORNERS,
+        |number| drawn_with_reasons(seed, number),
+        reason_corners::planned,
+    );
+    [kept, dues, rests, reasons].into_iter().flatten().collect()
+}
+
+/// Of a stream's sheets, by what their plans have met.
+fn met(
+    corners: Corners,
+    drawn: impl Fn(usize) -> Drawn,
+    planned: impl Fn(&[u8], &[u8]) -> Vec<bool>,
+) -> Vec<Kept> {
+    Sample::kept(corners::numbers(corners, OFFERED), CORNERS, |sample, number| {
+        let drawn = drawn(number);
         if let Some(Expected { right: Ok(right), .. }) = kept_answer(&drawn) {
-            let met = due_corners::planned(&drawn.sheet, &right);
+            let met = planned(&drawn.sheet, &right);
             let seen = corners::seen(drawn.sheet[4], &met);
             sample.offer(&Ok(right), seen, asked(&drawn));
         }
-    }));
-    let rests = corners::numbers(rest_corners::CORNERS, OFFERED);
-    kept.extend(Sample::kept(rests, CORNERS, |sample, number| {
-        let drawn = drawn_at_home(seed, number);
-        if let Some(Expected { right: Ok(right), .. }) = kept_answer(&drawn) {
-            let met = rest_corners::planned(&drawn.sheet, &right);
-            let seen = corners::seen(drawn.sheet[4], &met);
-            sample.offer(&Ok(right), seen, asked(&drawn));
-        }
-    }));
-    kept
+    })
 }
 
 /// Whether a sheet that is read has more rows than a sample's.

@@ -1,6 +1,8 @@
 //! Demand 3, checked from the bytes of a sheet and a plan alone (document 01, "A lawful round"),
 //! in whole numbers and by trying every place. Nothing of the planner's or the Rust's ways is used.
 
+use std::ops::Range;
+
 use crate::plan::{round_at, stop_at};
 use crate::sheet::{field, Sheet, INSERTION, NEAREST, SAVINGS};
 use crate::sheet::{HOME, MAX_DISTANCE, MAX_DURATION, PENALTY, REST, WINDOW};
@@ -20,17 +22,20 @@ pub struct Claims {
     insertion: usize,
     aside: usize,
     later: usize,
+    /// Reasons that were told in whole numbers too, by their numbers.
+    pub reasons: [usize; 8],
 }
 
 impl Claims {
     pub fn print(&self) {
-        let Claims { plans, lawful, rounds, rested, lone, insertion, aside, later } = self;
+        let Claims { plans, lawful, rounds, rested, lone, insertion, aside, later, reasons } = self;
         println!("  demand 3: every pond once in {plans} plans");
         println!("  demand 3: lawful rounds in {lawful:?} plans of methods 0 to 4");
         println!("  demand 3: {rounds} rounds, {rested} of them with a rest");
         println!("  demand 3: {lone} lone ponds over capacity in plans of savings");
         println!("  demand 3: insertion's clauses in {insertion} plans, {aside} ponds set aside");
         println!("  demand 3: {later} times a pond later than a round");
+        println!("  reasons 1 to 7 in whole numbers: {:?}", &reasons[1..]);
     }
 
     /// Whether rounds had to be lawful, and insertion's clauses to hold.
@@ -51,9 +56,10 @@ impl Claims {
         self.insertion += other.insertion;
         self.aside += other.aside;
         self.later += other.later;
+        self.reasons.iter_mut().zip(other.reasons).for_each(|(sum, ponds)| *sum += ponds);
     }
 
-    /// Whether a claim was never checked that plans of these methods make.
+    /// Whether a claim was never checked that plans of these methods make, on sheets with vehicles.
     pub fn missing(&self, methods: &[u8]) -> bool {
         let lacks = |&method: &u8| method != NEAREST && self.lawful[usize::from(method)] == 0;
         let (savings, insertion) = (methods.contains(&SAVINGS), methods.contains(&INSERTION));
@@ -61,13 +67,14 @@ impl Claims {
             || methods.iter().any(lacks)
             || (savings && self.lone == 0)
             || (insertion && [self.insertion, self.aside, self.later].contains(&0))
+            || self.reasons[2..].contains(&0)
     }
 }
 
 /// The rounds, each a vehicle's index and stops in order, and the ponds set aside.
-struct Plan {
+pub struct Plan {
     rounds: Vec<(usize, Vec<usize>)>,
-    aside: Vec<usize>,
+    pub aside: Vec<usize>,
 }
 
 /// Whether a plan of an accepted sheet keeps demand 3, or what it breaks.
@@ -101,7 +108,7 @@ pub fn judge(sheet: &[u8], plan: &[u8], claims: &mut Claims) -> Result<(), Strin
 }
 
 /// Every pond once.
-fn read(sheet: &Sheet, plan: &[u8]) -> Result<Plan, String> {
+pub fn read(sheet: &Sheet, plan: &[u8]) -> Result<Plan, String> {
     let (rows, depots) = (sheet.rows.len(), sheet.depots());
     if plan.len() != stop_at(rows, rows) {
         return Err("a plan of a wrong length".into());
@@ -148,14 +155,14 @@ impl Plan {
 }
 
 /// A sheet whose rounds have to be lawful, in whole numbers: by row, by leg and by vehicle.
-struct Ground<'a> {
-    sheet: &'a Sheet,
-    distances: Vec<u64>,
-    times: Vec<u64>,
-    service: Vec<u64>,
+pub struct Ground<'a> {
+    pub sheet: &'a Sheet,
+    pub distances: Vec<u64>,
+    pub times: Vec<u64>,
+    pub service: Vec<u64>,
     ready: Vec<u64>,
     due: Vec<u64>,
-    earliest: Vec<u64>,
+    pub earliest: Vec<u64>,
     latest: Vec<u64>,
     rest: Vec<u64>,
 }
@@ -166,7 +173,7 @@ fn whole(numbers: impl Iterator<Item = f64>) -> Option<Vec<u64>> {
 
 impl Ground<'_> {
     /// `None` for a row with window and penalty, or a number that is not whole.
-    fn of(sheet: &Sheet) -> Option<Ground<'_>> {
+    pub fn of(sheet: &Sheet) -> Option<Ground<'_>> {
         let (rows, vehicles) = (&sheet.rows, &sheet.vehicles);
         let both = WINDOW | PENALTY;
         if rows.iter().any(|row| row.marks & both == both) {
@@ -187,26 +194,40 @@ impl Ground<'_> {
         })
     }
 
-    fn rests(&self, vehicle: usize) -> bool {
+    pub fn rests(&self, vehicle: usize) -> bool {
         self.sheet.vehicles[vehicle].marks & REST != 0
     }
 
-    /// Document 02, request Four.
-    fn may_rest_at_home(&self, vehicle: usize) -> bool {
-        self.sheet.vehicles[vehicle].marks & HOME != 0
+    /// The places before stops, and at home where the vehicle may rest there (document 02, request Four).
+    pub fn places(&self, vehicle: usize, stops: &[usize]) -> Range<usize> {
+        let at_home = self.sheet.vehicles[vehicle].marks & HOME != 0;
+        0..stops.len() + usize::from(at_home)
     }
 
-    fn depot(&self, vehicle: usize) -> usize {
+    pub fn depot(&self, vehicle: usize) -> usize {
         self.sheet.vehicles[vehicle].depot as usize
     }
 
-    fn leg(&self, table: &[u64], from: usize, to: usize) -> u64 {
+    pub fn leg(&self, table: &[u64], from: usize, to: usize) -> u64 {
         table[from * self.sheet.rows.len() + to]
     }
 
-    /// The duration of the walk with the rest before the stop at `place`, at home where that is after
-    /// the last, or without one; `None` if it fails.
+    /// The duration of a walk that keeps the limits; `None` if it fails.
     fn walk(&self, vehicle: usize, stops: &[usize], place: Option<usize>) -> Option<u64> {
+        let (distance, duration) = self.walk_apart(vehicle, stops, place)?;
+        let lawful = self.keeps_maxima(vehicle, distance, duration)
+            && self.is_home_in_time(vehicle, duration);
+        lawful.then_some(duration)
+    }
+
+    /// Limits apart, distance and duration of the walk with the rest before the stop at `place`, at home
+    /// where that is after the last, or without one; `None` if it fails.
+    pub fn walk_apart(
+        &self,
+        vehicle: usize,
+        stops: &[usize],
+        place: Option<usize>,
+    ) -> Option<(u64, u64)> {
         let (mut departure, mut distance, mut last) = (0, 0, self.depot(vehicle));
         for (k, &stop) in stops.iter().enumerate() {
             distance += self.leg(&self.distances, last, stop);
@@ -225,9 +246,7 @@ impl Ground<'_> {
         if place == Some(stops.len()) {
             duration = self.rested(vehicle, duration)?;
         }
-        let lawful = self.keeps_maxima(vehicle, distance, duration)
-            && self.is_home_in_time(vehicle, duration);
-        lawful.then_some(duration)
+        Some((distance, duration))
     }
 
     /// When a rest on arrival ends.
@@ -243,22 +262,22 @@ impl Ground<'_> {
     }
 
     /// A whole number is over a maximum exactly if it is over the whole part of it.
-    fn keeps_maxima(&self, vehicle: usize, distance: u64, duration: u64) -> bool {
+    pub fn keeps_maxima(&self, vehicle: usize, distance: u64, duration: u64) -> bool {
         let vehicle = &self.sheet.vehicles[vehicle];
         let kept = |mark, x, max: f64| vehicle.marks & mark == 0 || x <= max.floor() as u64;
         kept(MAX_DISTANCE, distance, vehicle.max_distance)
             && kept(MAX_DURATION, duration, vehicle.max_duration)
     }
 
-    fn has_lawful_schedule(&self, vehicle: usize, stops: &[usize]) -> bool {
+    pub fn has_lawful_schedule(&self, vehicle: usize, stops: &[usize]) -> bool {
         let rests = self.rests(vehicle);
         let free = |duration| !rests || duration <= self.earliest[vehicle];
         let rested = |place| self.walk(vehicle, stops, Some(place)).is_some();
-        let places = stops.len() + usize::from(self.may_rest_at_home(vehicle));
-        self.walk(vehicle, stops, None).is_some_and(free) || (rests && (0..places).any(rested))
+        let mut places = self.places(vehicle, stops);
+        self.walk(vehicle, stops, None).is_some_and(free) || (rests && places.any(rested))
     }
 
-    fn keeps_capacity(&self, vehicle: usize, stops: &[usize]) -> bool {
+    pub fn keeps_capacity(&self, vehicle: usize, stops: &[usize]) -> bool {
         let demands = stops.iter().map(|&stop| i64::from(self.sheet.rows[stop].demand));
         demands.sum::<i64>() <= i64::from(self.sheet.vehicles[vehicle].capacity)
     }

@@ -12,6 +12,7 @@ use crate::limiting::{limited, rounds, Event, Move, MOST_ROWS};
 use crate::plan::{chains, encode, encode_chains, plan_len, Chains};
 use crate::plan_damage::{damage_plan, fill_unread, DAMAGES};
 use crate::random::Random;
+use crate::reasoning::reasoned;
 use crate::reference::Problem;
 use crate::refusal::{METHODS, MOST_DEMAND, MOST_FIGURE};
 use crate::sheet::{Header, Sheet, Vehicle, DEPOT, PENALTY, WINDOW};
@@ -28,7 +29,7 @@ pub struct Call {
 
 /// Each with its share. The damages of a plan come first, then what is made of whole plans; the
 /// tiny plans are not drawn but counted through.
-pub const FLAVOURS: [(&str, usize); 17] = [
+pub const FLAVOURS: [(&str, usize); 18] = [
     (DAMAGES[0], 4),
     (DAMAGES[1], 3),
     (DAMAGES[2], 3),
@@ -38,6 +39,7 @@ pub const FLAVOURS: [(&str, usize); 17] = [
     (DAMAGES[6], 3),
     (DAMAGES[7], 4),
     (DAMAGES[8], 4),
+    (DAMAGES[9], 4),
     ("planned", 40),
     ("dealt", 40),
     ("dealt, fitted", 80),
@@ -47,14 +49,14 @@ pub const FLAVOURS: [(&str, usize); 17] = [
     ("depots", 6),
     ("tiny", 0),
 ];
-pub const PLANNED: usize = 9;
-const DEALT: usize = 10;
-const FITTED: usize = 11;
-const LONE: usize = 12;
-const LENGTHS: usize = 13;
-const REFUSED: usize = 14;
-const DEPOTS: usize = 15;
-pub const TINY: usize = 16;
+pub const PLANNED: usize = 10;
+const DEALT: usize = 11;
+const FITTED: usize = 12;
+const LONE: usize = 13;
+const LENGTHS: usize = 14;
+const REFUSED: usize = 15;
+const DEPOTS: usize = 16;
+pub const TINY: usize = 17;
 
 /// The call of a number.
 pub fn call(seed: u64, number: usize) -> Call {
@@ -71,7 +73,7 @@ pub fn call(seed: u64, number: usize) -> Call {
     }
     let rows = sheet.rows.len();
     let own = flavour == PLANNED || (flavour < PLANNED && random.one_in(2));
-    let made = own.then(|| encode(rows, &Problem::taken(&sheet).solution()));
+    let made = own.then(|| reasoned(&sheet, &Problem::taken(&sheet).solution()));
     let plan = match &made {
         Some(made) => chains(made, &sheet).expect("the Rust's plan has each stop once"),
         None if flavour == LONE => lone(&sheet, random),

@@ -1,14 +1,14 @@
-//! `compare limits`: the limiter's plans out against the Rust's, bytes to bytes, and each against
-//! what it has to keep.
+//! `compare limits`: the limiter's plans out against the Rust's with reasons of this harness's, bytes to
+//! bytes, and each against what it has to keep.
 
 use std::process::ExitCode;
 
 use crate::kinds::{kinds, Seen, LIMITER};
 use crate::limit_calls::{call, Call, FLAVOURS, PLANNED};
-use crate::plan::encode;
 use crate::planner;
 use crate::plans::{apart, decoded, hexadecimal, pattern};
 use crate::promises::broken;
+use crate::reasoning::copied;
 use crate::reference::Problem;
 use crate::refusal::limiter_accepted;
 use crate::tiny_plans::each_tiny;
@@ -86,7 +86,8 @@ pub fn expected(call: &Call) -> Expected {
             let mut seen = Seen::default();
             seen.unread(&call.plan_in, sheet.rows.len(), chains.rounds.len());
             let lost = !seen.limiting(&problem, &chains, call.greatest, &solution);
-            Expected { right: Ok(encode(sheet.rows.len(), &solution)), seen, lost }
+            let right = copied(&call.plan_in, sheet.rows.len(), &chains.aside, &solution);
+            Expected { right: Ok(right), seen, lost }
         }
     }
 }

@@ -13,6 +13,7 @@
 //!     compare rests COUNT SEED       plans of COUNT sheets with such vehicles, and limited ones
 //!     compare imports COUNT SEED     the importer's sheets of COUNT texts, and of fixed ones
 //!     compare bills COUNT SEED       the bills of COUNT plans, and of all tiny ones
+//!     compare reasons COUNT SEED     the reasons in plans of COUNT sheets, and in limited and billed ones
 //!     compare roots COUNT SEED       the importer's square root on COUNT numbers
 //!     compare checked COUNT SEED     the checker of demand 3 on COUNT plans of the Rust's
 //!     compare bench                  the port's route_feasible against the Rust's, timed
@@ -53,6 +54,7 @@ mod due_corners;
 mod dues;
 mod example;
 mod fit;
+mod fit_reasons;
 mod fit_return;
 mod flavours;
 mod freeze;
@@ -75,6 +77,7 @@ mod inserts;
 mod joins;
 mod kinds;
 mod lawful;
+mod lawful_reasons;
 mod limit_calls;
 mod limiting;
 mod limits;
@@ -87,6 +90,10 @@ mod plans;
 mod points;
 mod promises;
 mod random;
+mod reason_copies;
+mod reason_corners;
+mod reasoning;
+mod reasons;
 mod reference;
 mod refusal;
 mod refusals;
@@ -99,7 +106,9 @@ mod sample;
 mod selftest;
 mod selftest_bills;
 mod selftest_imports;
+mod selftest_reasons;
 mod selftest_rests;
+mod set_aside;
 mod sheet;
 mod slow_limits;
 mod slow_starts;
@@ -110,6 +119,8 @@ mod trial;
 mod tried;
 mod vary;
 mod wrong_bills;
+mod wrong_copies;
+mod wrong_reasons;
 mod wrong_rests;
 
 use std::io;
@@ -124,7 +135,8 @@ const USAGE: &str = "usage: compare selftest | refusals COUNT SEED | rounds COUN
                      plans COUNT SEED | plan NUMBER SEED | checked COUNT SEED | \
                      limits COUNT SEED | limit NUMBER SEED | dues COUNT SEED | \
                      rest_rounds COUNT SEED | rests COUNT SEED | \
-                     imports COUNT SEED | bills COUNT SEED | roots COUNT SEED | \
+                     imports COUNT SEED | bills COUNT SEED | reasons COUNT SEED | \
+                     roots COUNT SEED | \
                      listings PROGRAM COUNT SEED | \
                      bench [plans | limits | bills] [instructions | SIDE CASE RUNS] | \
                      bench imports | \
@@ -153,6 +165,7 @@ fn main() -> ExitCode {
         ["rest_rounds", count, seed] => numbers(count, seed).map(|(c, s)| rest_rounds::run(c, s)),
         ["imports", count, seed] => numbers(count, seed).map(|(c, s)| imports::run(c, s)),
         ["bills", count, seed] => numbers(count, seed).map(|(c, s)| bills::run(c, s)),
+        ["reasons", count, seed] => numbers(count, seed).map(|(c, s)| reasons::run(c, s)),
         ["roots", count, seed] => numbers(count, seed).map(|(c, s)| roots::run(c, s)),
         ["listings", program, count, seed] => {
             numbers(count, seed).map(|(c, s)| listings::run(program, c, s))

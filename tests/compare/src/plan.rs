@@ -1,5 +1,5 @@
 //! The plan's bytes: written from the Rust's figures, and their chains read back (document 01,
-//! "The plan").
+//! "The plan"). The reason of a stop set aside (document 02, request Six) is put in and left out.
 
 use u_routing::models::{Route, Solution};
 
@@ -8,10 +8,17 @@ use crate::sheet::{field, Sheet};
 const HEADER: usize = 16;
 const ROUND: usize = 56;
 const STOP: usize = 24;
+/// The greatest reason.
+pub const MOST_REASON: u16 = 8;
 
 /// Where a stop's record starts in the plan of a sheet of `rows` rows, and where a round's does.
 pub fn stop_at(rows: usize, row: usize) -> usize {
     round_at(rows) + STOP * row
+}
+
+/// Where its reason stands.
+pub fn reason_at(rows: usize, row: usize) -> usize {
+    stop_at(rows, row) + 2
 }
 
 pub fn round_at(round: usize) -> usize {
@@ -29,6 +36,7 @@ pub struct Chains {
     pub aside: Vec<usize>,
 }
 
+/// A plan without reasons.
 pub fn encode(rows: usize, solution: &Solution) -> Vec<u8> {
     let mut plan = vec![0; plan_len(rows)];
     let aside = solution.unassigned();
@@ -89,6 +97,38 @@ fn encode_route(plan: &mut [u8], rows: usize, k: usize, route: &Route) {
     }
 }
 
+pub fn put_reason(plan: &mut [u8], rows: usize, stop: usize, reason: u16) {
+    put(plan, reason_at(rows, stop), reason.to_le_bytes());
+}
+
+pub fn reason_of(plan: &[u8], rows: usize, stop: usize) -> u16 {
+    u16::from_le_bytes(field(plan, reason_at(rows, stop)))
+}
+
+/// The reasons of all rows of a plan, those of depots and routed stops too.
+pub fn reasons(plan: &[u8]) -> Vec<u16> {
+    let rows = rows_of(plan);
+    (0..rows).map(|row| reason_of(plan, rows, row)).collect()
+}
+
+/// The row whose reason a byte of a plan is of.
+pub fn reason_place(plan: &[u8], at: usize) -> Option<usize> {
+    let rows = rows_of(plan);
+    (0..rows).find(|&row| (0..2).contains(&at.wrapping_sub(reason_at(rows, row))))
+}
+
+/// As many as there is room for.
+fn rows_of(plan: &[u8]) -> usize {
+    plan.len().saturating_sub(HEADER) / (ROUND + STOP)
+}
+
+/// The same plan without reasons, which the Rust has none of.
+pub fn without_reasons(plan: &[u8]) -> Vec<u8> {
+    let (rows, mut plan) = (rows_of(plan), plan.to_vec());
+    (0..rows).for_each(|row| put_reason(&mut plan, rows, row, 0));
+    plan
+}
+
 fn put<const N: usize>(plan: &mut [u8], at: usize, bytes: [u8; N]) {
     plan[at..at + N].copy_from_slice(&bytes);
 }
@@ -104,7 +144,8 @@ pub fn round_count(plan: &[u8]) -> usize {
 }
 
 /// The chains of a plan of the right length for `sheet`. `None` for more rounds than rows, an
-/// unknown id, a link to no stop, or a stop not exactly once in all chains.
+/// unknown id, a link to no stop, a stop not exactly once in all chains, or a reason above the greatest
+/// of a stop set aside.
 pub fn chains(plan: &[u8], sheet: &Sheet) -> Option<Chains> {
     let rows = sheet.rows.len();
     let count = round_count(plan);
@@ -121,7 +162,9 @@ pub fn chains(plan: &[u8], sheet: &Sheet) -> Option<Chains> {
         rounds.push((id, chain(plan, at + 8, &mut left)?));
     }
     let aside = chain(plan, 2, &mut left)?;
-    (!left.contains(&true)).then_some(Chains { rounds, aside })
+    let explained = |&stop: &usize| reason_of(plan, rows, stop) <= MOST_REASON;
+    let is_plan = !left.contains(&true) && aside.iter().all(explained);
+    is_plan.then_some(Chains { rounds, aside })
 }
 
 /// The stops of the chain whose first link stands at `first`, each struck off the stops left.

@@ -1,10 +1,10 @@
 //! Damage to a plan that is read, and noise where it is not.
 
-use crate::plan::{round_at, stop_at, Chains};
+use crate::plan::{put_reason, reason_at, round_at, stop_at, Chains, MOST_REASON};
 use crate::random::Random;
 use crate::sheet::{field, Sheet};
 
-pub const DAMAGES: [&str; 9] = [
+pub const DAMAGES: [&str; 10] = [
     "damaged: over `rows` rounds",
     "damaged: an unknown id",
     "damaged: a link to no row",
@@ -14,9 +14,12 @@ pub const DAMAGES: [&str; 9] = [
     "damaged: another number of rounds",
     "damaged: any link",
     "damaged: any byte",
+    "damaged: a reason above 8",
 ];
+/// The last of them.
+pub const OVER_REASON: usize = 9;
 
-/// Puts noise where no one reads.
+/// Puts noise where no one reads, and any reasons where they are.
 pub fn fill_unread(bytes: &mut [u8], plan: &Chains, rows: usize, random: &mut Random) {
     let count = plan.rounds.len();
     let id_and_first = |k| [round_at(k)..round_at(k) + 4, round_at(k) + 8..round_at(k) + 10];
@@ -26,6 +29,9 @@ pub fn fill_unread(bytes: &mut [u8], plan: &Chains, rows: usize, random: &mut Ra
     let kept = bytes.to_vec();
     bytes.iter_mut().for_each(|byte| *byte = random.bits() as u8);
     read.into_iter().for_each(|range| bytes[range.clone()].copy_from_slice(&kept[range]));
+    for &stop in &plan.aside {
+        put_reason(bytes, rows, stop, random.below(usize::from(MOST_REASON) + 1) as u16);
+    }
 }
 
 /// One of the damages, by its number, where the plan has what it is done to.
@@ -79,6 +85,11 @@ pub fn damage_plan(
         "damaged: any byte" => {
             let at = random.below(bytes.len());
             bytes[at] = random.bits() as u8;
+        }
+        "damaged: a reason above 8" if !plan.aside.is_empty() => {
+            let low = 256 + random.below(9);
+            let at = reason_at(rows, random.pick(&plan.aside));
+            put(at, random.pick(&[9, 9, 10, 255, low, low, 1 << 15, usize::from(u16::MAX)]));
         }
         _ => (),
     }

@@ -1,5 +1,5 @@
-//! `compare plans`: the planner's plans against the Rust's, bytes to bytes, and each plan against
-//! document 01's "A lawful round".
+//! `compare plans`: the planner's plans against the Rust's with reasons of this harness's, bytes to
+//! bytes, and each plan against document 01's "A lawful round".
 
 use std::cell::Cell;
 use std::process::ExitCode;
@@ -7,10 +7,12 @@ use std::process::ExitCode;
 use crate::angles::{misorders, swept};
 use crate::flavours::{drawn, share, Drawn, FLAVOURS};
 use crate::kinds::{kinds, solved, Seen};
-use crate::lawful::{judge, Claims};
+use crate::lawful::Claims;
+use crate::lawful_reasons::judge_plan;
 use crate::listing::lines;
-use crate::plan::encode;
+use crate::plan::{reason_place, reasons};
 use crate::planner;
+use crate::reasoning::reasoned;
 use crate::reference::Problem;
 use crate::refusal::{accepted, can_occur, OFFERED};
 use crate::sheet::{Sheet, SWEEP};
@@ -89,15 +91,15 @@ pub fn expected(drawn: &Drawn) -> Expected {
         Ok(sheet) => {
             let problem = Problem::taken(&sheet);
             let (solution, seen, lost) = solved(&problem);
-            let right = encode(sheet.rows.len(), &solution);
-            let exact = exact(&problem).filter(|exact| exact.plan != right);
+            let right = reasoned(&sheet, &solution);
+            let exact = exact(&sheet, &problem).filter(|exact| exact.plan != right);
             Expected { right: Ok(right), exact, seen, lost }
         }
     }
 }
 
-/// A sweep's plan in the exact order of directions, of a problem of that method.
-pub fn exact(problem: &Problem) -> Option<Exact> {
+/// A sweep's plan in the exact order of directions, of a sheet of that method.
+pub fn exact(sheet: &Sheet, problem: &Problem) -> Option<Exact> {
     if problem.method != SWEEP {
         return None;
     }
@@ -107,8 +109,7 @@ pub fn exact(problem: &Problem) -> Option<Exact> {
         misordered.set(misordered.get() || misorders(table));
         table.solution()
     });
-    let plan = encode(problem.customers.len(), &solution);
-    Some(Exact { plan, misordered: misordered.get() })
+    Some(Exact { plan: reasoned(sheet, &solution), misordered: misordered.get() })
 }
 
 impl Expected {
@@ -151,7 +152,7 @@ impl Tally {
             *count += usize::from(expected.seen.has(*kind));
         }
         let broken = said.as_ref().ok().and_then(|plan| match right {
-            Ok(_) => judge(&drawn.sheet, plan, &mut self.claims).err(),
+            Ok(_) => judge_plan(&drawn.sheet, plan, &mut self.claims).err(),
             Err(_) => None,
         });
         let verdict = expected.verdict(&said);
@@ -219,7 +220,11 @@ pub fn apart(said: &Result<Vec<u8>, u32>, right: &Result<Vec<u8>, u32>) -> Optio
         _ if said == right => None,
         (Ok(said), Ok(right)) => {
             let at = said.iter().zip(right).position(|(one, other)| one != other);
-            Some(format!("another plan, from byte {} on", at.unwrap_or(right.len())))
+            let at = at.unwrap_or(right.len());
+            Some(match reason_place(right, at) {
+                Some(stop) => format!("another reason of stop {stop}"),
+                None => format!("another plan, from byte {at} on"),
+            })
         }
         _ => Some("another answer".into()),
     }
@@ -242,7 +247,7 @@ pub fn hexadecimal(bytes: &[u8]) -> String {
     hex.chain((bytes.len() > MOST_SHOWN).then(|| "..".into())).collect()
 }
 
-/// An answer as the listing shows it, and the cost.
+/// An answer as the listing shows it, the cost, and the reasons.
 pub fn decoded(sheet: &[u8], who: &str, answer: &Result<Vec<u8>, u32>) -> String {
     match answer {
         Err(97) => format!("{who}: the plan that was given was changed"),
@@ -253,9 +258,10 @@ pub fn decoded(sheet: &[u8], who: &str, answer: &Result<Vec<u8>, u32>) -> String
             let read = accepted(OFFERED, sheet, &[plan.len()]).ok();
             let text = read.and_then(|sheet: Sheet| lines(plan, &sheet));
             let text = text.unwrap_or_else(|| "no plan of this sheet\n".into());
+            let reasons = reasons(plan);
             let cost = plan.get(8..16).map_or(&[][..], |cost| cost);
             let cost: String = cost.iter().rev().map(|byte| format!("{byte:02X}")).collect();
-            format!("{who}: cost {cost}\n{}", text.trim_end())
+            format!("{who}: cost {cost}, reasons by row {reasons:?}\n{}", text.trim_end())
         }
     }
 }

@@ -1,6 +1,6 @@
-//! The reference answers: the Rust's own, as plan bytes. Where a vehicle may rest at home they are
-//! those of the Rust's constructors and limiter over a walk of this harness's
-//! (glue/home/evaluation.rs).
+//! The reference answers: the Rust's own, as plan bytes, with reasons of this harness's (reasoning.rs).
+//! Where a vehicle may rest at home they are those of the Rust's constructors and limiter over a walk of
+//! this harness's (glue/home/evaluation.rs).
 
 use u_routing::constructive as today;
 use u_routing::distance::DistanceMatrix;
@@ -11,6 +11,7 @@ use u_routing::home::evaluation::{RouteEval, RouteLimits};
 use u_routing::models::{num_depots, Customer, Route, Solution, TimeWindow, Vehicle, VehicleBreak};
 
 use crate::plan::{encode, plan_len, Chains};
+use crate::reasoning::{copied, reasoned};
 use crate::refusal::{accepted, limiter_accepted};
 use crate::sheet::{self, Header, Row, Sheet};
 
@@ -34,15 +35,26 @@ pub struct Table<'a> {
 
 /// The answer of a planner that offers these methods: a refusal or the plan's bytes.
 pub fn plan(methods: &[u8], bytes: &[u8]) -> Result<Vec<u8>, u32> {
+    solved(methods, bytes).map(|(sheet, solution)| reasoned(&sheet, &solution))
+}
+
+/// The same without reasons, for which the Rust has no code.
+pub fn plan_by_rust(methods: &[u8], bytes: &[u8]) -> Result<Vec<u8>, u32> {
+    solved(methods, bytes).map(|(sheet, solution)| encode(sheet.rows.len(), &solution))
+}
+
+fn solved(methods: &[u8], bytes: &[u8]) -> Result<(Sheet, Solution), u32> {
     let sheet = accepted(methods, bytes, &[len_for(bytes)])?;
-    Ok(encode(sheet.rows.len(), &Problem::taken(&sheet).solution()))
+    let solution = Problem::taken(&sheet).solution();
+    Ok((sheet, solution))
 }
 
 /// The limiter's answer: a refusal or the plan out.
 pub fn limit(bytes: &[u8], plan_in: &[u8], greatest: u32) -> Result<Vec<u8>, u32> {
     let (sheet, chains) = limiter_accepted(bytes, plan_in, len_for(bytes))?;
+    let aside = chains.aside.clone();
     let solution = Problem::held(&sheet).limited(chains, greatest as usize);
-    Ok(encode(sheet.rows.len(), &solution))
+    Ok(copied(plan_in, sheet.rows.len(), &aside, &solution))
 }
 
 /// The length of the plan buffer that a caller lends for a sheet.

@@ -7,7 +7,7 @@ use crate::corners::{Corners, LIMITER};
 use crate::cross::{unmarked, Cross};
 use crate::lawful::{judge, Claims};
 use crate::limit_calls::Call;
-use crate::plan::{chains, encode, round_at, Chains};
+use crate::plan::{chains, encode, round_at, without_reasons, Chains};
 use crate::reference::Problem;
 use crate::refusal::limiter_accepted;
 use crate::sheet::{field, Sheet, Vehicle, HOME, INSERTION, MAX_DURATION, NEAREST, NN_TW, REST};
@@ -86,6 +86,7 @@ pub fn has_rest_at_home(sheet: &Sheet, plan: &[u8]) -> bool {
 /// Of a sheet and its plan.
 pub fn planned(bytes: &[u8], right: &[u8]) -> Vec<bool> {
     let sheet = &Sheet::decode(bytes);
+    let right = &without_reasons(right)[..];
     let plan = |sheet: &Sheet| encode(sheet.rows.len(), &Problem::taken(sheet).solution());
     let is_lawful = |sheet: &Sheet| judge(&sheet.encode(), right, &mut Claims::default()).is_ok();
     let shared = shared(sheet, right, &plan);
@@ -97,7 +98,7 @@ pub fn planned(bytes: &[u8], right: &[u8]) -> Vec<bool> {
 pub fn limited(call: &Call, right: &[u8]) -> Vec<bool> {
     let accepted = limiter_accepted(&call.sheet, &call.plan_in, right.len());
     let (sheet, before): (Sheet, Chains) = accepted.expect("a plan of the Rust's");
-    let greatest = call.greatest as usize;
+    let (right, greatest) = (&without_reasons(right)[..], call.greatest as usize);
     let plan = |sheet: &Sheet| {
         let solution = Problem::held(sheet).limited(before.clone(), greatest);
         encode(sheet.rows.len(), &solution)

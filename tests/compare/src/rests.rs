@@ -6,13 +6,13 @@
 
 use std::process::ExitCode;
 
-use crate::corners::{Tally, COLUMNS, LIMITER};
+use crate::corners::{Tally, BILL, LIMITER};
 use crate::cross::Cross;
 use crate::flavours::{drawn_at_home, Drawn};
 use crate::hard_rests::hardened;
-use crate::lawful::judge;
+use crate::lawful_reasons::judge_plan;
 use crate::limit_calls::{call_at_home, Call};
-use crate::plan::{chains, encode};
+use crate::plan::{chains, encode, without_reasons};
 use crate::planner::PLANNER;
 use crate::plans::apart;
 use crate::random::Random;
@@ -28,7 +28,7 @@ const MANY: usize = 100_000;
 /// What the Rust without rests makes of a sheet or a call, if it can be asked.
 type Restless = Option<Vec<u8>>;
 /// How many of these had a rest at home, by method and by the limiter.
-type Rested = [usize; COLUMNS];
+type Rested = [usize; BILL as usize];
 
 pub fn run(count: usize, seed: u64) -> ExitCode {
     println!("rests: seed {seed}");
@@ -97,7 +97,7 @@ fn try_plan(tally: &mut Tally, drawn: &Drawn, number: usize, restless: Restless)
     let verdict = if PLANNER { expected.verdict(&said) } else { Ok(false) };
     tally.explained += usize::from(verdict == Ok(true));
     let plan = said.as_ref().ok();
-    let broken = plan.and_then(|plan| judge(&drawn.sheet, plan, &mut tally.claims).err());
+    let broken = plan.and_then(|plan| judge_plan(&drawn.sheet, plan, &mut tally.claims).err());
     let lost = expected.lost.map(String::from);
     let apart = unlike(&drawn.sheet, &expected.right, restless);
     if let Some(what) = verdict.err().or(lost).or(broken).or(apart) {
@@ -120,15 +120,15 @@ fn try_limit(tally: &mut Tally, call: &Call, number: Option<usize>, restless: Re
     }
 }
 
-/// What the harness expects otherwise than the Rust as it is: a refusal, a record of a round, or a
-/// whole plan where it can be asked for one.
+/// What the harness expects otherwise than the Rust as it is, reasons left out: a refusal, a record of a
+/// round, or a whole plan where it can be asked for one.
 fn unlike(sheet: &[u8], right: &Result<Vec<u8>, u32>, restless: Restless) -> Option<String> {
     let Ok(plan) = right else { return Some("a sheet that is refused".into()) };
-    let sheet = Sheet::decode(sheet);
-    let rounds = chains(plan, &sheet).expect("the Rust's plan has each stop once");
+    let (sheet, plan) = (Sheet::decode(sheet), without_reasons(plan));
+    let rounds = chains(&plan, &sheet).expect("the Rust's plan has each stop once");
     let crossed = encode(sheet.rows.len(), &Cross::new(&sheet).solution(&rounds));
-    let records = !rounds.rounds.is_empty() && crossed != *plan;
-    let whole = restless.and_then(|restless| apart(right, &Ok(restless)));
+    let records = !rounds.rounds.is_empty() && crossed != plan;
+    let whole = restless.and_then(|restless| apart(&Ok(plan), &Ok(restless)));
     let records = records.then(|| "a record that is not the Rust's".into());
     records.or(whole.map(|what| format!("{what}, of the Rust without rests")))
 }

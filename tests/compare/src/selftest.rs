@@ -15,7 +15,7 @@ use crate::refusal::{accepted, limiter_accepted, refusal, METHODS, OFFERED};
 use crate::sheet::{field, Row, Sheet, Vehicle};
 use crate::sheet::{DEPOT, INSERTION, MAX_DISTANCE, NEAREST, NN_TW, PENALTY, REST, SAVINGS};
 use crate::sheet::{SWEEP, WINDOW};
-use crate::{promises, selftest_bills, selftest_imports, selftest_rests};
+use crate::{promises, selftest_bills, selftest_imports, selftest_reasons, selftest_rests};
 
 const LISTING: &str = "\
 rounds 1 aside 0
@@ -59,6 +59,7 @@ pub fn run() -> ExitCode {
     selftest_imports::run(&mut tally);
     selftest_rests::run(&mut tally);
     selftest_bills::run(&mut tally);
+    selftest_reasons::run(&mut tally);
     println!("selftest: {} run, {} failed", tally.run, tally.failed);
     ExitCode::from(u8::from(tally.failed > 0))
 }

@@ -174,11 +174,13 @@ fn kept(mut slowest: Call, file: &Path) -> io::Result<ExitCode> {
     let seconds = least(&mut [&mut slowest], LAST)[0];
     let Call { sheet, limit, bytes, plan_in, plan } = slowest;
     let began = processor_time();
-    let right = match &limit {
-        None => reference::plan(METHODS, &bytes),
+    let made = match &limit {
+        None => reference::plan_by_rust(METHODS, &bytes),
         Some(limit) => reference::limit(&bytes, &plan_in, limit.greatest),
     };
-    let (same, rust) = (right == Ok(plan), processor_time() - began);
+    let rust = processor_time() - began;
+    let right = if limit.is_some() { made } else { reference::plan(METHODS, &bytes) };
+    let same = right == Ok(plan);
     println!(
         "slowest: {}, {} rows, {} depots: {:.3} ms, the Rust {:.3} ms; {}",
         limit.as_ref().map_or(format!("method {}", sheet.method), Limit::told),

@@ -1,6 +1,7 @@
 use Rattle.std.proofs.Common.{sym, ◌∙◌, refl}
 use Rattle.sheet.specs.Laws.Told.{told_some}
 use Rattle.sheet.specs.Laws.Accepted.{accepted}
+use Rattle.plan_door.specs.Laws.Told.{taken_right}
 use Rattle.planner.specs.Laws.Promised.{number_is, bytes_are}
 use Rattle.listing.specs.Laws.Answer.{answer_listed, answer_refused}
 use Rattle.listing.proofs.write_planned.Goals as goal
@@ -18,7 +19,7 @@ write_listing-requires-clause-listable c =
       sized = fine.0.sized;
       rows = c.requires.few_rows;
       long = c.plan_rounds.auto.plan ∙ fine.1;
-      right = (told.once refl).right;
+      right = taken_right _ _ (told.once refl).right;
     }
 
 pub returns-in-Ok : goal.returns-in-Ok

@@ -13,7 +13,7 @@ use Rattle.lists.specs.Once.{Stops}
 use Rattle.lists.specs.Laws.Once.{Distinct, AllOff, count_append, split, stops_split, distinct_few}
 use Rattle.wire.specs.Bytes.{le, bytes, write}
 use Rattle.wire.specs.Laws.Bytes.{length_bytes, length_write, le_lt, le_in, le_before, le_after, le_past}
-use Rattle.sheet.specs.Fields.{rows_of, vehicles_of, vehicle_at, id_field, most_rows}
+use Rattle.sheet.specs.Fields.{rows_of, vehicles_of, vehicle_at, id_field, most_rows, plan_length}
 use Rattle.sheet.specs.Accepted.{Accepted}
 use Rattle.sheet.specs.Values.{vehicle_of}
 use Rattle.sheet.specs.declared.vehicle.Vehicle.{Vehicle}
@@ -243,7 +243,7 @@ module _ (s : List ℕ) (o : Outcome) (cost : Float) (a : Accepted s) (small : (
   unfolding outcome_right
   links = and_l (links_right s (stops_of o)) (each_once s (stops_of o)) (and_r (ids_known s o.rounds) (links_right s (stops_of o) && each_once s (stops_of o)) right)
 
-  stops : Stops (rows_of s) (stops_of o)
+  pub stops : Stops (rows_of s) (stops_of o)
   stops = stops_right s (stops_of o) links
 
   distinct : Distinct (stops_of o)
@@ -318,6 +318,14 @@ module _ (s : List ℕ) (o : Outcome) (cost : Float) (a : Accepted s) (small : (
       known
       stops
       distinct
+
+  pub written_long : length (plan_bytes s o cost) ≡ plan_length s
+  unfolding plan_bytes
+  written_long = length_write chained 0 header header_room ∙ spread_length (rows_of s) long_rounded spread_aside
+
+  -- the stops set aside are rows
+  pub aside_rows : Stops (rows_of s) o.aside
+  aside_rows = aside_stops (rows_of s) o.rounds o.aside stops
 
   -- reading what was written gives the outcome back
   pub read_written : read_plan s (plan_bytes s o cost) ≡ o

@@ -10,8 +10,7 @@ use Rattle.sheet.specs.Refusal.{header_right, counts_right, method_right, length
 use Rattle.sheet.specs.Accepted.{Accepted}
 use Rattle.sheet.specs.Laws.Accepted.{accepted}
 use Rattle.sheet.specs.Laws.Stops.{depots_some}
-use Rattle.plan.specs.Read.{plan_right}
-use Rattle.plan_door.specs.Door.{or_else, one_depot, unread_refusal, door_refusal}
+use Rattle.plan_door.specs.Door.{or_else, one_depot, unread_refusal, plan_taken, door_refusal}
 
 -- the further buffer is looked at only beside a sheet and a plan of their lengths
 pub door_room : (s plan : List ℕ) (a b one : Bool) → (lengths_right s (length plan) ≡ true → a ≡ b) → door_refusal s plan a one ≡ door_refusal s plan b one
@@ -19,8 +18,8 @@ unfolding door_refusal unread_refusal
 door_room s plan a b one = go (lengths_right s (length plan))
   where
     go : (d : Bool) → (d ≡ true → a ≡ b)
-        → or_else (unless (header_right s) 1 (unless (counts_right s) 2 (unless (method_right s) 3 (unless (d && a) 4 (or_else (contents s) (unless (not one || one_depot s) 9 0)))))) (unless (plan_right s plan) 10 0)
-        ≡ or_else (unless (header_right s) 1 (unless (counts_right s) 2 (unless (method_right s) 3 (unless (d && b) 4 (or_else (contents s) (unless (not one || one_depot s) 9 0)))))) (unless (plan_right s plan) 10 0)
+        → or_else (unless (header_right s) 1 (unless (counts_right s) 2 (unless (method_right s) 3 (unless (d && a) 4 (or_else (contents s) (unless (not one || one_depot s) 9 0)))))) (unless (plan_taken s plan) 10 0)
+        ≡ or_else (unless (header_right s) 1 (unless (counts_right s) 2 (unless (method_right s) 3 (unless (d && b) 4 (or_else (contents s) (unless (not one || one_depot s) 9 0)))))) (unless (plan_taken s plan) 10 0)
     go true h = rw (h refl)
     go false h = refl
 
@@ -46,7 +45,7 @@ unread_open s m room one t = let o = go (header_right s) (counts_right s) (metho
     go true true true true true zero true t = (refl, (refl, refl))
 
 -- the other way: so much is enough
-pub open_door : (s plan : List ℕ) (one : Bool) → refusal_of s (length plan) ≡ 0 → (not one || one_depot s) ≡ true → plan_right s plan ≡ true → door_refusal s plan true one ≡ 0
+pub open_door : (s plan : List ℕ) (one : Bool) → refusal_of s (length plan) ≡ 0 → (not one || one_depot s) ≡ true → plan_taken s plan ≡ true → door_refusal s plan true one ≡ 0
 unfolding door_refusal unread_refusal refusal_of
 open_door s plan one t d p = rw p (go (header_right s) (counts_right s) (method_right s) (lengths_right s (length plan)) (contents s) t)
   where
@@ -64,7 +63,7 @@ module _ (s plan : List ℕ) (room one : Bool) (free : door_refusal s plan room 
   unfolding door_refusal
   door_unread = go (unread_refusal s (length plan) room one) free
     where
-      go : (n : ℕ) → or_else n (unless (plan_right s plan) 10 0) ≡ 0 → n ≡ 0
+      go : (n : ℕ) → or_else n (unless (plan_taken s plan) 10 0) ≡ 0 → n ≡ 0
       go zero t = refl
       go (suc n) t = t
 
@@ -77,9 +76,9 @@ module _ (s plan : List ℕ) (room one : Bool) (free : door_refusal s plan room 
   pub door_accepted : Accepted s × (length plan ≡ plan_length s)
   door_accepted = accepted s (length plan) door_open.sheet
 
-  pub door_plan : plan_right s plan ≡ true
+  pub door_taken : plan_taken s plan ≡ true
   unfolding door_refusal
-  door_plan = go (plan_right s plan) (rw door_unread at free)
+  door_taken = go (plan_taken s plan) (rw door_unread at free)
     where
       go : (b : Bool) → unless b 10 0 ≡ 0 → b ≡ true
       go true t = refl

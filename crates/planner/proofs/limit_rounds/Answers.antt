@@ -11,5 +11,6 @@ returns c =
       limit_once = parts.0;
       limit_few = parts.1.0;
       limit_stood = parts.1.1.0;
-      limit_aside = parts.1.1.1;
+      limit_aside = parts.1.1.1.0;
+      limit_reasoned = parts.1.1.1.1;
     }

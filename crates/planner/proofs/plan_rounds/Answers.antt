@@ -19,7 +19,8 @@ returns-in_err-refusal c =
       feasibly = parts.1.0;
       lawful = parts.1.1.0;
       alone = parts.1.1.1.0;
-      closed = parts.1.1.1.1;
+      closed = parts.1.1.1.1.0;
+      reasoned = parts.1.1.1.1.1;
     }
 
 pub new-requires : goal.new-requires
@@ -39,5 +40,6 @@ returns c =
       feasibly = parts.1.0;
       lawful = parts.1.1.0;
       alone = parts.1.1.1.0;
-      closed = parts.1.1.1.1;
+      closed = parts.1.1.1.1.0;
+      reasoned = parts.1.1.1.1.1;
     }

@@ -10,8 +10,8 @@ use borrow.Author.Tests.{eqb-true, eq-eqb}
 use Rattle.sheet.specs.Fields.{sheet_length, plan_length}
 use Rattle.sheet.specs.Refusal.{unless, lengths_right, refusal_of}
 use Rattle.sheet.specs.Laws.Accepted.{accepted, not_refused}
-use Rattle.plan.specs.Read.{rounds_at, plan_right}
-use Rattle.plan_door.specs.Door.{door_refusal}
+use Rattle.plan.specs.Read.{rounds_at}
+use Rattle.plan_door.specs.Door.{plan_taken, door_refusal}
 use Rattle.plan_door.specs.Laws.Door.{open_door, door_fits, door_accepted}
 use Rattle.tariff.specs.declared.Rates.{Rates}
 use Rattle.tariff.specs.Charge.{rates_right}
@@ -22,9 +22,9 @@ use Rattle.planner.specs.Limited.{limit_told, limit_answer, LimitAnswered, Limit
 use Rattle.planner.specs.Laws.Promised.{number_is, bytes_are, stands}
 
 -- a right plan of its length, billed into a buffer of the length that it asks for
-right-billed : (s plan : List ℕ) (t : Rates) → refusal_of s (length plan) ≡ 0 → T (plan_right s plan) → bill_refusal s plan t (8 * (rounds_at plan + 1)) ≡ unless (rates_right t) 13 0
+right-billed : (s plan : List ℕ) (t : Rates) → refusal_of s (length plan) ≡ 0 → T (plan_taken s plan) → bill_refusal s plan t (8 * (rounds_at plan + 1)) ≡ unless (rates_right t) 13 0
 unfolding bill_refusal bill_room
-right-billed s plan t free right = rw (eq-eqb (8 * (rounds_at plan + 1)) (8 * (rounds_at plan + 1)) refl) (rw (open_door s plan false free refl (holds (plan_right s plan) right)) refl)
+right-billed s plan t free right = rw (eq-eqb (8 * (rounds_at plan + 1)) (8 * (rounds_at plan + 1)) refl) (rw (open_door s plan false free refl (holds (plan_taken s plan) right)) refl)
   where
     holds : (b : Bool) → T b → b ≡ true
     holds true h = refl

@@ -42,8 +42,11 @@ use Rattle.multi_depot_offers.specs.ByDepot.{with_vehicle, with_first, construct
 use Rattle.multi_depot_offers.specs.Laws.Once.{once, links_right_lem}
 use Rattle.multi_depot_offers.specs.Laws.Rounds.{RoundFrom, constructs_from, rounds_every, outcome_right_lem, rounds_few}
 use Rattle.plan.specs.Plan.{plan_of}
-use Rattle.plan.specs.Read.{read_plan, plan_right}
-use Rattle.plan.specs.Laws.RoundTrip.{read_written, written_right}
+use Rattle.plan.specs.Read.{read_plan}
+use Rattle.reason.specs.Reason.{reason_of}
+use Rattle.reason.specs.Laws.Reason.{reason_range}
+use Rattle.plan_door.specs.Door.{plan_taken}
+use Rattle.plan_door.specs.Laws.Told.{told_back, told_taken}
 use Rattle.plan_reader.specs.Laws.Links.{links_front, links_back, links_at}
 use Rattle.planner.specs.Answer.{plan_for, told_by, answer_of, answer_number, Answered, capacity_kept, Standing, FeasibleRound, LawfulRound}
 
@@ -75,15 +78,15 @@ module _ (s : List ℕ) (fine : Accepted s) where
   -- ---- reading the plan gives the outcome back
   pub plan_back : ((i : ℕ) → get_or s i 0 < 256) → read_plan s (plan_for s) ≡ outcome_of s
   unfolding plan_for plan_of
-  plan_back small = read_written s (outcome_of s) _ fine small (rounds_few s) (outcome_right_lem s)
+  plan_back small = told_back s (outcome_of s) _ fine small (rounds_few s) (outcome_right_lem s) (reason_of s)
 
   -- ---- once
   stop_once : (i : ℕ) → depots_of s ≤ i → i < rows_of s → one (is_stop s i) ≡ 1
   stop_once i l h = rw (le-leb (depots_of s) i l, lt-ltb i (rows_of s) h)
 
-  plan_right_lem : ((i : ℕ) → get_or s i 0 < 256) → T (plan_right s (plan_for s))
+  plan_right_lem : ((i : ℕ) → get_or s i 0 < 256) → T (plan_taken s (plan_for s))
   unfolding plan_for plan_of
-  plan_right_lem small = written_right s (outcome_of s) _ fine small (rounds_few s) (outcome_right_lem s)
+  plan_right_lem small = told_taken s (outcome_of s) _ fine small (rounds_few s) (outcome_right_lem s) (reason_of s) (λ row. omega (arith, reason_range s row))
 
   pub stands : ((i : ℕ) → get_or s i 0 < 256) → Standing s (plan_for s)
   stands small = record { each = λ i l h. rw (plan_back small) (once s i ∙ stop_once i l h); right = plan_right_lem small }

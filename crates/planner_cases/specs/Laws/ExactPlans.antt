@@ -33,8 +33,9 @@ use Rattle.multi_depot_offers.specs.Laws.Rounds.{RoundFrom, constructs_from, rou
 use Rattle.plan.specs.Plan.{round_record_at, plan_of}
 use Rattle.plan.specs.Read.{read_plan}
 use Rattle.plan.specs.Stated.{built_record, record_bytes}
-use Rattle.plan.specs.Laws.RoundTrip.{record_written}
 use Rattle.plan.specs.Laws.Stated.{record_stated}
+use Rattle.reason.specs.Reason.{reason_of}
+use Rattle.plan_door.specs.Laws.Told.{told_record}
 use Rattle.plan_reader.specs.Laws.Links.{links_at}
 use Rattle.planner.specs.Answer.{plan_for, LawfulRound}
 use Rattle.planner.specs.Laws.Promised.{Right, all_right, plan_back, lawful_rounds}
@@ -104,7 +105,7 @@ module _ (s : List ℕ) (fine : Accepted s) where
     unfolding plan_for plan_of
     written_exact n h t =
         round_exact whole (plan_for s) n (round_at (outcome_of s).rounds n) (every_at (Right s fine) _ (outcome_of s).rounds n h (all_right s fine)) (every_at Made _ (outcome_of s).rounds n h made) t
-        (record_written s (outcome_of s) _ fine small (rounds_few s) (outcome_right_lem s) n h)
+        (told_record s (outcome_of s) _ fine small (rounds_few s) (outcome_right_lem s) (reason_of s) n h)
 
     -- whichever method made the plan
     pub plan_exact : (n : ℕ) → n < length (read_plan s (plan_for s)).rounds → T (lawful s (round_at (read_plan s (plan_for s)).rounds n).vehicle (round_at (read_plan s (plan_for s)).rounds n).stops)

@@ -16,7 +16,10 @@ use Rattle.constructive.specs.Outcome.{chains}
 use Rattle.clarke_wright_savings.specs.Laws.Cases.{within}
 use Rattle.solomon_i1.specs.Laws.Cases.{due}
 use Rattle.plan.specs.Read.{rounds_at, aside_at, id_at, first_stop_at, next_at, chain_from, rounds_from, read_plan}
+use Rattle.plan_reasons.specs.Reasons.{reason_at}
 use Rattle.planner.specs.Answer.{Standing, Once, Feasibly, Lawful, Alone, higher, set_aside, Closed}
+use Rattle.planner.specs.Reasoned.{Reasoned}
+use Rattle.planner_cases.specs.LimitRefusals.{reason_on_round}
 use Rattle.planner_cases.specs.Table.{nine, twelve, twenty_three, one_two, two_one, one_and_two, both_aside, sheet_at}
 use Rattle.planner_cases.specs.WrongPlans.{fifteen, bent_sheet, one_alone, one_and_padding, two_missing, two_twice, LawfulRests}
 use Rattle.planner_cases.specs.Laws.WholeSheets.{whole_sheets}
@@ -60,14 +63,23 @@ unfolding rows_of vehicles_of method_of times_of row_marks id_field depot_field 
 rest_missed f = (f refl whole_sheets.rest_at_nine.whole (λ e. omega (arith, e))).0.schedule
 
 -- ---- **alone**: both stops can make a round alone
-pub all_aside : Alone (sheet_a 1) 0 both_aside → ⊥
+pub all_aside : Alone (sheet_a 1) 0 (both_aside 0) → ⊥
 unfolding rows_of vehicles_of method_of times_of row_marks id_field depot_field vehicle_marks marked leading depots_of demand_of vehicle_of distance_of time_of rounds_at aside_at id_at first_stop_at next_at chain_from index_from rounds_from read_plan stop_n walk_n travel_n some_place lawful load_n keeps_capacity makes_round filtered fleet_of number bytes f64_at of_bits
 all_aside f = true≢false (f refl whole_sheets.of_sheet_a.whole refl refl).0
 
 -- "one reporting "no schedule" before walking": each stop needs a rest, and has one before it
-pub no_schedule_lem : Alone (sheet_at 1 twelve) 0 both_aside → ⊥
+pub no_schedule_lem : Alone (sheet_at 1 twelve) 0 (both_aside 0) → ⊥
 unfolding rows_of vehicles_of method_of times_of row_marks id_field depot_field vehicle_marks marked leading depots_of demand_of vehicle_of distance_of time_of rounds_at aside_at id_at first_stop_at next_at chain_from index_from rounds_from read_plan stop_n walk_n travel_n some_place lawful load_n keeps_capacity makes_round filtered fleet_of number bytes f64_at of_bits
 no_schedule_lem f = true≢false (f refl whole_sheets.rest_at_twelve.whole refl refl).0
+
+-- ---- **reasoned**: two stops set aside without a reason, and a reason for a stop on a round
+pub reason_untold : Reasoned (sheet_a 1) 0 (both_aside 0) → ⊥
+unfolding rows_of rounds_at aside_at next_at chain_from rounds_from read_plan reason_at number bytes
+reason_untold f = let e = (f refl).each.0.some in omega (arith, e)
+
+pub reason_of_routed : Reasoned (sheet_a 1) 0 (reason_on_round 5) → ⊥
+unfolding rows_of vehicles_of id_field rounds_at aside_at id_at first_stop_at next_at chain_from index_from rounds_from read_plan count reason_at number bytes
+reason_of_routed f = let e = (f refl).others 1 (omega arith) (omega arith) in omega (arith, e)
 
 pub lawful_rests : LawfulRests
 unfolding rows_of vehicles_of times_of row_marks depot_field vehicle_marks marked distance_of time_of stop_n walk_n travel_n some_place lawful number bytes f64_at of_bits

@@ -8,8 +8,9 @@ use Rattle.wire.specs.Bytes.{le as number, bytes}
 use Rattle.sheet.specs.SheetA.{sheet_a}
 use Rattle.clarke_wright_savings.specs.Laws.Cases.{within}
 use Rattle.plan.specs.Read.{rounds_at, id_at, first_stop_at}
+use Rattle.plan_reasons.specs.Reasons.{reason_at}
 use Rattle.planner.specs.Answer.{Answer, answer_number, bytes_of, Answered}
-use Rattle.planner_cases.specs.Table.{twelve, twenty, twenty_three, twenty_four, one_two, two_one, one_two_rested, one_and_two, sheet_at, plan_row, RowHolds, table_rows}
+use Rattle.planner_cases.specs.Table.{twelve, nineteen, twenty, twenty_three, twenty_four, one_two, two_one, one_two_rested, one_and_two, both_aside, sheet_at, within_both, plan_row, RowHolds, table_rows}
 use Rattle.planner_cases.specs.WrongPlans.{load_stated, distance_stated, rest_start_stated, one_alone, one_and_padding}
 use Rattle.planner_cases.specs.Laws.Table.{table_right}
 
@@ -36,6 +37,9 @@ two_rounds = row_at 6 (omega arith)
 
 with_rest : RowHolds (plan_row (sheet_at 0 twelve) one_two_rested)
 with_rest = row_at 15 (omega arith)
+
+over_both : RowHolds (plan_row (within_both nineteen nineteen) (both_aside 5))
+over_both = row_at 27 (omega arith)
 
 -- ---- a call for three rows: the bytes lent, and the number that it gives
 module _ (lent : List ℕ) (n : ℕ) (room : length lent ≡ 256) where
@@ -78,6 +82,20 @@ module _ (lent : List ℕ) (n : ℕ) (room : length lent ≡ 256) where
   pub rest_start_not_summed : (plan : List ℕ) → (rest_start_stated plan 0 ≡ twelve → ⊥) → Answered (sheet_at 0 twelve) lent n plan → ⊥
   unfolding number bytes
   rest_start_not_summed plan other a = other (ap (λ (x : List ℕ). rest_start_stated x 0) (answered_plan (sheet_at 0 twelve) one_two_rested lent n plan with_rest room a))
+
+  -- reasons 5 and 6 asked in the other order: a lone round over both maxima is told as over the duration
+  pub reasons_swapped : Answered (within_both nineteen nineteen) lent n (both_aside 6) → ⊥
+  unfolding number bytes reason_at
+  reasons_swapped a =
+      let e : ◌≡◌ {A = ℕ} 6 5 = ap (λ (x : List ℕ). reason_at x 3 1) (answered_plan (within_both nineteen nineteen) (both_aside 5) lent n (both_aside 6) over_both room a) in
+      omega (arith, e)
+
+  -- any reason on stop 1, which is on a round, whatever else the plan says
+  pub reason_on_routed : (plan : List ℕ) → 0 < reason_at plan 3 1 → Answered (sheet_a 0) lent n plan → ⊥
+  unfolding number bytes reason_at
+  reason_on_routed plan some a =
+      let e : reason_at plan 3 1 ≡ 0 = ap (λ (x : List ℕ). reason_at x 3 1) (answered_plan (sheet_a 0) one_two lent n plan by_savings room a) in
+      omega (arith, some, e)
 
 -- "or none": zero bytes lent and left as they are
 pub no_plan : (n : ℕ) → Answered (sheet_a 0) (replicate 256 0) n (replicate 256 0) → ⊥

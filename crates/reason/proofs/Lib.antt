@@ -1,0 +1,4 @@
+pub mod Alone
+pub mod Telling
+pub mod Trying
+pub mod Fleets

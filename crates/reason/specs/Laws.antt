@@ -1,0 +1,3 @@
+pub mod Tried
+pub mod Reason
+pub mod Walked

@@ -1,0 +1,4 @@
+pub mod Reason
+pub mod Told
+pub mod Asked
+pub mod Laws
