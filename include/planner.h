@@ -39,12 +39,13 @@
  *             for the cost and the fixed cost, money per distance for the cost per
  *             distance, distance per time for a penalty. Without a time table
  *             distances serve as times, so the first two units are one. A bill is in
- *             cents, by a tariff of its own that knows nothing of the cost.
+ *             cents, by a tariff of its own that knows nothing of the cost. A deal
+ *             counts durations in whole units of time.
  *   place     Coordinates serve the sweep's order by angle alone: a plan's distances
  *             are the sheet's own. Only import_solomon works distances out from
  *             coordinates, for the sheet that it writes.
  *
- * A CALL, and this holds of all five functions:
+ * A CALL, and this holds of all six functions:
  *
  *   - has an answer for every byte string of every length, always returns, and gives
  *     the same bytes the same answer;
@@ -56,8 +57,9 @@
  *   - may run on several threads at once, each with a buffer of its own to write to.
  *     During a call no other thread may write what it reads, or touch what it writes.
  *
- * THE NAMES check_sheet, plan_rounds, limit_rounds, import_solomon and bill_rounds are
- * all that the archive exports. Where one clashes, rename it, here and in the archive:
+ * THE NAMES check_sheet, plan_rounds, limit_rounds, import_solomon, bill_rounds and
+ * deal_rounds are all that the archive exports. Where one clashes, rename it, here and in
+ * the archive:
  *
  *     objcopy --redefine-sym plan_rounds=our_plan_rounds libplanner.a libours.a
  *     #define plan_rounds our_plan_rounds
@@ -72,8 +74,8 @@
 /* The major number rises where bytes that a version accepts are refused or get another
    meaning, the minor one where something is added. */
 #define PLANNER_VERSION_MAJOR 3
-#define PLANNER_VERSION_MINOR 0
-#define PLANNER_VERSION "3.0"
+#define PLANNER_VERSION_MINOR 1
+#define PLANNER_VERSION "3.1"
 
 /* Bytes of stack to keep free for a call, beside what its thread takes otherwise:
    half as much again, or more, as any call was seen to take (tests/c/stack.c).
@@ -194,6 +196,11 @@ extern "C" {
  *    8 * k  u64      charge of the round with record k, in whole cents, for k below N
  *    8 * N  u64      sum of these charges
  *
+ * THE DEAL of a plan of N rounds has exactly N bytes, so none where there is no round:
+ *
+ *   offset  type     field
+ *        k  u8       crew of the round with record k, from 1, for k below N
+ *
  * THE TEXT is what import_solomon makes a sheet of: an instance in the form in which
  * Solomon's of 1987 are published. It ends where its length says: a NUL is a byte like
  * any other.
@@ -236,7 +243,8 @@ enum {
     PLANNER_PLAN_STOP_BYTES = 24,
     PLANNER_PLAN_ROW_BYTES = 80, /* a round's record and a stop's */
     PLANNER_CHARGE_BYTES = 8,
-    PLANNER_MOST_RATE = 1000000 /* and the most of the least charge */
+    PLANNER_MOST_RATE = 1000000, /* and the most of the least charge */
+    PLANNER_MOST_CREWS = 8
 };
 
 /* How rounds are made. Savings, insertion and sweep use a depot's first vehicle for
@@ -344,12 +352,16 @@ enum planner_reason {
 #define PLANNER_BILL_BYTES(rounds) \
     (PLANNER_CAST(size_t, PLANNER_CHARGE_BYTES) * (PLANNER_CAST(size_t, rounds) + 1u))
 
+/* Bytes of the deal of a plan with so many rounds. */
+#define PLANNER_DEAL_BYTES(rounds) PLANNER_CAST(size_t, rounds)
+
 /*
  * Why a call is turned back. The conditions are tested in this order, rows,
  * matrix entries and vehicles ascending, and the first that holds is the answer.
- * 1 to 8 belong to every function that takes a sheet; 9 is limit_rounds' alone, 10 its
- * and bill_rounds', 13 bill_rounds' alone. 11 and 12 are import_solomon's, which has an
- * order of its own, 11, 12, 5, 7, 4, and no other refusal; see there.
+ * 1 to 8 belong to every function that takes a sheet, 10 to every one that reads a plan;
+ * 9 is limit_rounds' alone, 13 bill_rounds' and 14 deal_rounds'. 11 and 12 are
+ * import_solomon's, which has an order of its own, 11, 12, 5, 7, 4, and no other refusal;
+ * see there.
  */
 enum planner_refusal {
     /* No condition holds. */
@@ -361,8 +373,8 @@ enum planner_refusal {
     PLANNER_TOO_MANY = 2,
     /* Method above 4. */
     PLANNER_BAD_METHOD = 3,
-    /* Sheet, a plan or a bill not of its exact length; a buffer shorter than the sheet
-       of a text. */
+    /* Sheet, a plan, a bill or a deal not of its exact length; a buffer shorter than the
+       sheet of a text. */
     PLANNER_BAD_LENGTH = 4,
     /* Field or mark of a row out of range, or an unmarked field not zero. */
     PLANNER_BAD_ROW = 5,
@@ -384,7 +396,9 @@ enum planner_refusal {
     /* Text with more than 100 customers after the depot's row. */
     PLANNER_TOO_MANY_CUSTOMERS = 12,
     /* A rate or the least charge above 1,000,000. */
-    PLANNER_BAD_RATE = 13
+    PLANNER_BAD_RATE = 13,
+    /* No crew, or more than 8. */
+    PLANNER_BAD_CREWS = 14
 };
 
 /*
@@ -530,6 +544,43 @@ int32_t import_solomon(const uint8_t *text, size_t text_len, uint8_t *sheet, siz
 uint32_t bill_rounds(const uint8_t *sheet, size_t sheet_len, const uint8_t *plan, size_t plan_len,
                      uint32_t distance_rate, uint32_t duration_rate, uint32_t least,
                      uint8_t *bill, size_t bill_len);
+
+/*
+ * Deals a plan's rounds to crews. The longest round not yet dealt goes to the crew with
+ * the least total so far; of equally long rounds the lower one goes first, and of equal
+ * totals the lower crew takes it. A round counts with its duration in whole units of time,
+ * rounded up, exactly: 24.0 counts 24, and the next f64 above it 25. By these numbers
+ * rounds are compared, and of them totals are summed. Durations are walked anew from the
+ * plan's chains, as bill_rounds does: a round that breaks a limit is dealt like any other,
+ * and so is an empty one, whose only leg is that from its depot to itself. Nothing
+ * overflows: a duration is below 2^53, so that the sum of 101 fits.
+ *
+ * Three rounds of 20, 20.5 and 30 for two crews: the third goes to crew 1, the second to
+ * crew 2, which has 21 of it, and the first to crew 2 too. The totals are 30 and 41.
+ *
+ * PLANNER_ACCEPTED, and the deal fills its buffer; or the first refusal of enum
+ * planner_refusal that holds. Every round has a crew from 1 to `crews`; a crew may be left
+ * without a round. What is promised of the totals:
+ *
+ *   - no crew's total exceeds another's by more than the shortest of its own rounds, or by
+ *     more than 0 where it has none;
+ *   - the largest total times `crews` is at most the sum of all totals plus the longest
+ *     round, or 0 where there is none, times `crews` - 1.
+ *
+ * Stack: PLANNER_STACK.
+ *
+ *   sheet, sheet_len    as for check_sheet; of any method, with any depots
+ *   plan, plan_len      as for bill_rounds
+ *   crews               how many crews there are, 1 to PLANNER_MOST_CREWS, whatever the
+ *                       number of rounds
+ *   deal                where the deal goes
+ *   deal_len            how many bytes are lent: PLANNER_DEAL_BYTES(rounds) is the only
+ *                       length accepted, by the plan's own number of rounds, which is read
+ *                       as for bill_rounds. Every deal that is accepted fits in
+ *                       PLANNER_DEAL_BYTES(rows)
+ */
+uint32_t deal_rounds(const uint8_t *sheet, size_t sheet_len, const uint8_t *plan, size_t plan_len,
+                     uint32_t crews, uint8_t *deal, size_t deal_len);
 
 #ifdef __cplusplus
 }

@@ -1,14 +1,15 @@
 /*
- * Readers and writers of every field of a sheet and of a plan, readers of a bill, and
- * the words of a refusal and of a reason, for C and C++ hosts of planner.h. Everything
- * is inline: nothing of it is in the archive, and nothing of it is proved.
+ * Readers and writers of every field of a sheet and of a plan, readers of a bill and of
+ * a deal, and the words of a refusal and of a reason, for C and C++ hosts of planner.h.
+ * Everything is inline: nothing of it is in the archive, and nothing of it is proved.
  *
- * A sheet, a plan and a bill are the bytes that planner.h lays out. The functions take
- * their address, and a row's, vehicle's or round's number from 0 on; they read and
+ * A sheet, a plan, a bill and a deal are the bytes that planner.h lays out. The functions
+ * take their address, and a row's, vehicle's or round's number from 0 on; they read and
  * write the bytes of the field and no others, and check nothing: that the bytes are
- * there is the caller's to see to. PLANNER_SHEET_BYTES, PLANNER_PLAN_BYTES and
- * PLANNER_BILL_BYTES tell how many there have to be, and planner_sheet_bytes and
- * planner_bill_bytes those that a header asks for.
+ * there is the caller's to see to. PLANNER_SHEET_BYTES, PLANNER_PLAN_BYTES,
+ * PLANNER_BILL_BYTES and PLANNER_DEAL_BYTES tell how many there have to be, and
+ * planner_sheet_bytes, planner_bill_bytes and planner_deal_bytes those that a header asks
+ * for.
  *
  *     uint8_t sheet[PLANNER_SHEET_BYTES(3, 1, 0)] = {0};
  *     planner_set_rows(sheet, 3);          the counts first: the places of vehicles
@@ -351,7 +352,7 @@ static inline unsigned planner_plan_rows(const uint8_t *plan)
     return PLANNER_CAST(unsigned, planner_get(plan + PLANNER_PLAN_ROWS, 2));
 }
 
-/* A plan that a host makes up needs it for the functions above; limit_rounds and bill_rounds do not read it. */
+/* A plan that a host makes up needs it for the functions above; limit_rounds, bill_rounds and deal_rounds do not read it. */
 static inline void planner_set_plan_rows(uint8_t *plan, unsigned rows)
 {
     planner_put(plan + PLANNER_PLAN_ROWS, 2, rows);
@@ -381,6 +382,20 @@ static inline uint64_t planner_bill_sum(const uint8_t *bill, unsigned rounds)
     return planner_bill_charge(bill, rounds);
 }
 
+/* ---- a deal, which does not say that either */
+
+/* How many bytes the deal of a plan with this header has. */
+static inline size_t planner_deal_bytes(const uint8_t *plan)
+{
+    return PLANNER_DEAL_BYTES(planner_plan_rounds(plan));
+}
+
+/* From 1. */
+static inline unsigned planner_deal_crew(const uint8_t *deal, unsigned round)
+{
+    return deal[round];
+}
+
 /* ---- the sentence of an answer */
 
 /* The refusal in an answer of import_solomon's; PLANNER_ACCEPTED where it is a length. */
@@ -406,6 +421,7 @@ static inline const char *planner_refusal_text(uint32_t number)
     case PLANNER_BAD_TEXT: return "the text is not of the form of Solomon's instances";
     case PLANNER_TOO_MANY_CUSTOMERS: return "the text has more than 100 customers after its depot";
     case PLANNER_BAD_RATE: return "a rate or the least charge is above 1,000,000 cents";
+    case PLANNER_BAD_CREWS: return "the number of crews is 0 or above 8";
     default: return "no answer of the planner's";
     }
 }

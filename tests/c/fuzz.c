@@ -1,22 +1,23 @@
 /*
- * Fuzzes the planner, the limiter, the biller and the importer by mutations that know the
- * form of sheets, plans and texts.
+ * Fuzzes the planner, the limiter, the biller, the dealer and the importer by mutations
+ * that know the form of sheets, plans and texts.
  *
  *   fuzz SECONDS [SEED]              mutates for so long
  *   fuzz replay FILE [PLAN_BYTES]    asks a kept sheet again
  *   fuzz limit SHEET PLAN GREATEST [PLAN_OUT_BYTES]    asks the limiter again
  *   fuzz bill SHEET PLAN RATE RATE LEAST [BILL_BYTES]    asks the biller again
+ *   fuzz deal SHEET PLAN CREWS [DEAL_BYTES]    asks the dealer again
  *   fuzz import TEXT [SHEET_BYTES]    asks the importer again
  *
  * Sheets are drawn, mutated field by field according to what a field is, cut, spliced
  * and fitted to their own plans. A sheet that shows something new joins the corpus from
- * which the next ones are taken. After each sheet the limiter and the biller are asked
- * with a plan in for it: its own, or one that is dealt, and mutated. In between the next
- * sheet is one that the importer makes of a text, drawn and mutated likewise. Every call
- * is lent as lend.h says; a plan is held to plan_check.h, and whether a plan in is taken
- * too, a bill to bill_check.h; an imported sheet has to be planned. A fault's sheet is
- * kept in the file fuzz-fault.sheet, the plan in in fuzz-fault.plan and the importer's
- * text in fuzz-fault.text; the exit status is 1.
+ * which the next ones are taken. After each sheet the limiter, the biller and the dealer
+ * are asked with a plan in for it: its own, or one that is dealt, and mutated. In between
+ * the next sheet is one that the importer makes of a text, drawn and mutated likewise.
+ * Every call is lent as lend.h says; a plan is held to plan_check.h, and whether a plan in
+ * is taken too, a bill to bill_check.h and a deal to deal_check.h; an imported sheet has
+ * to be planned. A fault's sheet is kept in the file fuzz-fault.sheet, the plan in in
+ * fuzz-fault.plan and the importer's text in fuzz-fault.text; the exit status is 1.
  */
 #define _GNU_SOURCE
 #include <stdint.h>
@@ -49,15 +50,16 @@ static struct sheet asked, spare;
 static struct plan_in plan_in;
 static struct text text, spare_text;
 static size_t import_len;
-static enum { PLANNING, LIMITING, BILLING, IMPORTING } asking;
-static uint8_t plan[MOST_PLAN], plan_out[MOST_PLAN], bill[MOST_BILL], imported[MOST_IMPORT];
+static enum { PLANNING, LIMITING, BILLING, DEALING, IMPORTING } asking;
+static uint8_t plan[MOST_PLAN], plan_out[MOST_PLAN], out[MOST_OUT], imported[MOST_IMPORT];
 static struct corpus accepted, refused, texts;
 static uint8_t signals[SIGNALS];
 static unsigned signal_count;
 static unsigned long sheets, answers[PLANNER_NO_VEHICLE + 1], planned[PLANNER_SWEEP + 1];
 static unsigned long limits, limit_answers[PLANNER_BAD_PLAN + 1], dropped, home_rests, limited_home_rests;
 static unsigned long reasons[REASONS], limited_reasons[REASONS], reasons_refused;
-static unsigned long bill_answers[PLANNER_BAD_RATE + 1], several_depots_billed, charges_checked, whole_units;
+static unsigned long plan_answers[ANSWER_KINDS][PLANNER_BAD_CREWS + 1], of_several_depots[ANSWER_KINDS];
+static unsigned long charges_checked, whole_units, crews_checked, tied_rounds, tied_crews;
 static unsigned long imports, import_answers[PLANNER_TOO_MANY_CUSTOMERS + 1];
 
 static void keep_fault(const char *name, const uint8_t *bytes, size_t len)
@@ -89,7 +91,11 @@ static void end(const char *what)
                 (unsigned)plan_in.greatest, plan_in.plan_out_len);
     else if (asking == BILLING)
         fprintf(stderr, "fuzz: again with: fuzz bill %s %s %u %u %u %zu\n", FAULT_FILE, FAULT_PLAN,
-                (unsigned)plan_in.distance_rate, (unsigned)plan_in.duration_rate, (unsigned)plan_in.least, plan_in.bill_len);
+                (unsigned)plan_in.distance_rate, (unsigned)plan_in.duration_rate, (unsigned)plan_in.least,
+                plan_in.out_len[BILL]);
+    else if (asking == DEALING)
+        fprintf(stderr, "fuzz: again with: fuzz deal %s %s %u %zu\n", FAULT_FILE, FAULT_PLAN, (unsigned)plan_in.crews,
+                plan_in.out_len[DEAL]);
     else
         fprintf(stderr, "fuzz: again with: fuzz replay %s %zu\n", FAULT_FILE, plan_len);
     exit(1);
@@ -317,20 +323,18 @@ static int ask_to_limit(struct sheet *s, const struct plan_in *p)
     return planner_plan_rounds(p->bytes) <= p->greatest;
 }
 
-/* The biller's answer likewise. */
-static uint32_t expected_bill_answer(struct sheet *s, const struct plan_in *p)
+/* The biller's answer likewise, or the dealer's. */
+static uint32_t expected_of_plan(struct sheet *s, const struct asking *a)
 {
     static struct reading r;
     size_t exact = plan_len_of(s->bytes, s->len);
-    int fits = p->len == exact && p->bill_len == planner_bill_bytes(p->bytes);
+    int fits = a->plan_len == exact && a->out_len == out_bytes(a->kind, planner_plan_rounds(a->plan));
     uint32_t answer = check_sheet(s->bytes, s->len, fits ? exact : exact + 1);
     if (answer != PLANNER_ACCEPTED)
         return answer;
-    if (!plan_in_is_good(&r, s->bytes, (uint8_t *)p->bytes))
+    if (!plan_in_is_good(&r, s->bytes, (uint8_t *)a->plan))
         return PLANNER_BAD_PLAN;
-    return p->distance_rate > PLANNER_MOST_RATE || p->duration_rate > PLANNER_MOST_RATE || p->least > PLANNER_MOST_RATE
-               ? PLANNER_BAD_RATE
-               : PLANNER_ACCEPTED;
+    return is_out_of_range(a) ? own_refusal(a->kind) : PLANNER_ACCEPTED;
 }
 
 /* How many figures are whole numbers of their units, which one step more would exceed. */
@@ -345,35 +349,49 @@ static unsigned whole_in(const uint8_t *walked)
     return whole;
 }
 
-/* `walked` has the figures of the plan in's rounds, or is NULL. */
-static void ask_to_bill(struct sheet *s, const struct plan_in *p, const uint8_t *walked)
+/* What is wrong with a bill, or a deal, by the figures of its rounds. */
+static const char *fault_by(const struct asking *a, const uint8_t *walked)
 {
-    struct billing b = {s->bytes, p->bytes, s->len, p->len, p->bill_len, p->distance_rate, p->duration_rate, p->least};
-    uint32_t answer = ask_biller(&b, bill);
-    bill_answers[answer]++;
-    if (answer != expected_bill_answer(s, p))
-        end("another answer of the biller's than its sheet, plan and rates ask for");
-    if (answer != PLANNER_ACCEPTED)
-        return;
-    several_depots_billed += planner_depots(s->bytes) > 1 && planner_plan_rounds(p->bytes) > 0;
-    if (walked == NULL)
-        return;
-    const char *fault = charge_fault(&b, walked, bill);
-    if (fault != NULL)
-        end(fault);
-    charges_checked += planner_plan_rounds(p->bytes);
-    whole_units += whole_in(walked);
+    struct crew_totals t;
+    const char *fault = a->kind == DEAL ? crew_fault(a, walked, out, &t) : charge_fault(a, walked, out);
+    if (a->kind == DEAL) {
+        crews_checked += planner_plan_rounds(a->plan);
+        tied_rounds += t.tied_rounds;
+        tied_crews += t.tied_crews;
+    } else {
+        charges_checked += planner_plan_rounds(a->plan);
+        whole_units += whole_in(walked);
+    }
+    return fault;
 }
 
-/* The limiter and the biller on the sheet that was asked last. Its own plan has its figures, and so has a plan out of as
-   many rounds. */
+/* `walked` has the figures of the plan in's rounds, or is NULL. */
+static void ask_for(enum answer_kind kind, struct sheet *s, const struct plan_in *p, const uint8_t *walked)
+{
+    struct asking a = asking_with(kind, s, p);
+    asking = kind == DEAL ? DEALING : BILLING;
+    uint32_t answer = ask_about_plan(&a, out);
+    plan_answers[kind][answer]++;
+    if (answer != expected_of_plan(s, &a))
+        end("another answer of the biller's or the dealer's than its sheet, plan and numbers ask for");
+    if (answer != PLANNER_ACCEPTED)
+        return;
+    of_several_depots[kind] += planner_depots(s->bytes) > 1 && planner_plan_rounds(p->bytes) > 0;
+    const char *fault = walked != NULL ? fault_by(&a, walked) : NULL;
+    if (fault != NULL)
+        end(fault);
+}
+
+/* The limiter, the biller and the dealer on the sheet that was asked last. Its own plan has its figures, and so has a plan out
+   of as many rounds. */
 static void ask_with_plan_in(struct sheet *s, int was_planned)
 {
     asking = LIMITING;
     int is_whole_out = ask_to_limit(s, &plan_in);
     int is_own = was_planned && memcmp(plan_in.bytes, plan, PLANNER_PLAN_BYTES(rows_in(s))) == 0;
-    asking = BILLING;
-    ask_to_bill(s, &plan_in, is_own ? plan : is_whole_out ? plan_out : NULL);
+    const uint8_t *walked = is_own ? plan : is_whole_out ? plan_out : NULL;
+    for (enum answer_kind kind = BILL; kind < ANSWER_KINDS; kind++)
+        ask_for(kind, s, &plan_in, walked);
     asking = PLANNING;
 }
 
@@ -544,7 +562,13 @@ static int replay_limit(const char *sheet, const char *plan_name, const char *gr
     return 0;
 }
 
-static int replay_bill(char **words, const char *bill_len)
+static uint32_t number_of(const char *word)
+{
+    return (uint32_t)strtoul(word, NULL, 10);
+}
+
+/* A sheet, a plan, and what is asked: a bill's three numbers or a deal's one. */
+static int replay_asking(enum answer_kind kind, char **words, const char *out_len)
 {
     static struct reading r;
     asked.len = read_file(words[0], asked.bytes, MOST_SHEET);
@@ -552,14 +576,20 @@ static int replay_bill(char **words, const char *bill_len)
     plan_in.len = read_file(words[1], plan_in.bytes, MOST_PLAN);
     plan_in.greatest = UINT32_MAX;
     plan_in.plan_out_len = asked.plan_len;
-    plan_in.distance_rate = (uint32_t)strtoul(words[2], NULL, 10);
-    plan_in.duration_rate = (uint32_t)strtoul(words[3], NULL, 10);
-    plan_in.least = (uint32_t)strtoul(words[4], NULL, 10);
-    plan_in.bill_len = bill_len != NULL ? strtoul(bill_len, NULL, 10) : planner_bill_bytes(plan_in.bytes);
-    plan_in.bill_len = plan_in.bill_len < MOST_BILL ? plan_in.bill_len : MOST_BILL;
+    for (enum answer_kind each = BILL; each < ANSWER_KINDS; each++) {
+        size_t exact = out_bytes(each, planner_plan_rounds(plan_in.bytes));
+        size_t len = each == kind && out_len != NULL ? strtoul(out_len, NULL, 10) : exact;
+        plan_in.out_len[each] = len < MOST_OUT ? len : MOST_OUT;
+    }
+    plan_in.crews = kind == DEAL ? number_of(words[2]) : 1;
+    if (kind == BILL) {
+        plan_in.distance_rate = number_of(words[2]);
+        plan_in.duration_rate = number_of(words[3]);
+        plan_in.least = number_of(words[4]);
+    }
     ask_with_plan_in(&asked, ask(&asked, &r));
-    for (uint32_t answer = 0; answer <= PLANNER_BAD_RATE; answer++)
-        if (bill_answers[answer] > 0)
+    for (uint32_t answer = 0; answer <= PLANNER_BAD_CREWS; answer++)
+        if (plan_answers[kind][answer] > 0)
             printf("fuzz: answer %u\n", (unsigned)answer);
     return 0;
 }
@@ -592,7 +622,9 @@ static int lacks_reason(const unsigned long *counts, unsigned first, unsigned la
 static int report(void)
 {
     int lacking = home_rests == 0 || limited_home_rests == 0 || dropped == 0 || import_answers[PLANNER_ACCEPTED] == 0
-                  || several_depots_billed == 0 || charges_checked == 0 || whole_units == 0 || reasons_refused == 0
+                  || of_several_depots[BILL] == 0 || charges_checked == 0 || whole_units == 0 || reasons_refused == 0
+                  || of_several_depots[DEAL] == 0 || crews_checked == 0 || tied_rounds == 0 || tied_crews == 0
+                  || plan_answers[DEAL][PLANNER_BAD_CREWS] == 0
                   || lacks_reason(reasons, PLANNER_ASIDE_NO_VEHICLE, PLANNER_ASIDE_FLEET)
                   || lacks_reason(limited_reasons, PLANNER_ASIDE_UNTOLD, PLANNER_ASIDE_LIMITED);
     printf("fuzz: %lu sheets, %lu plans in and %lu texts, %lu calls\n", sheets, limits, imports, calls);
@@ -604,14 +636,17 @@ static int report(void)
            limited_home_rests);
     print_counts("stops set aside in plans out by reason", limited_reasons, PLANNER_ASIDE_LIMITED);
     printf("fuzz: %lu plans in refused for a reason alone\n", reasons_refused);
-    print_counts("answers of the biller", bill_answers, PLANNER_BAD_RATE);
+    print_counts("answers of the biller", plan_answers[BILL], PLANNER_BAD_RATE);
     printf("fuzz: %lu plans of several depots billed; %lu charges held to their figures, of which %lu are whole units\n",
-           several_depots_billed, charges_checked, whole_units);
+           of_several_depots[BILL], charges_checked, whole_units);
+    print_counts("answers of the dealer", plan_answers[DEAL], PLANNER_BAD_CREWS);
+    printf("fuzz: %lu plans of several depots dealt; %lu rounds held to their durations, %lu ties of rounds and %lu of crews\n",
+           of_several_depots[DEAL], crews_checked, tied_rounds, tied_crews);
     print_counts("answers of the importer", import_answers, PLANNER_TOO_MANY_CUSTOMERS);
     printf("fuzz: corpus of %u sheets planned, %u refused and %u texts, %u signals\n", accepted.count, refused.count,
            texts.count, signal_count);
     if (lacking)
-        fprintf(stderr, "fuzz: nothing was planned or limited, with a rest at home, for each reason, or billed, or imported\n");
+        fprintf(stderr, "fuzz: nothing was planned or limited, with a rest at home, for each reason, or billed, dealt or imported\n");
     return lacking;
 }
 
@@ -623,7 +658,9 @@ int main(int argc, char **argv)
     if (argc > 4 && strcmp(argv[1], "limit") == 0)
         return replay_limit(argv[2], argv[3], argv[4], argc > 5 ? argv[5] : NULL);
     if (argc > 6 && strcmp(argv[1], "bill") == 0)
-        return replay_bill(argv + 2, argc > 7 ? argv[7] : NULL);
+        return replay_asking(BILL, argv + 2, argc > 7 ? argv[7] : NULL);
+    if (argc > 4 && strcmp(argv[1], "deal") == 0)
+        return replay_asking(DEAL, argv + 2, argc > 5 ? argv[5] : NULL);
     if (argc > 2 && strcmp(argv[1], "import") == 0)
         return replay_import(argv[2], argc > 3 ? argv[3] : NULL);
     double seconds = argc > 1 ? strtod(argv[1], NULL) : 0.0;
@@ -631,7 +668,8 @@ int main(int argc, char **argv)
     if (argc > 3 || seconds <= 0.0) {
         fprintf(stderr, "usage: fuzz SECONDS [SEED] | fuzz replay FILE [PLAN_BYTES] | "
                         "fuzz limit SHEET PLAN GREATEST [PLAN_OUT_BYTES] | "
-                        "fuzz bill SHEET PLAN RATE RATE LEAST [BILL_BYTES] | fuzz import TEXT [SHEET_BYTES]\n");
+                        "fuzz bill SHEET PLAN RATE RATE LEAST [BILL_BYTES] | fuzz deal SHEET PLAN CREWS [DEAL_BYTES] | "
+                        "fuzz import TEXT [SHEET_BYTES]\n");
         return 2;
     }
     printf("fuzz: %g s, seed %lu\n", seconds, seed);

@@ -1,7 +1,7 @@
 /*
  * Lends sheets of every kind, cut short, damaged, random and accepted, with plans of
- * every length, to the limiter and the biller plans in and to the importer texts
- * likewise, and holds the answers that are known to what they must be.
+ * every length, to the limiter, the biller and the dealer plans in and to the importer
+ * texts likewise, and holds the answers that are known to what they must be.
  */
 #define _GNU_SOURCE
 #include <stdint.h>
@@ -11,7 +11,7 @@
 #include "lend.h"
 #include "plans.h"
 
-static unsigned long planned, limited, billed, imported;
+static unsigned long planned, limited, answered[ANSWER_KINDS], imported;
 static const char *lending = "nothing";
 
 static void end(const char *what)
@@ -264,129 +264,156 @@ static void lend_to_limiter(uint8_t *sheet)
     limit_dealt(sheet, plan_in, &state);
 }
 
-static uint32_t bill(struct billing b)
+static uint32_t ask_plan(struct asking a)
 {
-    static uint8_t made[MOST_BILL];
-    uint32_t answer = ask_biller(&b, made);
-    billed += answer == PLANNER_ACCEPTED;
+    static uint8_t out[MOST_OUT];
+    uint32_t answer = ask_about_plan(&a, out);
+    answered[a.kind] += answer == PLANNER_ACCEPTED;
     return answer;
 }
 
-static void expect_bill(struct billing b, uint32_t answer)
+static void expect_of(struct asking a, uint32_t answer)
 {
-    uint32_t got = bill(b);
+    uint32_t got = ask_plan(a);
     if (got != answer) {
-        fprintf(stderr, "guard: %s: a plan of %zu bytes, a bill of %zu: %u, not %u\n", lending, b.plan_len, b.bill_len,
-                (unsigned)got, (unsigned)answer);
+        fprintf(stderr, "guard: %s: a plan of %zu bytes, a %s of %zu: %u, not %u\n", lending, a.plan_len,
+                a.kind == DEAL ? "deal" : "bill", a.out_len, (unsigned)got, (unsigned)answer);
         exit(1);
     }
 }
 
-/* A sheet with a plan of it and a bill, of their exact lengths. */
-static struct billing with_bill(const uint8_t *sheet, size_t len, const uint8_t *plan)
+/* A sheet with a plan of it and the answer's buffer, of their exact lengths. */
+static struct asking asking_of(enum answer_kind kind, const uint8_t *sheet, size_t len, const uint8_t *plan)
 {
-    struct billing b = {sheet, plan, len, plan_len_of(sheet, len), planner_bill_bytes(plan), 7, 11, 20};
-    return b;
+    struct asking a = {kind, sheet, plan, len, plan_len_of(sheet, len), out_bytes(kind, planner_plan_rounds(plan)), 7, 11, 20, 2};
+    return a;
 }
 
-/* Plans and bills of every length, up to some more than a charge too many. */
-static void bill_lengths(struct billing b)
+/* Plans and buffers of every length, up to some more than a charge too many. */
+static void ask_lengths(struct asking a)
 {
-    size_t exact = b.plan_len, exact_bill = b.bill_len;
+    size_t exact = a.plan_len, exact_out = a.out_len;
     for (size_t len = 0; len <= exact + 1; len++) {
-        b.plan_len = len;
-        expect_bill(b, len == exact ? PLANNER_ACCEPTED : PLANNER_BAD_LENGTH);
+        a.plan_len = len;
+        expect_of(a, len == exact ? PLANNER_ACCEPTED : PLANNER_BAD_LENGTH);
     }
-    b.plan_len = exact;
-    for (size_t len = 0; len <= exact_bill + PLANNER_CHARGE_BYTES + 1; len++) {
-        b.bill_len = len;
-        expect_bill(b, len == exact_bill ? PLANNER_ACCEPTED : PLANNER_BAD_LENGTH);
+    a.plan_len = exact;
+    for (size_t len = 0; len <= exact_out + PLANNER_CHARGE_BYTES + 1; len++) {
+        a.out_len = len;
+        expect_of(a, len == exact_out ? PLANNER_ACCEPTED : PLANNER_BAD_LENGTH);
     }
 }
 
-static void bill_cut(struct billing b)
+static void ask_cut(struct asking a)
 {
-    for (size_t len = b.len; len > 0; len--) {
-        b.len = len - 1;
-        expect_bill(b, b.len < PLANNER_HEADER_BYTES ? PLANNER_BAD_HEADER : PLANNER_BAD_LENGTH);
+    for (size_t len = a.len; len > 0; len--) {
+        a.len = len - 1;
+        expect_of(a, a.len < PLANNER_HEADER_BYTES ? PLANNER_BAD_HEADER : PLANNER_BAD_LENGTH);
     }
 }
 
-/* With a bill for the rounds that the damaged plan says, as far as there is room, and for those that it had. */
-static void bill_damaged(struct billing b, uint8_t *plan)
+/* With a buffer for the rounds that the damaged plan says, as far as there is room, and for those that it had. */
+static void ask_damaged(struct asking a, uint8_t *plan)
 {
     static const uint8_t damages[] = {0x01, 0x02, 0x40, 0x80, 0xff};
-    size_t exact = b.bill_len;
-    for (size_t at = 0; at < b.plan_len; at++)
+    size_t exact = a.out_len;
+    for (size_t at = 0; at < a.plan_len; at++)
         for (size_t i = 0; i < sizeof damages; i++) {
             plan[at] ^= damages[i];
-            b.bill_len = exact;
-            bill(b);
-            b.bill_len = planner_bill_bytes(plan) < MOST_BILL ? planner_bill_bytes(plan) : MOST_BILL;
-            bill(b);
+            a.out_len = exact;
+            ask_plan(a);
+            a.out_len = out_bytes(a.kind, planner_plan_rounds(plan));
+            a.out_len = a.out_len < MOST_OUT ? a.out_len : MOST_OUT;
+            ask_plan(a);
             plan[at] ^= damages[i];
         }
 }
 
-/* Numbers of rounds above the rows. Of the greatest the bill is lent without closed pages: no byte of it changes. */
-static void bill_counts(struct billing b, uint8_t *plan)
+/* Numbers of rounds above the rows. Of the greatest the buffer is lent without closed pages: no byte of it changes. */
+static void ask_counts(struct asking a, uint8_t *plan)
 {
     static uint8_t longest[PLANNER_BILL_BYTES(UINT16_MAX)];
-    unsigned rounds = planner_plan_rounds(plan), rows = planner_rows(b.sheet);
-    for (unsigned count = rows + 1; PLANNER_BILL_BYTES(count) <= MOST_BILL; count++) {
+    unsigned rounds = planner_plan_rounds(plan), rows = planner_rows(a.sheet);
+    for (unsigned count = rows + 1; PLANNER_BILL_BYTES(count) <= MOST_OUT; count++) {
         planner_set_plan_rounds(plan, count);
-        b.bill_len = PLANNER_BILL_BYTES(rounds);
-        expect_bill(b, PLANNER_BAD_LENGTH);
-        b.bill_len = PLANNER_BILL_BYTES(count);
-        expect_bill(b, PLANNER_BAD_PLAN);
+        a.out_len = out_bytes(a.kind, rounds);
+        expect_of(a, PLANNER_BAD_LENGTH);
+        a.out_len = out_bytes(a.kind, count);
+        expect_of(a, PLANNER_BAD_PLAN);
     }
     planner_set_plan_rounds(plan, UINT16_MAX);
-    uint32_t answer = bill_rounds(b.sheet, b.len, plan, b.plan_len, 0, 0, 0, longest, sizeof longest);
-    if (answer != PLANNER_BAD_PLAN || !all_are(longest, sizeof longest, 0))
+    a.out_len = out_bytes(a.kind, UINT16_MAX);
+    if (ask_of(&a, a.sheet, plan, longest) != PLANNER_BAD_PLAN || !all_are(longest, sizeof longest, 0))
         end("65,535 rounds are not refused as they should be");
     planner_set_plan_rounds(plan, rounds);
 }
 
-/* Each rate at its most and above, alone and where something else is wrong, which is told before it. */
-static void bill_rates(struct billing b, uint8_t *sheet, uint8_t *plan)
+/* What is asked out of range, alone and where something else is wrong, which is told before it. */
+static void expect_own_refusal(struct asking a, uint8_t *sheet, uint8_t *plan)
+{
+    unsigned aside = planner_plan_aside(plan);
+    expect_of(a, own_refusal(a.kind));
+    planner_set_plan_aside(plan, UINT16_MAX);
+    expect_of(a, PLANNER_BAD_PLAN);
+    planner_set_row_demand(sheet, 0, -1);
+    expect_of(a, PLANNER_BAD_ROW);
+    a.out_len++;
+    expect_of(a, PLANNER_BAD_LENGTH);
+    planner_set_row_demand(sheet, 0, 0);
+    planner_set_plan_aside(plan, aside);
+}
+
+/* Each rate at its most and above. */
+static void bill_rates(struct asking b, uint8_t *sheet, uint8_t *plan)
 {
     static const uint32_t above[] = {PLANNER_MOST_RATE + 1, UINT32_C(0x7fffffff), UINT32_C(0x80000000), UINT32_MAX};
     uint32_t *const rates[] = {&b.distance_rate, &b.duration_rate, &b.least};
-    unsigned aside = planner_plan_aside(plan);
     for (unsigned i = 0; i < 3; i++) {
         uint32_t had = *rates[i];
         *rates[i] = PLANNER_MOST_RATE;
-        expect_bill(b, PLANNER_ACCEPTED);
+        expect_of(b, PLANNER_ACCEPTED);
         for (unsigned k = 0; k < sizeof above / sizeof above[0]; k++) {
             *rates[i] = above[k];
-            expect_bill(b, PLANNER_BAD_RATE);
-            planner_set_plan_aside(plan, UINT16_MAX);
-            expect_bill(b, PLANNER_BAD_PLAN);
-            planner_set_row_demand(sheet, 0, -1);
-            expect_bill(b, PLANNER_BAD_ROW);
-            b.bill_len++;
-            expect_bill(b, PLANNER_BAD_LENGTH);
-            b.bill_len--;
-            planner_set_row_demand(sheet, 0, 0);
-            planner_set_plan_aside(plan, aside);
+            expect_own_refusal(b, sheet, plan);
         }
         *rates[i] = had;
     }
 }
 
+/* Each number of crews, and those out of range, with the rounds of the plan and with none. */
+static void deal_crews(struct asking d, uint8_t *sheet, uint8_t *plan)
+{
+    static const uint32_t beyond[] = {0, 9, 10, 255, 256, 257, 264, 65536, 65537, UINT32_C(0x80000001), UINT32_MAX};
+    for (d.crews = 1; d.crews <= PLANNER_MOST_CREWS; d.crews++)
+        expect_of(d, PLANNER_ACCEPTED);
+    for (unsigned k = 0; k < sizeof beyond / sizeof beyond[0]; k++) {
+        d.crews = beyond[k];
+        expect_own_refusal(d, sheet, plan);
+    }
+    uint64_t state = UINT64_C(0x9e3779b97f4a7c15);
+    deal_plan(plan, sheet, 0, 0, &state);
+    d.out_len = 0;
+    for (unsigned k = 0; k < sizeof beyond / sizeof beyond[0]; k++) {
+        d.crews = beyond[k];
+        expect_own_refusal(d, sheet, plan);
+    }
+    d.crews = PLANNER_MOST_CREWS;
+    expect_of(d, PLANNER_ACCEPTED);
+}
+
 /* Lone rounds, or all set aside where there is no vehicle. */
-static void bill_sizes(uint8_t *sheet, uint8_t *plan, uint64_t *state)
+static void ask_sizes(enum answer_kind kind, uint8_t *sheet, uint8_t *plan, uint64_t *state)
 {
     for (unsigned rows = 0; rows <= PLANNER_MOST_ROWS; rows++)
         for (unsigned vehicles = 0; vehicles < 2; vehicles++) {
             size_t len = plain_sheet(sheet, rows, vehicles, rows % 2);
             deal_plan(plan, sheet, rows, 1, state);
-            expect_bill(with_bill(sheet, len, plan), PLANNER_ACCEPTED);
+            expect_of(asking_of(kind, sheet, len, plan), PLANNER_ACCEPTED);
         }
 }
 
 /* Plans dealt for accepted sheets with every mark, of one depot and of several. */
-static void bill_dealt(uint8_t *sheet, uint8_t *plan, uint64_t *state)
+static void ask_dealt(enum answer_kind kind, uint8_t *sheet, uint8_t *plan, uint64_t *state)
 {
     for (int turn = 0; turn < 6000; turn++) {
         struct shape shape = {1 + below(state, turn % 100 == 0 ? PLANNER_MOST_ROWS : 14), 1, 1 + below(state, 5),
@@ -394,35 +421,37 @@ static void bill_dealt(uint8_t *sheet, uint8_t *plan, uint64_t *state)
         shape.depots = 1 + below(state, shape.rows < 4 ? shape.rows : 4);
         size_t len = draw_sheet(sheet, shape, state);
         deal_plan(plan, sheet, below(state, shape.rows + 1), turn % 4 == 0, state);
-        struct billing b = with_bill(sheet, len, plan);
-        b.distance_rate = below(state, PLANNER_MOST_RATE + 1);
-        b.duration_rate = below(state, PLANNER_MOST_RATE + 1);
-        b.least = below(state, PLANNER_MOST_RATE + 1);
-        expect_bill(b, PLANNER_ACCEPTED);
+        struct asking a = asking_of(kind, sheet, len, plan);
+        a.distance_rate = below(state, PLANNER_MOST_RATE + 1);
+        a.duration_rate = below(state, PLANNER_MOST_RATE + 1);
+        a.least = below(state, PLANNER_MOST_RATE + 1);
+        a.crews = 1 + below(state, PLANNER_MOST_CREWS);
+        expect_of(a, PLANNER_ACCEPTED);
     }
 }
 
-static void lend_to_biller(uint8_t *sheet)
+static void lend_to_asked(enum answer_kind kind, uint8_t *sheet)
 {
     static uint8_t plan[MOST_PLAN];
     uint64_t state = UINT64_C(0x9e3779b97f4a7c15);
+    int deals = kind == DEAL;
     size_t len = plain_sheet(sheet, 4, 2, 1);
     deal_plan(plan, sheet, 3, 1, &state);
-    struct billing b = with_bill(sheet, len, plan);
-    lending = "plans and bills of every length";
-    bill_lengths(b);
-    lending = "a sheet cut short, to the biller";
-    bill_cut(b);
-    lending = "a plan with a damaged byte, to the biller";
-    bill_damaged(b, plan);
-    lending = "more rounds than rows, to the biller";
-    bill_counts(b, plan);
-    lending = "rates";
-    bill_rates(b, sheet, plan);
-    lending = "bills of every number of rounds";
-    bill_sizes(sheet, plan, &state);
-    lending = "plans dealt at random, to the biller";
-    bill_dealt(sheet, plan, &state);
+    struct asking a = asking_of(kind, sheet, len, plan);
+    lending = deals ? "plans and deals of every length" : "plans and bills of every length";
+    ask_lengths(a);
+    lending = deals ? "a sheet cut short, to the dealer" : "a sheet cut short, to the biller";
+    ask_cut(a);
+    lending = deals ? "a plan with a damaged byte, to the dealer" : "a plan with a damaged byte, to the biller";
+    ask_damaged(a, plan);
+    lending = deals ? "more rounds than rows, to the dealer" : "more rounds than rows, to the biller";
+    ask_counts(a, plan);
+    lending = deals ? "crews" : "rates";
+    (deals ? deal_crews : bill_rates)(a, sheet, plan);
+    lending = deals ? "deals of every number of rounds" : "bills of every number of rounds";
+    ask_sizes(kind, sheet, plan, &state);
+    lending = deals ? "plans dealt at random, to the dealer" : "plans dealt at random, to the biller";
+    ask_dealt(kind, sheet, plan, &state);
 }
 
 /* Reasons of each row: those of stops set aside are up to 8, and no other is read. */
@@ -440,12 +469,15 @@ static void lend_reasons(uint8_t *sheet)
         uint64_t last = planner_get(stop_of(plan, rows, aside) + PLANNER_STOP_NEXT, 2);
         for (unsigned i = 0; i < sizeof reasons / sizeof reasons[0]; i++) {
             int is_none = reasons[i] > PLANNER_ASIDE_LIMITED && (row == aside || row == last);
-            struct billing b = with_bill(sheet, len, plan);
             planner_put(stop_of(plan, rows, row) + PLANNER_STOP_REASON, 2, reasons[i]);
             expect_limit(with_plan(sheet, len, plan, 1), is_none ? PLANNER_BAD_PLAN : PLANNER_ACCEPTED);
-            expect_bill(b, is_none ? PLANNER_BAD_PLAN : PLANNER_ACCEPTED);
-            b.least = PLANNER_MOST_RATE + 1;
-            expect_bill(b, is_none ? PLANNER_BAD_PLAN : PLANNER_BAD_RATE);
+            for (enum answer_kind kind = BILL; kind < ANSWER_KINDS; kind++) {
+                struct asking a = asking_of(kind, sheet, len, plan);
+                expect_of(a, is_none ? PLANNER_BAD_PLAN : PLANNER_ACCEPTED);
+                a.least = PLANNER_MOST_RATE + 1;
+                a.crews = PLANNER_MOST_CREWS + 1;
+                expect_of(a, is_none ? PLANNER_BAD_PLAN : own_refusal(kind));
+            }
         }
     }
 }
@@ -581,10 +613,11 @@ int main(void)
     lending = "accepted sheets";
     lend_planned(sheet);
     lend_to_limiter(sheet);
-    lend_to_biller(sheet);
+    lend_to_asked(BILL, sheet);
+    lend_to_asked(DEAL, sheet);
     lend_reasons(sheet);
     lend_to_importer();
-    printf("guard: %lu calls, %lu sheets planned, %lu plans limited, %lu billed and %lu texts imported at both ends\n", calls,
-           planned, limited, billed, imported);
+    printf("guard: %lu calls, %lu sheets planned, %lu plans limited, %lu billed, %lu dealt to crews and %lu texts imported at both ends\n",
+           calls, planned, limited, answered[BILL], answered[DEAL], imported);
     return 0;
 }

@@ -1,8 +1,8 @@
 /*
- * A host in C: builds sheet A (docs/SCOPE.md), has it planned and its plans limited and
- * billed, prints the rounds and why a stop is set aside in plain words, then damages it in
- * the way of each refusal's example. At the end it imports a text, has its sheet planned,
- * and damages that.
+ * A host in C: builds sheet A (docs/SCOPE.md), has it planned and its plans limited, billed
+ * and dealt to crews, prints the rounds and why a stop is set aside in plain words, then
+ * damages it in the way of each refusal's example. At the end it imports a text, has its
+ * sheet planned, and damages that.
  */
 #include <inttypes.h>
 #include <stdint.h>
@@ -77,6 +77,7 @@ static const char *words(uint32_t answer)
     case PLANNER_BAD_TEXT: return "refused 11, no text of this form";
     case PLANNER_TOO_MANY_CUSTOMERS: return "refused 12, too many customers";
     case PLANNER_BAD_RATE: return "refused 13, a rate or the least charge too high";
+    case PLANNER_BAD_CREWS: return "refused 14, no crew or too many";
     }
     return "an answer that is no refusal";
 }
@@ -210,6 +211,55 @@ static void bill_sheet_a(void)
     bill_it("its bill, 7 a begun 1,000 and 11 a begun 900", &s, &plan, rates, 0);
 }
 
+/* To so many crews, into a buffer of the deal's length and so many bytes more. */
+static void deal_it(const char *what, const struct sheet *s, const struct plan *plan, uint32_t crews, size_t more)
+{
+    uint8_t deal[PLANNER_DEAL_BYTES(ROWS) + 1];
+    memset(deal, UNTOUCHED, sizeof deal);
+    uint32_t answer = deal_rounds(s->bytes, s->len, plan->bytes, sizeof plan->bytes, crews, deal,
+                                  planner_deal_bytes(plan->bytes) + more);
+    printf("%s: %s\n", what, words(answer));
+    if (answer != PLANNER_ACCEPTED) {
+        print_changed(deal, sizeof deal);
+        return;
+    }
+    for (unsigned k = 0; k < planner_plan_rounds(plan->bytes); k++)
+        printf("  round %u goes to crew %u\n", k + 1, planner_deal_crew(deal, k));
+}
+
+/* Rounds as long as each other, one a little longer and an empty one that is longer still; one of two depots; and what is
+   refused. */
+static void deal_sheet_a(void)
+{
+    struct sheet s = sheet_a();
+    planner_set_vehicle_capacity(s.bytes, 0, 0);
+    struct plan plan = plan_it("sheet A, savings, capacity 0", &s);
+    deal_it("its rounds dealt to two crews", &s, &plan, 2, 0);
+    deal_it("its rounds dealt to one crew", &s, &plan, 1, 0);
+    planner_set_distance(s.bytes, 2, 0, 10.5);
+    deal_it("the same to two crews, stop 2 10.5 from home", &s, &plan, 2, 0);
+    planner_set_distance(s.bytes, 1, 0, 10.25);
+    deal_it("the same, stop 1 10.25 from home", &s, &plan, 2, 0);
+    planner_set_plan_rounds(plan.bytes, 3);
+    planner_set_round_id(plan.bytes, 2, 7);
+    deal_it("the same with an empty round more", &s, &plan, 2, 0);
+    planner_set_distance(s.bytes, 0, 0, 30.0);
+    deal_it("the same, 30 from the depot to itself", &s, &plan, 2, 0);
+    deal_it("the same, one byte too many", &s, &plan, 2, 1);
+    deal_it("the same to no crew", &s, &plan, 0, 0);
+    deal_it("the same to 9 crews", &s, &plan, PLANNER_MOST_CREWS + 1, 0);
+    planner_set_stop_next(plan.bytes, 2, 2);
+    deal_it("the same, next of 2 is 2, to no crew", &s, &plan, 0, 0);
+    planner_set_stop_next(plan.bytes, 2, 0);
+    planner_set_plan_rounds(plan.bytes, ROWS + 1);
+    deal_it("the same, 4 rounds", &s, &plan, 2, 0);
+
+    s = sheet_a();
+    planner_set_row_marks(s.bytes, 1, PLANNER_DEPOT);
+    plan = plan_it("sheet A with 2 depots, savings", &s);
+    deal_it("its round dealt to 8 crews", &s, &plan, PLANNER_MOST_CREWS, 0);
+}
+
 /* Each reason of a stop set aside; reasons copied, and one that is none, which is read of stops set aside alone. */
 static void set_aside(void)
 {
@@ -250,6 +300,7 @@ static void set_aside(void)
     planner_set_stop_reason(plan.bytes, 2, PLANNER_ASIDE_LIMITED + 1);
     limit_it("its plan within 1 round, stop 2 set aside with reason 9", &s, &plan, 1);
     bill_it("its bill, stop 2 set aside with reason 9", &s, &plan, rates, 0);
+    deal_it("its rounds dealt to two crews, stop 2 set aside with reason 9", &s, &plan, 2, 0);
 }
 
 /* A text of ROWS rows, and a customer's row. */
@@ -323,6 +374,7 @@ int main(void)
     limit_it("the same, duration at most 28", &s, &rested, 1);
 
     bill_sheet_a();
+    deal_sheet_a();
     set_aside();
 
     s = sheet_a();

@@ -1,9 +1,9 @@
 /*
- * Lends sheets, plans and texts to the planner, the limiter, the importer and the biller
- * up against pages that nobody may touch, so that one byte read or written outside them
- * ends the run: first with such a page right after the last byte of each, then right
- * before the first. What is only read is lent by a view of its pages that can't be
- * written, so a write there ends the run too.
+ * Lends sheets, plans and texts to the planner, the limiter, the importer, the biller and
+ * the dealer up against pages that nobody may touch, so that one byte read or written
+ * outside them ends the run: first with such a page right after the last byte of each,
+ * then right before the first. What is only read is lent by a view of its pages that can't
+ * be written, so a write there ends the run too.
  *
  * Define _GNU_SOURCE before the first header of a program that includes this one.
  */
@@ -17,15 +17,16 @@
 #include <unistd.h>
 
 #include "bill_check.h"
+#include "deal_check.h"
 #include "planner_fields.h"
 #include "texts.h"
 
 /* The longest sheet of one row and one vehicle too many, and the longest plan, each with one byte more; the longest sheet
-   of a text with some more; the bill of more rounds than a byte counts. */
+   of a text with some more; the bill, and so the deal, of more rounds than a byte counts. */
 enum { MOST_SHEET = PLANNER_SHEET_BYTES(PLANNER_MOST_ROWS + 1, PLANNER_MOST_VEHICLES + 1, 1) + 1 };
 enum { MOST_PLAN = PLANNER_PLAN_BYTES(PLANNER_MOST_ROWS) + 1 };
 enum { MOST_IMPORT = PLANNER_IMPORT_BYTES(PLANNER_MOST_ROWS) + 64 };
-enum { MOST_BILL = PLANNER_BILL_BYTES(300) + 1 };
+enum { MOST_OUT = PLANNER_BILL_BYTES(300) + 1 };
 
 /* Says what went wrong and ends the run with status 1; the program's own. */
 static void end(const char *what);
@@ -39,7 +40,7 @@ struct room {
 
 /* Rooms whose bytes are all `around`, but for what is lent at one end of them. */
 struct place {
-    struct room sheets, plans_in, plans, texts, imports, bills;
+    struct room sheets, plans_in, plans, texts, imports, outs;
     int at_front;
     int around;
 };
@@ -106,7 +107,7 @@ static inline struct place open_place(int front, int around)
     place.plans = open_room(MOST_PLAN, PROT_READ | PROT_WRITE, around);
     place.texts = open_room(MOST_TEXT, PROT_READ, around);
     place.imports = open_room(MOST_IMPORT, PROT_READ | PROT_WRITE, around);
-    place.bills = open_room(MOST_BILL, PROT_READ | PROT_WRITE, around);
+    place.outs = open_room(MOST_OUT, PROT_READ | PROT_WRITE, around);
     place.at_front = front;
     place.around = around;
     return place;
@@ -214,17 +215,15 @@ static inline int32_t lend_text(const struct place *place, const struct text *t,
     return answer;
 }
 
-/* The biller's answer to copies of sheet and plan. */
-static inline uint32_t lend_billing(const struct place *place, const struct billing *b, uint8_t *out)
+/* The biller's answer to copies of sheet and plan, or the dealer's. */
+static inline uint32_t lend_asking(const struct place *place, const struct asking *a, uint8_t *out)
 {
-    const uint8_t *sheet = lend_copy(place, &place->sheets, b->sheet, b->len);
-    const uint8_t *plan = lend_copy(place, &place->plans_in, b->plan, b->plan_len);
-    uint8_t *bill = lend_buffer(place, &place->bills, b->bill_len);
-    uint32_t answer = bill_rounds(sheet, b->len, plan, b->plan_len, b->distance_rate, b->duration_rate, b->least, bill,
-                                  b->bill_len);
-    take_back(place, &place->sheets, b->sheet, b->len);
-    take_back(place, &place->plans_in, b->plan, b->plan_len);
-    take_buffer(place, &place->bills, filled(answer, b->bill_len), out, b->bill_len);
+    const uint8_t *sheet = lend_copy(place, &place->sheets, a->sheet, a->len);
+    const uint8_t *plan = lend_copy(place, &place->plans_in, a->plan, a->plan_len);
+    uint32_t answer = ask_of(a, sheet, plan, lend_buffer(place, &place->outs, a->out_len));
+    take_back(place, &place->sheets, a->sheet, a->len);
+    take_back(place, &place->plans_in, a->plan, a->plan_len);
+    take_buffer(place, &place->outs, filled(answer, a->out_len), out, a->out_len);
     return answer;
 }
 
@@ -237,7 +236,7 @@ static inline void same(int64_t answer, int64_t other_answer, const uint8_t *wri
         end("what is written depends on the bytes around, or on those it is written over");
 }
 
-static uint8_t other_plan[MOST_PLAN], other_import[MOST_IMPORT], other_bill[MOST_BILL];
+static uint8_t other_plan[MOST_PLAN], other_import[MOST_IMPORT], other_out[MOST_OUT];
 
 /* The answer, which is the same at either end, and so is the plan, of MOST_PLAN bytes of room. */
 static inline uint32_t ask_with_plan(const uint8_t *sheet, size_t len, uint8_t *plan, size_t plan_len)
@@ -280,20 +279,23 @@ static inline int32_t ask_importer(const struct text *t, uint8_t *sheet, size_t 
     return answer;
 }
 
-static inline int is_bill_answer(uint32_t answer)
+static inline int is_answer_of(enum answer_kind kind, uint32_t answer)
 {
-    return answer <= PLANNER_NO_VEHICLE || answer == PLANNER_BAD_PLAN || answer == PLANNER_BAD_RATE;
+    return answer <= PLANNER_NO_VEHICLE || answer == PLANNER_BAD_PLAN || answer == own_refusal(kind);
 }
 
-/* The same of the biller; `bill` has MOST_BILL bytes of room. What it writes is a bill by the tariff's own rules. */
-static inline uint32_t ask_biller(const struct billing *b, uint8_t *bill)
+/* The same of the biller and the dealer; `out` has MOST_OUT bytes of room. What is written is a bill by the tariff's own rules,
+   or a crew for each round. */
+static inline uint32_t ask_about_plan(const struct asking *a, uint8_t *out)
 {
-    uint32_t answer = lend_billing(&at_back, b, bill);
-    uint32_t other = lend_billing(&at_front, b, other_bill);
-    same(answer, other, bill, other_bill, filled(answer, b->bill_len));
-    if (!is_bill_answer(answer))
+    uint32_t answer = lend_asking(&at_back, a, out);
+    uint32_t other = lend_asking(&at_front, a, other_out);
+    same(answer, other, out, other_out, filled(answer, a->out_len));
+    if (!is_answer_of(a->kind, answer))
         end("an answer that is no refusal");
-    const char *fault = answer == PLANNER_ACCEPTED ? bill_fault(b, bill) : NULL;
+    if (answer != PLANNER_ACCEPTED)
+        return answer;
+    const char *fault = a->kind == DEAL ? deal_fault(a, out) : bill_fault(a, out);
     if (fault != NULL)
         end(fault);
     return answer;

@@ -555,7 +555,8 @@ static inline void fit_vehicle(const struct reading *r, unsigned rounds)
     }
 }
 
-/* A way home by which a round ends at a whole number of the tariff's units, of distance or of duration. */
+/* A way home by which a round ends at a whole number of the tariff's units, of distance or of duration, or takes as long as
+   another round does when it is rounded up. */
 static inline void fit_units(struct sheet *s, const struct reading *r, unsigned rounds)
 {
     unsigned k = draw(rounds), last = planner_round_first(r->plan, k), next;
@@ -565,7 +566,9 @@ static inline void fit_units(struct sheet *s, const struct reading *r, unsigned 
     int by_time = one_in(2), of_times = by_time && planner_time_table(s->bytes);
     uint8_t *home = s->bytes + (of_times ? planner_time_at(s->bytes, last, depot) : planner_distance_at(s->bytes, last, depot));
     double figure = by_time ? planner_round_duration(r->plan, k) : planner_round_distance(r->plan, k);
-    double fitted = planner_get_f64(home) + ((by_time ? 900 : 1000) * (1.0 + draw(4)) - figure);
+    double units = (by_time ? 900 : 1000) * (1.0 + draw(4));
+    double as_long = (double)begun_units(planner_round_duration(r->plan, draw(rounds)), 1);
+    double fitted = planner_get_f64(home) + ((by_time && one_in(2) ? as_long : units) - figure);
     if (fitted >= 0.0)
         put_beside_number(home, fitted, MOST_LEG);
 }

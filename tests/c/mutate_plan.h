@@ -1,17 +1,17 @@
 /*
- * Plans for the limiter and the biller to take, and mutations of them that know their
- * form: links, the number of rounds, ids, reasons, and what is not read.
+ * Plans for the limiter, the biller and the dealer to take, and mutations of them that know
+ * their form: links, the number of rounds, ids, reasons, and what is not read.
  */
 #ifndef MUTATE_PLAN_H
 #define MUTATE_PLAN_H
 
 #include "mutate.h"
 
-/* A plan in for the sheet that it was made for, and the rest of a call of either. */
+/* A plan in for the sheet that it was made for, and the rest of a call of each. */
 struct plan_in {
     uint8_t bytes[MOST_PLAN];
-    size_t len, plan_out_len, bill_len;
-    uint32_t greatest, distance_rate, duration_rate, least;
+    size_t len, plan_out_len, out_len[ANSWER_KINDS];
+    uint32_t greatest, distance_rate, duration_rate, least, crews;
 };
 
 /* Where any link stands: of a round, of the stops set aside, of a row. */
@@ -93,13 +93,21 @@ static inline uint32_t draw_cents(void)
     return (uint32_t)(one_in(60) ? PICK(beyond) : PICK(within));
 }
 
-/* For a number of rounds far above the rows there is no room: its bill has another length. */
-static inline size_t draw_bill_len(unsigned rounds, unsigned rows)
+static inline uint32_t draw_crews(void)
 {
-    size_t exact = PLANNER_BILL_BYTES(rounds);
-    const uint64_t wrong[] = {0, exact - 1, exact + 1, exact - 8, exact + 8, PLANNER_BILL_BYTES(rows), draw(MOST_BILL + 1)};
+    const uint64_t within[] = {1, 2, 2, 3, 1 + draw(PLANNER_MOST_CREWS), PLANNER_MOST_CREWS};
+    const uint64_t beyond[] = {0, PLANNER_MOST_CREWS + 1, 255, 256 + draw(9), UINT64_C(0x10000) + draw(9),
+                               UINT64_C(0xffffffff), next_random(&state)};
+    return (uint32_t)(one_in(30) ? PICK(beyond) : PICK(within));
+}
+
+/* For a number of rounds far above the rows there is no room: what is written for it has another length. */
+static inline size_t draw_out_len(enum answer_kind kind, unsigned rounds, unsigned rows)
+{
+    size_t exact = out_bytes(kind, rounds);
+    const uint64_t wrong[] = {0, exact - 1, exact + 1, exact - 8, exact + 8, out_bytes(kind, rows), draw(MOST_OUT + 1)};
     size_t len = one_in(20) ? (size_t)PICK(wrong) : exact;
-    return len < MOST_BILL ? len : MOST_BILL;
+    return len < MOST_OUT ? len : MOST_OUT;
 }
 
 /* For a sheet whose fields can be found: its own plan if it has one, or one dealt, at times mutated. */
@@ -118,10 +126,20 @@ static inline void make_plan_in(struct plan_in *p, struct sheet *s, const uint8_
     p->greatest = (uint32_t)(one_in(12) ? PICK(wide) | draw(4) : draw(rounds % 128 + 2));
     p->len = one_in(40) ? (size_t)PICK(lens) : exact;
     p->plan_out_len = one_in(40) ? (size_t)PICK(lens) : exact;
-    p->bill_len = draw_bill_len(rounds, rows_in(s));
+    for (enum answer_kind kind = BILL; kind < ANSWER_KINDS; kind++)
+        p->out_len[kind] = draw_out_len(kind, rounds, rows_in(s));
     p->distance_rate = draw_cents();
     p->duration_rate = draw_cents();
     p->least = draw_cents();
+    p->crews = draw_crews();
+}
+
+/* The call for a bill or a deal of a plan in. */
+static inline struct asking asking_with(enum answer_kind kind, const struct sheet *s, const struct plan_in *p)
+{
+    struct asking a = {kind, s->bytes, p->bytes, s->len, p->len, p->out_len[kind], p->distance_rate, p->duration_rate,
+                       p->least, p->crews};
+    return a;
 }
 
 #endif

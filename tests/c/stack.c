@@ -2,8 +2,8 @@
  * How much stack a call takes: each is made on a stack that was filled with a pattern,
  * and the lowest word that is another afterwards tells. In bytes, the caller's own
  * frame included; over several sheets of the most rows for each method, for the check,
- * the limiter and the biller, and over such texts for the importer; or for the sheets in
- * files.
+ * the limiter, the biller and the dealer, and over such texts for the importer; or for the
+ * sheets in files.
  *
  *   stack [FILE..]    the exit status is 1 where a call takes more than planner.h says,
  *                     by PLANNER_STACK_SAVINGS and PLANNER_STACK
@@ -22,10 +22,10 @@ static const uint64_t patterns[] = {UINT64_C(0xa5c396e17b2d4f08), UINT64_C(0x5a3
 
 static uint8_t sheet[PLANNER_SHEET_BYTES(PLANNER_MOST_ROWS, PLANNER_MOST_VEHICLES, 1)];
 static uint8_t plan[PLANNER_PLAN_BYTES(PLANNER_MOST_ROWS)], plan_in[sizeof plan];
-static uint8_t bill[PLANNER_BILL_BYTES(PLANNER_MOST_ROWS)];
+static uint8_t bill[PLANNER_BILL_BYTES(PLANNER_MOST_ROWS)], deal[PLANNER_DEAL_BYTES(PLANNER_MOST_ROWS)];
 static size_t len;
 static struct text text;
-static enum { PLANNING, CHECKING, LIMITING, BILLING, IMPORTING } asked;
+static enum { PLANNING, CHECKING, LIMITING, BILLING, DEALING, IMPORTING } asked;
 static uint32_t answer;
 static uint64_t stack[STACK_WORDS];
 static const uint8_t *top;
@@ -40,6 +40,8 @@ static void call(void)
     else if (asked == BILLING)
         answer = bill_rounds(sheet, len, plan_in, plan_len, PLANNER_MOST_RATE, PLANNER_MOST_RATE, PLANNER_MOST_RATE, bill,
                              planner_bill_bytes(plan_in));
+    else if (asked == DEALING)
+        answer = deal_rounds(sheet, len, plan_in, plan_len, PLANNER_MOST_CREWS, deal, planner_deal_bytes(plan_in));
     else if (asked == CHECKING)
         answer = check_sheet(sheet, len, plan_len);
     else if (asked == IMPORTING)
@@ -120,12 +122,12 @@ static size_t taken_by_limiter(void)
     return most;
 }
 
-/* Of lone rounds and of a few. */
-static size_t taken_by_biller(void)
+/* By the biller or the dealer, of lone rounds and of a few. */
+static size_t taken_by_asked(int deals)
 {
     uint64_t state = UINT64_C(0x9e3779b97f4a7c15);
     size_t most = 0;
-    asked = BILLING;
+    asked = deals ? DEALING : BILLING;
     for (unsigned kind = 0; kind < KINDS; kind++) {
         draw_kind(PLANNER_NEAREST_NEIGHBOR, kind, &state);
         deal_plan(plan_in, sheet, PLANNER_MOST_ROWS, 1, &state);
@@ -199,7 +201,8 @@ int main(int argc, char **argv)
         over |= tell(names[method], taken_by(method), allowed(method));
     over |= tell("check", taken_by_check(), PLANNER_STACK);
     over |= tell("limiter", taken_by_limiter(), PLANNER_STACK);
-    over |= tell("biller", taken_by_biller(), PLANNER_STACK);
+    over |= tell("biller", taken_by_asked(0), PLANNER_STACK);
+    over |= tell("dealer", taken_by_asked(1), PLANNER_STACK);
     over |= tell("importer", taken_by_importer(), PLANNER_STACK);
     return over;
 }

@@ -1,17 +1,17 @@
 /*
- * Calls the planner, the limiter, the biller and the importer over and over in one process,
- * and looks ten times at the memory that the process holds and at the time that a call
- * takes.
+ * Calls the planner, the limiter, the biller, the dealer and the importer over and over in
+ * one process, and looks ten times at the memory that the process holds and at the time
+ * that a call takes.
  *
  *   steady CALLS
  *
  * The sheets are of all methods and sizes and are asked in turn, each with its plan to be
- * brought within half of its rounds and to be billed, and with a text of as many rows;
- * every pass over them must give the answers, plans, bills and sheets of the first. The
- * exit status is 1 where one does not, where the process holds more than a few pages more than at the first look, or
- * where a call of the last tenth takes above 1.5 times as long as one of the first, by
- * the clock and by a fixed piece of work that is timed beside the calls: other work on
- * the machine slows both.
+ * brought within half of its rounds, billed and dealt to crews, and with a text of as many
+ * rows; every pass over them must give the answers, plans, bills, deals and sheets of the
+ * first. The exit status is 1 where one does not, where the process holds more than a few
+ * pages more than at the first look, or where a call of the last tenth takes above 1.5
+ * times as long as one of the first, by the clock and by a fixed piece of work that is
+ * timed beside the calls: other work on the machine slows both.
  */
 #define _GNU_SOURCE
 #include <fcntl.h>
@@ -27,14 +27,14 @@
 static const unsigned sizes[] = {0, 1, 2, 10, 30, PLANNER_MOST_ROWS};
 static const unsigned depots[] = {1, 3};
 enum { SIZES = sizeof sizes / sizeof sizes[0], DEPOTS = 2, WIDTHS = 2, METHODS = PLANNER_SWEEP + 1 };
-enum { SHEETS = METHODS * SIZES * DEPOTS * WIDTHS, CALLS = 4 * SHEETS, LOOKS = 10, MOST_GROWTH = 16 };
+enum { SHEETS = METHODS * SIZES * DEPOTS * WIDTHS, CALLS = 5 * SHEETS, LOOKS = 10, MOST_GROWTH = 16 };
 static const double MOST_SLOWER = 1.5;
 
 /* A sheet with what the first calls said of it and of its plan; a text and its sheet. */
 struct asked {
-    uint8_t *sheet, *plan, *limited, *bill, *text, *imported;
-    size_t len, plan_len, bill_len, text_len, imported_len;
-    uint32_t answer, greatest, limit_answer, bill_answer;
+    uint8_t *sheet, *plan, *limited, *bill, *deal, *text, *imported;
+    size_t len, plan_len, bill_len, deal_len, text_len, imported_len;
+    uint32_t answer, greatest, limit_answer, bill_answer, deal_answer;
     int32_t import_answer;
 };
 
@@ -69,6 +69,11 @@ static uint32_t limit(const struct asked *a, uint8_t *plan_out)
 static uint32_t bill(const struct asked *a, uint8_t *made)
 {
     return bill_rounds(a->sheet, a->len, a->plan, a->plan_len, 700, 1100, 5000, made, a->bill_len);
+}
+
+static uint32_t deal(const struct asked *a, uint8_t *made)
+{
+    return deal_rounds(a->sheet, a->len, a->plan, a->plan_len, 3, made, a->deal_len);
 }
 
 static int32_t import(const struct asked *a, uint8_t *sheet)
@@ -111,6 +116,9 @@ static void draw_asked(struct asked *a, unsigned k, uint64_t *state)
     a->bill_len = planner_bill_bytes(a->plan);
     a->bill = room(a->bill_len);
     a->bill_answer = bill(a, a->bill);
+    a->deal_len = planner_deal_bytes(a->plan);
+    a->deal = room(a->deal_len + 1); /* a plan may have no round */
+    a->deal_answer = deal(a, a->deal);
     draw_asked_text(a, shape.rows, state);
 }
 
@@ -119,13 +127,13 @@ static void held_to_first(int64_t answer, int64_t first, const uint8_t *made, co
     if (answer != first)
         end("another answer than on the first call");
     if (memcmp(made, first_made, len) != 0)
-        end("another plan, bill or sheet than on the first call");
+        end("another plan, bill, deal or sheet than on the first call");
 }
 
 static void pass(void)
 {
     static uint8_t plan[PLANNER_PLAN_BYTES(PLANNER_MOST_ROWS)], sheet[PLANNER_IMPORT_BYTES(PLANNER_MOST_ROWS)];
-    static uint8_t charges[PLANNER_BILL_BYTES(PLANNER_MOST_ROWS)];
+    static uint8_t charges[PLANNER_BILL_BYTES(PLANNER_MOST_ROWS)], crews[PLANNER_DEAL_BYTES(PLANNER_MOST_ROWS)];
     for (const struct asked *a = all; a < all + SHEETS; a++) {
         memset(plan, 0, a->plan_len);
         uint32_t answer = plan_rounds(a->sheet, a->len, plan, a->plan_len);
@@ -135,6 +143,8 @@ static void pass(void)
         held_to_first(answer, a->limit_answer, plan, a->limited, a->plan_len);
         memset(charges, 0, a->bill_len);
         held_to_first(bill(a, charges), a->bill_answer, charges, a->bill, a->bill_len);
+        memset(crews, 0, a->deal_len);
+        held_to_first(deal(a, crews), a->deal_answer, crews, a->deal, a->deal_len);
         memset(sheet, 0, a->imported_len);
         held_to_first(import(a, sheet), a->import_answer, sheet, a->imported, a->imported_len);
     }
@@ -203,7 +213,8 @@ static void tell(unsigned long calls, struct look look)
 int main(int argc, char **argv)
 {
     uint64_t state = UINT64_C(0x9e3779b97f4a7c15);
-    unsigned long calls = argc == 2 ? strtoul(argv[1], NULL, 10) : 0, planned = 0, limited = 0, billed = 0, imported = 0;
+    unsigned long calls = argc == 2 ? strtoul(argv[1], NULL, 10) : 0;
+    unsigned long planned = 0, limited = 0, billed = 0, dealt = 0, imported = 0;
     unsigned long passes = (calls + LOOKS * CALLS - 1) / (LOOKS * CALLS);
     struct look first, last;
     if (calls == 0) {
@@ -215,10 +226,11 @@ int main(int argc, char **argv)
         planned += all[k].answer == PLANNER_ACCEPTED;
         limited += all[k].limit_answer == PLANNER_ACCEPTED;
         billed += all[k].bill_answer == PLANNER_ACCEPTED;
+        dealt += all[k].deal_answer == PLANNER_ACCEPTED;
         imported += all[k].import_answer > 0;
     }
-    printf("steady: %d sheets and texts in turn, %lu planned, %lu limited, %lu billed and %lu imported\n", SHEETS, planned,
-           limited, billed, imported);
+    printf("steady: %d sheets and texts in turn, %lu planned, %lu limited, %lu billed, %lu dealt and %lu imported\n", SHEETS,
+           planned, limited, billed, dealt, imported);
     /* What is loaded at its first use is so before the first look that counts. */
     first = last = look_after(1);
     tell(0, last);

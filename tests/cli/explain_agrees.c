@@ -1,7 +1,7 @@
 /*
  * explain_agrees [SHEETS [SEED]]: guchfenor's own reading of what is wrong with a sheet
- * and a plan in (tools/guchfenor/faults.c) against check_sheet, limit_rounds and
- * bill_rounds, on drawn and mutated ones. Every refusal has to occur, and a plan whose
+ * and a plan in (tools/guchfenor/faults.c) against check_sheet, limit_rounds, bill_rounds
+ * and deal_rounds, on drawn and mutated ones. Every refusal has to occur, and a plan whose
  * reasons alone are wrong.
  */
 #define _GNU_SOURCE
@@ -11,7 +11,7 @@
 
 static struct sheet sheet;
 static struct plan_in plan_in;
-static uint8_t plan_out[MOST_PLAN], bill[PLANNER_BILL_BYTES(UINT16_MAX)];
+static uint8_t plan_out[MOST_PLAN], out[PLANNER_BILL_BYTES(UINT16_MAX)];
 static unsigned long answers[PLANNER_BAD_PLAN + 1], told, reasons;
 
 static void keep(const char *name, const uint8_t *bytes, size_t len)
@@ -57,10 +57,15 @@ static void plan_agrees(void)
     struct faults faults;
     make_plan_in(&plan_in, &sheet, NULL);
     plan_in.len = PLANNER_PLAN_BYTES(rows_in(&sheet));
+    plan_in.distance_rate = plan_in.duration_rate = plan_in.least = 0;
+    plan_in.crews = 1;
     find_plan_faults(&faults, sheet.bytes, plan_in.bytes);
     reasons += faults.count == 1 && strstr(faults.list[0].where, "reason") != NULL;
-    agree(refusal_of(&faults), bill_rounds(sheet.bytes, sheet.len, plan_in.bytes, plan_in.len, 0, 0, 0, bill,
-                                           planner_bill_bytes(plan_in.bytes)));
+    for (enum answer_kind kind = BILL; kind < ANSWER_KINDS; kind++) {
+        plan_in.out_len[kind] = out_bytes(kind, planner_plan_rounds(plan_in.bytes));
+        struct asking a = asking_with(kind, &sheet, &plan_in);
+        agree(refusal_of(&faults), ask_of(&a, sheet.bytes, plan_in.bytes, out));
+    }
     agree(planner_depots(sheet.bytes) > 1 ? PLANNER_SEVERAL_DEPOTS : refusal_of(&faults),
           limit_rounds(sheet.bytes, sheet.len, plan_in.bytes, plan_in.len, UINT32_MAX, plan_out, plan_in.len));
 }

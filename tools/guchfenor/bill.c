@@ -1,10 +1,10 @@
 /* bill: what a plan's rounds cost by a tariff. Charges, begun units and figures are all the library's own. */
-#include <stdlib.h>
 #include <string.h>
 
 #include "files.h"
 #include "numbers.h"
 #include "table.h"
+#include "walk.h"
 
 enum { DISTANCE_UNIT = 1000, DURATION_UNIT = 900 };
 enum { DISTANCE_RATE, DURATION_RATE, LEAST, RATES };
@@ -16,11 +16,10 @@ struct billing {
     struct file sheet, plan;
     uint32_t rates[RATES];
     unsigned rounds;
-    int walks; /* whether there are figures */
+    struct walk walk;
     /* Bills of every header's rounds, those that are refused too; then those of a plan that is not. */
     uint8_t charges[PLANNER_BILL_BYTES(UINT16_MAX)];
     uint8_t begun_distance[PLANNER_BILL_BYTES(PLANNER_MOST_ROWS)], begun_duration[PLANNER_BILL_BYTES(PLANNER_MOST_ROWS)];
-    uint8_t walked[PLANNER_PLAN_BYTES(PLANNER_MOST_ROWS)];
 };
 
 static int read_rates(struct billing *b, const char *const *words)
@@ -44,31 +43,21 @@ static uint32_t bill_at(const struct billing *b, const uint32_t *rates, uint8_t 
                        rates[LEAST], bill, bill_len);
 }
 
-/* What the charges rest on. At a cent a unit and no least charge a bill has the begun units. A plan that is limited to the
-   rounds that it has comes back with its figures walked anew, which the plan in itself need not have; the limiter takes one
-   depot. */
+/* What the charges rest on. At a cent a unit and no least charge a bill has the begun units. */
 static void take_grounds(struct billing *b)
 {
     static const uint32_t by_distance[RATES] = {1, 0, 0}, by_duration[RATES] = {0, 1, 0};
     bill_at(b, by_distance, b->begun_distance);
     bill_at(b, by_duration, b->begun_duration);
-    b->walks = limit_rounds(b->sheet.bytes, b->sheet.len, b->plan.bytes, b->plan.len, b->rounds, b->walked, b->plan.len)
-               == PLANNER_ACCEPTED;
-}
-
-/* A figure for reading, or in full where that would look like fewer begun units than there are. */
-static const char *figure(double value, uint64_t begun, unsigned unit)
-{
-    const char *text = plain(value);
-    return begun > 0 && strtod(text, NULL) <= (double)((begun - 1) * unit) ? exact(value) : text;
+    walk_anew(&b->walk, &b->sheet, &b->plan);
 }
 
 static void put_grounds(struct table *table, const struct billing *b, unsigned k)
 {
     uint64_t distance = planner_bill_charge(b->begun_distance, k), duration = planner_bill_charge(b->begun_duration, k);
-    if (b->walks) {
-        set_cell(table, DISTANCE, "%s", figure(planner_round_distance(b->walked, k), distance, DISTANCE_UNIT));
-        set_cell(table, DURATION, "%s", figure(planner_round_duration(b->walked, k), duration, DURATION_UNIT));
+    if (b->walk.there) {
+        set_cell(table, DISTANCE, "%s", figure(planner_round_distance(b->walk.plan, k), distance, DISTANCE_UNIT));
+        set_cell(table, DURATION, "%s", figure(planner_round_duration(b->walk.plan, k), duration, DURATION_UNIT));
     }
     set_cell(table, BEGUN_DISTANCE, "%llu", (unsigned long long)distance);
     set_cell(table, BEGUN_DURATION, "%llu", (unsigned long long)duration);
@@ -104,7 +93,7 @@ static int print_bill(const struct billing *b)
         putchar('\n');
     }
     printf("in all: %llu cents\n", (unsigned long long)planner_bill_sum(b->charges, b->rounds));
-    if (!b->walks)
+    if (!b->walk.there)
         puts("distances and durations are shown for sheets of one depot only");
     return close_out(stdout, "standard output");
 }

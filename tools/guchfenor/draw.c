@@ -7,8 +7,9 @@
 #include "picture.h"
 
 enum { LINE = 21, GAP = 8, LEGEND_TOP = 36, LEGEND_ROOM = WIDTH - LEGEND_X - 8 };
-/* Rounds that the legend has room for, with a second line and without; the strips tell of the others. */
-enum { MOST_FULL = 11, MOST_SHORT = 27 };
+/* Rounds that the legend has room for, with a second line and without, and together with crews; the strips tell of the
+   others. */
+enum { MOST_FULL = 11, MOST_SHORT = 27, MOST_WITH_CREWS = 24 };
 
 /* No red: it tells what was missed. */
 static const char *const colours[COLOURS] = {
@@ -26,9 +27,24 @@ struct map {
     int legend_y;
 };
 
-const char *colour_of(unsigned round)
+/* A round's own, or its crew's. */
+static unsigned colour_number(const struct reading *r, unsigned round)
 {
-    return colours[round % COLOURS];
+    return (r->deal.crews > 0 ? planner_deal_crew(r->deal.crew, round) - 1 : round) % COLOURS;
+}
+
+const char *colour_of(const struct reading *r, unsigned round)
+{
+    return colours[colour_number(r, round)];
+}
+
+const char *crew_words(const struct reading *r, unsigned round, const char *before, const char *after)
+{
+    static char text[32];
+    text[0] = '\0';
+    if (r->deal.crews > 0)
+        snprintf(text, sizeof text, "%screw %u%s", before, planner_deal_crew(r->deal.crew, round), after);
+    return text;
 }
 
 void letter(FILE *out, double x, double y, int size, const char *fill, const char *anchor, const char *format, ...)
@@ -170,7 +186,7 @@ static void draw_leg(const struct map *m, unsigned from, unsigned to, unsigned r
             "marker-mid=\"url(#way%u)\"/>\n",
             m->x[from], m->y[from], m->x[from] + (m->x[to] - m->x[from]) * part, m->y[from] + (m->y[to] - m->y[from]) * part,
             m->x[to], m->y[to],
-            colour_of(round), outer ? " stroke-dasharray=\"7 4\" opacity=\"0.65\"" : "", round % COLOURS);
+            colour_of(m->r, round), outer ? " stroke-dasharray=\"7 4\" opacity=\"0.65\"" : "", colour_number(m->r, round));
 }
 
 static void draw_round(const struct map *m, unsigned k)
@@ -179,7 +195,8 @@ static void draw_round(const struct map *m, unsigned k)
     unsigned last = round->depot;
     if (round->stops == 0)
         return;
-    fprintf(m->out, "<g><title>round %u, vehicle %lu</title>\n", k + 1, (unsigned long)round->id);
+    fprintf(m->out, "<g><title>round %u, vehicle %lu%s</title>\n", k + 1, (unsigned long)round->id,
+            crew_words(m->r, k, ", ", ""));
     for (unsigned i = round->first; i < round->first + round->stops; i++) {
         draw_leg(m, last, m->r->visit[i].stop, k);
         last = m->r->visit[i].stop;
@@ -234,7 +251,7 @@ static void draw_stop(const struct map *m, unsigned row)
     } else {
         if (m->r->visit[m->r->visit_of[row]].rested)
             disc(m->out, x, y, r + 4, "none", rest_look);
-        disc(m->out, x, y, r, colour_of(m->r->round_of[row] - 1), stop_look);
+        disc(m->out, x, y, r, colour_of(m->r, m->r->round_of[row] - 1), stop_look);
         number(m, row, r + 1, "#ffffff");
     }
     fputs("</g>\n", m->out);
@@ -269,20 +286,72 @@ static void draw_depot(const struct map *m, unsigned row)
 
 /* ---- the legend */
 
+/* A line of the legend's, after a stroke of the colour. */
+static void legend_stroke(struct map *m, const char *colour)
+{
+    m->legend_y += LINE;
+    fprintf(m->out, "<path d=\"M%d %dH%d\" stroke=\"%s\" stroke-width=\"5\" stroke-linecap=\"round\"/>\n", LEGEND_X + 3,
+            m->legend_y - 5, LEGEND_X + 23, colour);
+}
+
+static void legend_of_load(const struct map *m, unsigned k, int size, const char *fill)
+{
+    const struct round *round = &m->r->round[k];
+    fit(m->out, LEGEND_X + 34, m->legend_y, size, fill, LEGEND_ROOM - 34, "round %u: vehicle %lu, load %ld of %ld", k + 1,
+        (unsigned long)round->id, round->load, round->capacity);
+}
+
 static void legend_of_round(struct map *m, unsigned k)
 {
     const struct round *round = &m->r->round[k];
-    m->legend_y += LINE;
-    fprintf(m->out, "<path d=\"M%d %dH%d\" stroke=\"%s\" stroke-width=\"5\" stroke-linecap=\"round\"/>\n", LEGEND_X + 3,
-            m->legend_y - 5, LEGEND_X + 23, colour_of(k));
-    fit(m->out, LEGEND_X + 34, m->legend_y, 15, INK, LEGEND_ROOM - 34, "round %u: vehicle %lu, load %ld of %ld", k + 1,
-        (unsigned long)round->id, round->load, round->capacity);
+    legend_stroke(m, colour_of(m->r, k));
+    legend_of_load(m, k, 15, INK);
     if (m->r->rounds > MOST_FULL)
         return;
     m->legend_y += LINE;
     fit(m->out, LEGEND_X + 34, m->legend_y, 13, FAINT_INK, LEGEND_ROOM - 34, "%u stop%s, distance %s, back at %s", round->stops,
         plural(round->stops), plain(round->distance), plain(round->returned));
     m->legend_y += GAP;
+}
+
+static void legend_of_rounds(struct map *m)
+{
+    unsigned told = m->r->rounds <= MOST_SHORT ? m->r->rounds : MOST_SHORT - 1;
+    for (unsigned k = 0; k < told; k++)
+        legend_of_round(m, k);
+    if (told < m->r->rounds)
+        letter(m->out, LEGEND_X + 34, m->legend_y += LINE, 15, FAINT_INK, "start", "and %u more, in the strips below",
+               m->r->rounds - told);
+}
+
+/* A crew, and its total where that is known. */
+static void legend_of_crew(struct map *m, unsigned crew)
+{
+    char total_text[40] = "";
+    uint64_t total;
+    unsigned rounds = rounds_of(&m->r->deal, crew, &total);
+    if (m->r->deal.walk.there)
+        snprintf(total_text, sizeof total_text, ", total %llu", (unsigned long long)total);
+    legend_stroke(m, colours[crew - 1]);
+    fit(m->out, LEGEND_X + 34, m->legend_y, 15, INK, LEGEND_ROOM - 34, "crew %u: %u round%s%s", crew, rounds, plural(rounds),
+        total_text);
+}
+
+/* With their rounds, where there is room for all. */
+static void legend_of_crews(struct map *m)
+{
+    int has_room = m->r->rounds + m->r->deal.crews <= MOST_WITH_CREWS;
+    for (unsigned crew = 1; crew <= m->r->deal.crews; crew++) {
+        legend_of_crew(m, crew);
+        for (unsigned k = 0; k < m->r->rounds && has_room; k++)
+            if (planner_deal_crew(m->r->deal.crew, k) == crew) {
+                m->legend_y += LINE;
+                legend_of_load(m, k, 13, FAINT_INK);
+            }
+        m->legend_y += GAP;
+    }
+    if (!has_room)
+        letter(m->out, LEGEND_X + 34, m->legend_y += LINE, 15, FAINT_INK, "start", "their rounds are in the strips below");
 }
 
 static int rests_home(const struct map *m)
@@ -309,7 +378,6 @@ static void legend_of_marks(struct map *m)
 static void legend(struct map *m)
 {
     unsigned stops = m->r->rows - depots_there(m->r);
-    unsigned told = m->r->rounds <= MOST_SHORT ? m->r->rounds : MOST_SHORT - 1;
     m->legend_y = LEGEND_TOP;
     letter(m->out, LEGEND_X, m->legend_y, 19, INK, "start", "%u round%s, method %s", m->r->rounds, plural(m->r->rounds),
            method_name(m->r->method));
@@ -317,11 +385,10 @@ static void legend(struct map *m)
     fit(m->out, LEGEND_X, m->legend_y, 14, FAINT_INK, LEGEND_ROOM, "%u stop%s, %u set aside, cost %s", stops, plural(stops),
         m->r->asides, plain(m->r->cost));
     m->legend_y += GAP;
-    for (unsigned k = 0; k < told; k++)
-        legend_of_round(m, k);
-    if (told < m->r->rounds)
-        letter(m->out, LEGEND_X + 34, m->legend_y += LINE, 15, FAINT_INK, "start", "and %u more, in the strips below",
-               m->r->rounds - told);
+    if (m->r->deal.crews > 0)
+        legend_of_crews(m);
+    else
+        legend_of_rounds(m);
     legend_of_marks(m);
 }
 
@@ -329,9 +396,16 @@ static int run_draw(const struct call *call)
 {
     static struct reading r;
     static struct map m;
+    uint32_t crews = 0, answer = PLANNER_ACCEPTED;
+    if (call->crews != NULL && read_crews(&crews, call->crews) != DONE)
+        return UNUSABLE;
     int status = take_reading(&r, call);
     if (status != DONE)
         return status;
+    if (call->crews != NULL)
+        answer = deal_plan(&r.deal, crews, &r.sheet, &r.plan);
+    if (answer != PLANNER_ACCEPTED)
+        return deal_refused(answer, crews, call->word[0], call->word[1]);
     m.out = open_out(call->out);
     if (m.out == NULL)
         return UNUSABLE;
@@ -354,7 +428,8 @@ static int run_draw(const struct call *call)
 }
 
 const struct command draw_command = {
-    "draw", "draw SHEET PLAN [-o SVG]", "draw a plan as a picture", 2, 2, 1, run_draw,
+    "draw", "draw SHEET PLAN [--crews N] [-o SVG]", "draw a plan as a picture", 2, 2,
+    TAKES_OUT | TAKES_CREWS, run_draw,
     "Reads a sheet and a plan of it and writes a picture (SVG), to standard output or to\n"
     "the SVG after -o: the rounds on a map, by the sheet's coordinates (marks that would\n"
     "cover each other are moved apart a little), and under it a\n"
@@ -363,5 +438,8 @@ const struct command draw_command = {
     "missed window, and a soft one that was late, is red. A tick through the bar is the\n"
     "due of the round's depot, red where the round is back after it. Then come the reasons\n"
     "for which stops are set aside, each with its stops. Stops and bars have titles.\n\n"
+    "With --crews N the rounds are dealt to N crews, 1 to 8, as `guchfenor deal` does; they\n"
+    "have the colours of their crews, stand crew by crew, and the legend has each crew's\n"
+    "total (with one depot).\n\n"
     "A plan whose counts, links or reasons do not fit the sheet is told and not drawn. One\n"
     "whose figures are not what the sheet gives is drawn, and told; the status is then 1.\n"};

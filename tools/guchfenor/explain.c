@@ -4,8 +4,9 @@
 #include "names.h"
 #include "numbers.h"
 
-/* A bill of every header's rounds and a plan out, for the library to answer with. */
-static uint8_t bill[PLANNER_BILL_BYTES(UINT16_MAX)], plan_out[PLANNER_PLAN_BYTES(PLANNER_MOST_ROWS)];
+/* A bill and a deal of every header's rounds and a plan out, for the library to answer with. */
+static uint8_t bill[PLANNER_BILL_BYTES(UINT16_MAX)], deal[PLANNER_DEAL_BYTES(UINT16_MAX)];
+static uint8_t plan_out[PLANNER_PLAN_BYTES(PLANNER_MOST_ROWS)];
 
 static int print_faults(const struct faults *faults, const char *sheet_name, const char *plan_name)
 {
@@ -110,7 +111,7 @@ static void print_sheet(const uint8_t *sheet)
 
 static int print_depots(const uint8_t *sheet)
 {
-    printf("refused 9: %s\n%u depots, which show, draw and bill take and limit does not\n",
+    printf("refused 9: %s\n%u depots, which show, draw, bill and deal take and limit does not\n",
            planner_refusal_text(PLANNER_SEVERAL_DEPOTS), planner_depots(sheet));
     return WRONG;
 }
@@ -124,12 +125,15 @@ static int explain_plan(const struct file *sheet, const struct file *plan)
                                   planner_bill_bytes(plan->bytes));
     if (refusal_of(&faults) != answer)
         return differs(plan->name, refusal_of(&faults), answer);
+    answer = deal_rounds(sheet->bytes, sheet->len, plan->bytes, plan->len, 1, deal, planner_deal_bytes(plan->bytes));
+    if (refusal_of(&faults) != answer)
+        return differs(plan->name, refusal_of(&faults), answer);
     unsigned here = planner_depots(sheet->bytes) > 1 ? PLANNER_SEVERAL_DEPOTS : refusal_of(&faults);
     answer = limit_rounds(sheet->bytes, sheet->len, plan->bytes, plan->len, UINT32_MAX, plan_out, PLANNER_PLAN_BYTES(rows));
     if (here != answer)
         return differs(plan->name, here, answer);
     if (planner_plan_rows(plan->bytes) != rows)
-        printf("note: the plan's header says %u rows and the sheet's %u; limit and bill do not read it, show and draw do\n",
+        printf("note: the plan's header says %u rows and the sheet's %u; limit, bill and deal do not read it, show and draw do\n",
                planner_plan_rows(plan->bytes), rows);
     if (faults.count > 0 && here == PLANNER_SEVERAL_DEPOTS)
         print_faults(&faults, sheet->name, plan->name);
@@ -137,7 +141,7 @@ static int explain_plan(const struct file *sheet, const struct file *plan)
         return print_depots(sheet->bytes);
     if (faults.count > 0)
         return print_faults(&faults, sheet->name, plan->name);
-    printf("the plan is one that limit and bill take: %u round%s\n", planner_plan_rounds(plan->bytes),
+    printf("the plan is one that limit, bill and deal take: %u round%s\n", planner_plan_rounds(plan->bytes),
            plural(planner_plan_rounds(plan->bytes)));
     return DONE;
 }
@@ -171,7 +175,7 @@ const struct command explain_command = {
     "explain", "explain SHEET [PLAN]", "say what is wrong with a sheet, or what it holds", 1, 2, 0, run_explain,
     "Reads a sheet and says on standard output whether the planner takes it: the number\n"
     "and sentence of the first refusal that holds, then byte, row, field and value of\n"
-    "what is wrong, or else what the sheet holds. With a PLAN it also says whether limit\n"
-    "and bill take that, as refusals 4, 9 (limit's alone) and 10 tell.\n\n"
+    "what is wrong, or else what the sheet holds. With a PLAN it also says whether limit,\n"
+    "bill and deal take that, as refusals 4, 9 (limit's alone) and 10 tell.\n\n"
     "It reads the bytes by code of its own and compares its answer with the planner's:\n"
     "should they differ, it says so loudly and ends with status 2.\n"};

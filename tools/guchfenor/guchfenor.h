@@ -23,23 +23,29 @@ enum {
 
 enum { MOST_WORDS = 5 };
 
-/* What a command was given: its words, and where -o sends what it makes (NULL: standard output). */
+/* What a command was given: its words, where -o sends what it makes (NULL: standard output), and what follows --crews (NULL:
+   it is not there). */
 struct call {
     const char *word[MOST_WORDS];
     int words;
-    const char *out;
+    const char *out, *crews;
+};
+
+enum {
+    TAKES_OUT = 1,  /* -o */
+    TAKES_CREWS = 2 /* --crews */
 };
 
 struct command {
     const char *name, *usage, *summary;
     int least, most; /* how many words it takes */
-    int writes;      /* whether it takes -o */
+    int options;     /* those that it takes */
     int (*run)(const struct call *call);
     const char *help;
 };
 
-extern const struct command plan_command, limit_command, show_command, draw_command, bill_command, explain_command,
-    make_command, text_command, import_command;
+extern const struct command plan_command, limit_command, show_command, draw_command, bill_command, deal_command,
+    explain_command, make_command, text_command, import_command;
 
 #ifdef __GNUC__
 #define LIKE_PRINTF(words, first) __attribute__((format(printf, words, first)))

@@ -30,7 +30,7 @@ static int run_import(const struct call *call)
 }
 
 const struct command import_command = {
-    "import", "import TEXT [-o SHEET]", "import a text in the form of Solomon's instances", 1, 1, 1, run_import,
+    "import", "import TEXT [-o SHEET]", "import a text in the form of Solomon's instances", 1, 1, TAKES_OUT, run_import,
     "Reads a text in the form in which Solomon's instances of 1987 are published and writes\n"
     "its sheet, to standard output or to SHEET.\n\n"
     "  BRICKWORKS                                   the name: the first line, whatever it holds\n"

@@ -1,13 +1,14 @@
 /*
- * guchfenor COMMAND ..: plans sheets, shows, draws and bills plans, explains refusals,
- * and makes sheets from text, and imports them. See guchfenor.h; outside the proof.
+ * guchfenor COMMAND ..: plans sheets, shows, draws and bills plans, deals them to crews,
+ * explains refusals, and makes sheets from text, and imports them. See guchfenor.h;
+ * outside the proof.
  */
 #include <string.h>
 
 #include "guchfenor.h"
 
-static const struct command *const commands[] = {&plan_command,    &limit_command, &show_command, &draw_command,  &bill_command,
-                                                 &explain_command, &make_command,  &text_command, &import_command};
+static const struct command *const commands[] = {&plan_command, &limit_command,   &show_command, &draw_command, &bill_command,
+                                                 &deal_command, &explain_command, &make_command, &text_command, &import_command};
 enum { COMMANDS = sizeof commands / sizeof *commands };
 
 static const struct command *find_command(const char *name)
@@ -22,14 +23,15 @@ static int overview(FILE *out)
 {
     fputs("usage: guchfenor COMMAND ..\n\n", out);
     for (int k = 0; k < COMMANDS; k++)
-        fprintf(out, "  %-36s %s\n", commands[k]->usage, commands[k]->summary);
-    fputs("  help [COMMAND]                       this, or what COMMAND --help says\n"
-          "  --version                            the version\n\n"
+        fprintf(out, "  %-37s %s\n", commands[k]->usage, commands[k]->summary);
+    fputs("  help [COMMAND]                        this, or what COMMAND --help says\n"
+          "  --version                             the version\n\n"
           "A file named - is standard input, or standard output after -o.\n"
           "Exit status: 0 done; 1 the planner refused, or what was read is not right;\n"
           "2 bad usage, or a file that cannot be read or written.\n\n"
           "This program is plain C outside the proof. What is proved is the library whose\n"
-          "plan_rounds, limit_rounds, bill_rounds, import_solomon and check_sheet it calls.\n",
+          "plan_rounds, limit_rounds, bill_rounds, deal_rounds, import_solomon and check_sheet\n"
+          "it calls.\n",
           out);
     return DONE;
 }
@@ -56,20 +58,28 @@ static int is_help(const char *word)
     return strcmp(word, "--help") == 0 || strcmp(word, "-h") == 0;
 }
 
+/* Where the word after an option goes, if the command takes that. */
+static const char **option_of(const struct command *command, struct call *call, const char *word)
+{
+    if (command->options & TAKES_OUT && strcmp(word, "-o") == 0)
+        return &call->out;
+    return command->options & TAKES_CREWS && strcmp(word, "--crews") == 0 ? &call->crews : NULL;
+}
+
 static int run_with(const struct command *command, int count, char **words)
 {
-    struct call call = {{NULL}, 0, NULL};
+    struct call call = {{NULL}, 0, NULL, NULL};
     int options = 1;
     for (int i = 0; i < count; i++) {
-        const char *word = words[i];
+        const char *word = words[i], **option = options ? option_of(command, &call, word) : NULL;
         if (options && is_help(word))
             return help_of(command);
         if (options && strcmp(word, "--") == 0)
             options = 0;
-        else if (options && command->writes && strcmp(word, "-o") == 0) {
+        else if (option != NULL) {
             if (++i == count)
-                return bad_use(command, "-o needs a file", "");
-            call.out = words[i];
+                return bad_use(command, word, option == &call.out ? " needs a file" : " needs a number");
+            *option = words[i];
         } else if (options && word[0] == '-' && word[1] != '\0')
             return bad_use(command, "no such option: ", word);
         else if (call.words == command->most)

@@ -545,7 +545,7 @@ static int run_make(const struct call *call)
 }
 
 const struct command make_command = {
-    "make", "make [TEXT] [-o SHEET]", "make a sheet from a text", 0, 1, 1, run_make,
+    "make", "make [TEXT] [-o SHEET]", "make a sheet from a text", 0, 1, TAKES_OUT, run_make,
     "Reads a text from TEXT or standard input and writes the sheet, to standard output or\n"
     "to SHEET. Each line is one of these; from a # on it is a comment.\n\n"
     "  method NAME          savings, insertion, nearest, nn_tw or sweep\n"

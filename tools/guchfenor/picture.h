@@ -17,8 +17,11 @@ enum {
 #define FAINTER_INK "#868e96"
 #define ALARM "#e03131"
 
-/* Rounds are counted from 0 here. */
-const char *colour_of(unsigned round);
+/* A round's own, or its crew's. Rounds are counted from 0 here. */
+const char *colour_of(const struct reading *reading, unsigned round);
+
+/* "crew 2" with something before and after it; nothing where the picture is not by crews. It lives until the next call. */
+const char *crew_words(const struct reading *reading, unsigned round, const char *before, const char *after);
 
 /* Text at a point: size, colour and anchor ("start", "middle" or "end"). */
 void letter(FILE *out, double x, double y, int size, const char *fill, const char *anchor, const char *format, ...)

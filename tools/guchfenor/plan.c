@@ -39,13 +39,13 @@ static int run_limit(const struct call *call)
 }
 
 const struct command plan_command = {
-    "plan", "plan SHEET [-o PLAN]", "plan the rounds of a sheet", 1, 1, 1, run_plan,
+    "plan", "plan SHEET [-o PLAN]", "plan the rounds of a sheet", 1, 1, TAKES_OUT, run_plan,
     "Reads a sheet and writes its plan, to standard output or to PLAN. The rounds are\n"
     "made by the method that the sheet names. A sheet that the planner turns back is\n"
     "told as `refused N: ..` on standard error, and nothing is written.\n"};
 
 const struct command limit_command = {
-    "limit", "limit N SHEET PLAN [-o PLAN]", "bring a plan within N rounds", 3, 3, 1, run_limit,
+    "limit", "limit N SHEET PLAN [-o PLAN]", "bring a plan within N rounds", 3, 3, TAKES_OUT, run_limit,
     "Reads a sheet of one depot and a plan of it, and writes a plan of at most N rounds,\n"
     "to standard output or to the PLAN after -o. While there are too many rounds, the\n"
     "one of least load is dropped and its stops go where they cost least; what fits\n"

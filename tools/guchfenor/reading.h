@@ -5,6 +5,7 @@
 #ifndef READING_H
 #define READING_H
 
+#include "deal.h"
 #include "files.h"
 #include "guchfenor.h"
 
@@ -41,6 +42,7 @@ struct reading {
     /* Per row: the round from 1 on, 0 for none, and its visit. */
     unsigned round_of[PLANNER_MOST_ROWS], visit_of[PLANNER_MOST_ROWS];
     unsigned strange; /* figures of the plan that are not what the sheet gives */
+    struct deal deal; /* where the picture is by crews, else of none */
 };
 
 /* Reads both files. DONE, or what is wrong was told. Where figures alone differ from what the sheet gives, that is told

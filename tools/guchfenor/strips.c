@@ -179,7 +179,7 @@ static void draw_bar(enum bar bar, double y, unsigned k, double from, double to,
     if (!(to > from) && bar != SERVICE)
         return;
     /* a service of no time is still a stop */
-    draw_box(bar, x, y, bar == SERVICE && width < 2 ? 2 : later(width, 0), colour_of(k));
+    draw_box(bar, x, y, bar == SERVICE && width < 2 ? 2 : later(width, 0), colour_of(strips.r, k));
     fprintf(strips.out, "><title>%s, %s to %s, %s %u</title></rect>\n", names[bar], plain(from), plain(to), what, stop);
 }
 
@@ -262,7 +262,7 @@ static void draw_windows(unsigned k, double top)
     const struct round *round = &strips.r->round[k];
     for (unsigned i = round->first; i < round->first + round->stops; i++)
         if (strips.r->visit[i].has_window)
-            draw_window(&strips.r->visit[i], top + LANE * strips.lane[i] + LANE / 2.0, colour_of(k));
+            draw_window(&strips.r->visit[i], top + LANE * strips.lane[i] + LANE / 2.0, colour_of(strips.r, k));
 }
 
 /* ---- when the depot closes */
@@ -289,14 +289,26 @@ static void draw_strip(unsigned k, int top)
     const struct round *round = &strips.r->round[k];
     double bars = top + (int)strips.lanes[k] * LANE + 2;
     fprintf(strips.out, "<path d=\"M20 %dv%d\" stroke=\"%s\" stroke-width=\"5\" stroke-linecap=\"round\"/>\n", top + 4, 24,
-            colour_of(k));
-    fit(strips.out, 32, top + 13, 13, INK, NAME_ROOM, "round %u: vehicle %lu", k + 1, (unsigned long)round->id);
+            colour_of(strips.r, k));
+    fit(strips.out, 32, top + 13, 13, INK, NAME_ROOM, "%sround %u: vehicle %lu", crew_words(strips.r, k, "", ", "), k + 1,
+        (unsigned long)round->id);
     fit(strips.out, 32, top + 29, 11, FAINT_INK, NAME_ROOM, "load %ld of %ld, back at %s", round->load, round->capacity,
         plain(round->returned));
     draw_windows(k, top);
     draw_bars(k, bars);
     draw_closing(round, bars);
     label_visits(k, bars);
+}
+
+/* Those of a crew, or of number 0 all: where the next strip stands. */
+static int draw_strips_of(unsigned crew, int top)
+{
+    for (unsigned k = 0; k < strips.r->rounds; k++)
+        if (crew == 0 || planner_deal_crew(strips.r->deal.crew, k) == crew) {
+            draw_strip(k, top);
+            top += strip_height(k);
+        }
+    return top;
 }
 
 static void draw_scale(int top, int bottom)
@@ -357,8 +369,6 @@ void draw_strips(FILE *out, const struct reading *r, int top)
         return;
     draw_key(top + 28);
     draw_scale(y - 8, bottom);
-    for (unsigned k = 0; k < r->rounds; k++) {
-        draw_strip(k, y);
-        y += strip_height(k);
-    }
+    for (unsigned crew = r->deal.crews > 0; crew <= r->deal.crews; crew++)
+        y = draw_strips_of(crew, y);
 }

@@ -104,7 +104,7 @@ static int run_text(const struct call *call)
 }
 
 const struct command text_command = {
-    "text", "text SHEET [-o TEXT]", "write a sheet as the text that make reads", 1, 1, 1, run_text,
+    "text", "text SHEET [-o TEXT]", "write a sheet as the text that make reads", 1, 1, TAKES_OUT, run_text,
     "Reads a sheet and writes it as a text, to standard output or to TEXT; `guchfenor make\n"
     "--help` describes it. Of every sheet that the planner takes, `guchfenor make` gives the\n"
     "same bytes again. A sheet that the planner turns back for a field (refusals 5 to 8) is\n"

@@ -8,6 +8,7 @@ ghost use Rattle.sheet.specs.Told.{told};
 ghost use Rattle.reason.specs.Reason.{reason_of};
 ghost use Rattle.solomon_import.specs.Import.{import_answer, ImportAnswered, ImportAccepted};
 ghost use Rattle.tariff_bill.specs.Bill.{BillAnswered, BillExact};
+ghost use Rattle.crews_deal.specs.Rounds.{DealAnswered, DealShared, DealEven, DealBounded};
 ghost use Rattle.planner.specs.Answer.{priced, plan_for, Answered, Once, Feasibly, Lawful, Alone, Closed};
 ghost use Rattle.planner.specs.Limited.{LimitAnswered, LimitOnce, LimitFew, LimitStood, LimitAside};
 ghost use Rattle.planner.specs.Reasoned.{Reasoned, LimitReasoned};
@@ -114,4 +115,14 @@ pub fn bill_rounds(
         least,
     };
     tariff_bill::bill(sheet, plan, rates, bill)
+}
+
+// Deals a plan's rounds to crews. A refusal leaves every byte of `deal` as it was.
+pub fn deal_rounds(sheet: &[u8], plan: &[u8], crews: u32, deal: &mut [u8]) -> Result<(), Refusal>
+    ensures deal_answered { DealAnswered sheet.now plan.now crews deal.old (told result) deal.new }
+    ensures deal_shared { DealShared sheet.now plan.now crews (told result) deal.new }
+    ensures deal_even { DealEven sheet.now plan.now crews (told result) deal.new }
+    ensures deal_bounded { DealBounded sheet.now plan.now crews (told result) deal.new }
+{
+    crews_deal::deal(sheet, plan, crews, deal)
 }

@@ -6,6 +6,7 @@ ghost use Rattle.std.specs.Prelude.{◌≡◌, ◌^◌, ◌<◌, IfOk};
 ghost use Rattle.sheet.specs.Refusal.{refusal_of};
 ghost use Rattle.solomon_import.specs.Import.{import_answer, ImportAnswered, ImportAccepted};
 ghost use Rattle.tariff_bill.specs.Bill.{BillAnswered, BillExact};
+ghost use Rattle.crews_deal.specs.Rounds.{DealAnswered, DealShared, DealEven, DealBounded};
 ghost use Rattle.planner.specs.Answer.{Answered, Once, Feasibly, Lawful, Alone, Closed};
 ghost use Rattle.planner.specs.Limited.{LimitAnswered, LimitOnce, LimitFew, LimitStood, LimitAside};
 ghost use Rattle.planner.specs.Reasoned.{Reasoned, LimitReasoned};
@@ -93,5 +94,17 @@ pub extern "C" fn bill_rounds(
     ensures bill_exact { BillExact sheet.now plan.now (record { distance = distance_rate; duration = duration_rate; least = least }) result bill.new }
 {
     let answer = planner::bill_rounds(sheet, plan, distance_rate, duration_rate, least, bill);
+    refusal::number(answer)
+}
+
+// Deals a plan's rounds to crews: 0 and the deal, or the number of the refusal and every byte of `deal` as it was.
+#[unsafe(no_mangle)]
+pub extern "C" fn deal_rounds(sheet: &[u8], plan: &[u8], crews: u32, deal: &mut [u8]) -> u32
+    ensures deal_answered { DealAnswered sheet.now plan.now crews deal.old result deal.new }
+    ensures deal_shared { DealShared sheet.now plan.now crews result deal.new }
+    ensures deal_even { DealEven sheet.now plan.now crews result deal.new }
+    ensures deal_bounded { DealBounded sheet.now plan.now crews result deal.new }
+{
+    let answer = planner::deal_rounds(sheet, plan, crews, deal);
     refusal::number(answer)
 }

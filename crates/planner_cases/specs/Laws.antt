@@ -1,6 +1,7 @@
 pub mod Refusals
 pub mod LimitRefusals
 pub mod Bills
+pub mod Deals
 pub mod Table
 pub mod WholeSheets
 pub mod Exact

@@ -1,6 +1,6 @@
 // Replays calls of the planner from standard input, and prints a line for the answer of each. A
 // record is a byte that says its kind, then what the kind's function reads (kinds.rt and the crate
-// `replay_plans`). One that is cut short, or has more bytes than there is room for, ends the run
+// `replay_plans` and `replay_deals`). One that is cut short, or has more bytes than there is room for, ends the run
 // with `cut`, and one of another kind with `unknown kind` and its byte.
 #![tactic(auto)]
 
@@ -19,6 +19,7 @@ fn replay_record<R: Read, W: Write>(input: &mut R, out: &mut W) -> Result<(), En
         2 => replay_plans::replay_limit(input, out),
         3 => kinds::replay_import(input, out),
         4 => replay_plans::replay_bill(input, out),
+        5 => replay_deals::replay_deal(input, out),
         other => Err(Ending::Unknown(other)),
     }
 }

@@ -1,7 +1,7 @@
 -- docs/SCOPE.md#refusals. Document 01, "Turned back": "Tested in this order (..). The number is the whole answer."
 use Rattle.std.specs.Prelude.{ℕ, Result, Ok, Err}
 use Rattle.sheet.specs.declared.refusal.Refusal.{Refusal}
-use Rattle.sheet.specs.declared.refusal.Refusal.TheVariants.{Header, Counts, Method, Lengths, Rows, Entries, Vehicles, Fleet, Depots, Plan, Text, TextRows, Rates}
+use Rattle.sheet.specs.declared.refusal.Refusal.TheVariants.{Header, Counts, Method, Lengths, Rows, Entries, Vehicles, Fleet, Depots, Plan, Text, TextRows, Rates, Crews}
 
 -- The conditions are definitions of their own (Refusal, and `plan_door`, `solomon_import` and `tariff_bill`).
 abbrev pub number_of : Refusal → ℕ
@@ -31,6 +31,8 @@ number_of Text = 11
 number_of TextRows = 12
 -- document 02: "13 for a rate or least charge above 1,000,000"
 number_of Rates = 13
+-- document 02: "14 for a crew count of 0 or above 8"
+number_of Crews = 14
 
 -- what a result tells: the number of its refusal, and 0 where nothing is refused
 abbrev pub told : {A : Type 0} → Result A Refusal → ℕ

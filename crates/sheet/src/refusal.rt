@@ -17,6 +17,7 @@ pub enum Refusal {
     Text = 11,
     TextRows = 12,
     Rates = 13,
+    Crews = 14,
 }
 
 impl From<Refusal> for u32 {

@@ -7,7 +7,7 @@
 use std::path::Path;
 use std::{fs, io};
 
-use crate::{freeze_bills, freeze_imports, freeze_limits, freeze_plans, freeze_refusals};
+use crate::{freeze_asked, freeze_imports, freeze_limits, freeze_plans, freeze_refusals};
 
 /// A call to keep.
 pub struct Kept {
@@ -22,12 +22,13 @@ pub struct Kept {
 type Sample = fn(u64) -> Vec<Kept>;
 
 /// The kinds of records, each at the place that its byte says.
-const KINDS: [(&str, Sample); 5] = [
+const KINDS: [(&str, Sample); 6] = [
     ("refusals", freeze_refusals::sample),
     ("plans", freeze_plans::sample),
     ("limited plans", freeze_limits::sample),
     ("imports", freeze_imports::sample),
-    ("bills", freeze_bills::sample),
+    ("bills", freeze_asked::bills),
+    ("deals", freeze_asked::deals),
 ];
 
 pub fn run(seed: u64, folder: &Path) -> io::Result<()> {

@@ -13,6 +13,7 @@
 //!     compare rests COUNT SEED       plans of COUNT sheets with such vehicles, and limited ones
 //!     compare imports COUNT SEED     the importer's sheets of COUNT texts, and of fixed ones
 //!     compare bills COUNT SEED       the bills of COUNT plans, and of all tiny ones
+//!     compare deals COUNT SEED       the deals of COUNT plans, and of all tiny ones
 //!     compare reasons COUNT SEED     the reasons in plans of COUNT sheets, and in limited and billed ones
 //!     compare roots COUNT SEED       the importer's square root on COUNT numbers
 //!     compare checked COUNT SEED     the checker of demand 3 on COUNT plans of the Rust's
@@ -22,6 +23,7 @@
 //!     compare bench plans ..         the planner against the Rust, in the same three ways
 //!     compare bench limits ..        the limiter against the Rust, likewise
 //!     compare bench bills ..         bills against this harness's over the Rust's figures, likewise
+//!     compare bench deals ..         deals against this harness's, likewise
 //!     compare bench imports          the importer beside the harness's own, timed
 //!     compare slowest METHOD SECONDS SEED FILE   a sheet that takes the planner long; for
 //!                                                METHOD `limiter`, a call of that
@@ -35,30 +37,33 @@
 
 mod angles;
 mod bench;
-mod bench_bills;
+mod bench_asked;
 mod bench_imports;
 mod bench_limits;
 mod bench_plans;
 mod bench_sides;
-mod bill_calls;
 mod bill_fits;
 mod bill_kinds;
-mod bill_refusals;
 mod billing;
 mod bills;
 mod checked;
 mod corners;
 mod cross;
 mod damage;
+mod deal_fits;
+mod deal_kinds;
+mod dealing;
+mod deals;
 mod due_corners;
 mod dues;
 mod example;
+mod figure_fits;
 mod fit;
 mod fit_reasons;
 mod fit_return;
 mod flavours;
 mod freeze;
-mod freeze_bills;
+mod freeze_asked;
 mod freeze_imports;
 mod freeze_limits;
 mod freeze_plans;
@@ -84,7 +89,10 @@ mod limits;
 mod listing;
 mod listings;
 mod plan;
+mod plan_answers;
+mod plan_calls;
 mod plan_damage;
+mod plan_refusals;
 mod planner;
 mod plans;
 mod points;
@@ -104,7 +112,9 @@ mod roots;
 mod rounds;
 mod sample;
 mod selftest;
+mod selftest_asked;
 mod selftest_bills;
+mod selftest_deals;
 mod selftest_imports;
 mod selftest_reasons;
 mod selftest_rests;
@@ -118,27 +128,33 @@ mod tiny_plans;
 mod trial;
 mod tried;
 mod vary;
+mod walked;
+mod walked_kinds;
 mod wrong_bills;
 mod wrong_copies;
+mod wrong_deals;
 mod wrong_reasons;
 mod wrong_rests;
+mod wrong_walks;
 
 use std::io;
 use std::path::Path;
 use std::process::ExitCode;
 
-use bench_bills::Billing;
+use bench_asked::Asking;
 use bench_limits::Limiting;
 use bench_plans::Planning;
+use billing::Tariff;
+use dealing::Crews;
 
 const USAGE: &str = "usage: compare selftest | refusals COUNT SEED | rounds COUNT SEED | \
                      plans COUNT SEED | plan NUMBER SEED | checked COUNT SEED | \
                      limits COUNT SEED | limit NUMBER SEED | dues COUNT SEED | \
                      rest_rounds COUNT SEED | rests COUNT SEED | \
-                     imports COUNT SEED | bills COUNT SEED | reasons COUNT SEED | \
-                     roots COUNT SEED | \
+                     imports COUNT SEED | bills COUNT SEED | deals COUNT SEED | \
+                     reasons COUNT SEED | roots COUNT SEED | \
                      listings PROGRAM COUNT SEED | \
-                     bench [plans | limits | bills] [instructions | SIDE CASE RUNS] | \
+                     bench [plans | limits | bills | deals] [instructions | SIDE CASE RUNS] | \
                      bench imports | \
                      freeze SEED DIR | example DIR | \
                      slowest METHOD SECONDS SEED FILE";
@@ -150,7 +166,8 @@ fn main() -> ExitCode {
         ["selftest"] => Some(selftest::run()),
         ["bench", "plans", ref words @ ..] => bench_sides::run::<Planning>(words),
         ["bench", "limits", ref words @ ..] => bench_sides::run::<Limiting>(words),
-        ["bench", "bills", ref words @ ..] => bench_sides::run::<Billing>(words),
+        ["bench", "bills", ref words @ ..] => bench_sides::run::<Asking<Tariff>>(words),
+        ["bench", "deals", ref words @ ..] => bench_sides::run::<Asking<Crews>>(words),
         ["bench", "imports"] => Some(bench_imports::run()),
         ["bench", ref words @ ..] => bench::run(words),
         ["slowest", method, seconds, seed, file] => slowest::run(method, seconds, seed, file),
@@ -164,7 +181,12 @@ fn main() -> ExitCode {
         ["rests", count, seed] => numbers(count, seed).map(|(c, s)| rests::run(c, s)),
         ["rest_rounds", count, seed] => numbers(count, seed).map(|(c, s)| rest_rounds::run(c, s)),
         ["imports", count, seed] => numbers(count, seed).map(|(c, s)| imports::run(c, s)),
-        ["bills", count, seed] => numbers(count, seed).map(|(c, s)| bills::run(c, s)),
+        ["bills", count, seed] => {
+            numbers(count, seed).map(|(c, s)| plan_answers::run::<Tariff>(c, s))
+        }
+        ["deals", count, seed] => {
+            numbers(count, seed).map(|(c, s)| plan_answers::run::<Crews>(c, s))
+        }
         ["reasons", count, seed] => numbers(count, seed).map(|(c, s)| reasons::run(c, s)),
         ["roots", count, seed] => numbers(count, seed).map(|(c, s)| roots::run(c, s)),
         ["listings", program, count, seed] => {

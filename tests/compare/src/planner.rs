@@ -1,6 +1,7 @@
 //! The planner's library and the probe's: the one place that calls them.
 
 use crate::billing::Tariff;
+use crate::dealing::Crews;
 
 /// Whether there is a planner, and a probe, to call.
 pub const PLANNER: bool = cfg!(planner);
@@ -31,6 +32,15 @@ extern "C" {
         least: u32,
         bill: *mut u8,
         bill_len: usize,
+    ) -> u32;
+    fn deal_rounds(
+        sheet: *const u8,
+        sheet_len: usize,
+        plan: *const u8,
+        plan_len: usize,
+        crews: u32,
+        deal: *mut u8,
+        deal_len: usize,
     ) -> u32;
 }
 
@@ -81,6 +91,17 @@ pub fn bill(sheet: &[u8], plan: &[u8], tariff: Tariff, bill: &mut [u8]) -> u32 {
     }
 }
 
+/// A plan's rounds dealt to crews, written into `deal`, and 0; or a refusal.
+#[cfg(planner)]
+pub fn deal(sheet: &[u8], plan: &[u8], crews: Crews, deal: &mut [u8]) -> u32 {
+    let (out, out_len) = (deal.as_mut_ptr(), deal.len());
+    // SAFETY: as above.
+    unsafe {
+        let (plan, len) = (plan.as_ptr(), plan.len());
+        deal_rounds(sheet.as_ptr(), sheet.len(), plan, len, crews.0, out, out_len)
+    }
+}
+
 #[cfg(not(planner))]
 pub fn check(_sheet: &[u8], _plan_len: usize) -> u32 {
     no_planner()
@@ -103,6 +124,11 @@ pub fn import(_text: &[u8], _sheet: &mut [u8]) -> i32 {
 
 #[cfg(not(planner))]
 pub fn bill(_sheet: &[u8], _plan: &[u8], _tariff: Tariff, _bill: &mut [u8]) -> u32 {
+    no_planner()
+}
+
+#[cfg(not(planner))]
+pub fn deal(_sheet: &[u8], _plan: &[u8], _crews: Crews, _deal: &mut [u8]) -> u32 {
     no_planner()
 }
 

@@ -3,13 +3,13 @@
 
 use std::ops::RangeInclusive;
 
-use crate::bill_calls;
-use crate::billing::{bill_len, Tariff};
+use crate::billing::Tariff;
 use crate::corners::{BILL, LIMITER};
 use crate::flavours::Drawn;
 use crate::limit_calls::{dealt, Call, PLANNED};
 use crate::plan::MOST_REASON;
 use crate::plan::{chains, encode_chains, put_reason, reason_of, without_reasons, Chains};
+use crate::plan_calls::{self, Asked};
 use crate::plan_damage::{damage_plan, fill_unread, OVER_REASON};
 use crate::random::Random;
 use crate::reasoning::DROPPED;
@@ -47,10 +47,10 @@ pub fn call_with_reasons(drawn: &Drawn, made: &[u8], seed: u64, number: usize) -
 }
 
 /// The bill of the plan in.
-pub fn billed(call: &Call) -> bill_calls::Call {
-    let (sheet, plan, bill_len) =
-        (call.sheet.clone(), call.plan_in.clone(), bill_len(&call.plan_in));
-    bill_calls::Call { flavour: bill_calls::PLANNED, sheet, plan, tariff: TARIFF, bill_len }
+pub fn billed(call: &Call) -> plan_calls::Call<Tariff> {
+    let (sheet, plan) = (call.sheet.clone(), call.plan_in.clone());
+    let len = Tariff::len_for(&plan);
+    plan_calls::Call { flavour: plan_calls::PLANNED, sheet, plan, asked: TARIFF, len }
 }
 
 /// The chains of a plan whose reasons may be wrong.

@@ -1,10 +1,11 @@
 //! What the reasons of a plan have met, told by the lone rounds of the stops that are set aside and by
 //! lone rounds that differ a little (set_aside.rs).
 
-use crate::bill_calls;
+use crate::billing::Tariff;
 use crate::corners::Corners;
 use crate::limit_calls::Call;
 use crate::plan::{chains, reason_of};
+use crate::plan_calls;
 use crate::reason_copies::{Copies, COPIES};
 use crate::reasoning::{reason, NO_VEHICLE, RULES};
 use crate::set_aside::*;
@@ -159,7 +160,7 @@ pub fn limited(call: &Call, right: &Result<Vec<u8>, u32>) -> Vec<bool> {
 }
 
 /// Of a call for a bill and its answer.
-pub fn billed(call: &bill_calls::Call, right: &Result<Vec<u8>, u32>) -> Vec<bool> {
+pub fn billed(call: &plan_calls::Call<Tariff>, right: &Result<Vec<u8>, u32>) -> Vec<bool> {
     copied(&Copies::billed(&Sheet::decode(&call.sheet), &call.plan, right))
 }
 

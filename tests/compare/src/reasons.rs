@@ -5,12 +5,14 @@
 
 use std::process::ExitCode;
 
-use crate::bill_calls;
+use crate::billing::Tariff;
 use crate::corners::{Tally, BILL, LIMITER};
 use crate::flavours::{drawn_with_reasons, Drawn};
 use crate::lawful_reasons::judge_plan;
 use crate::limit_calls::Call;
 use crate::plan::{chains, reason_of, Chains};
+use crate::plan_answers::{answer, apart, bytes, expected, show};
+use crate::plan_calls;
 use crate::reason_copies::{billed, call_with_reasons, Copies};
 use crate::reason_corners::{self, CORNERS};
 use crate::reference::plan;
@@ -19,7 +21,7 @@ use crate::set_aside::{set_aside, Aside};
 use crate::sheet::Sheet;
 use crate::wrong_copies::{self, told_by_limiter, told_by_refusal};
 use crate::wrong_reasons::{self, wrong_reason};
-use crate::{bills, limits, plans};
+use crate::{limits, plans};
 
 /// In a run of so many sheets every corner has to occur and every wrong reading to be told.
 const MANY: usize = 100_000;
@@ -66,7 +68,7 @@ pub fn limiter_call(drawn: &Drawn, seed: u64, number: usize) -> Option<Call> {
 }
 
 /// The call for a bill.
-pub fn bill_call(drawn: &Drawn, seed: u64, number: usize) -> bill_calls::Call {
+pub fn bill_call(drawn: &Drawn, seed: u64, number: usize) -> plan_calls::Call<Tariff> {
     billed(&call_with_reasons(drawn, &planned(drawn), seed, number))
 }
 
@@ -132,19 +134,14 @@ impl Stream {
         }
     }
 
-    fn try_bill(&mut self, call: &bill_calls::Call, sheet: &Sheet, number: usize) {
-        let (right, said) = (bills::bytes(&bills::expected(call)), bills::answer(call));
+    fn try_bill(&mut self, call: &plan_calls::Call<Tariff>, sheet: &Sheet, number: usize) {
+        let (right, said) = (bytes(call.asked, &expected(call)), answer(call));
         let copies = Copies::billed(sheet, &call.plan, &right);
         self.tally.count(BILL, reason_corners::copied(&copies));
         add(&mut self.bills, &told_by_refusal(&copies));
-        if let Some(what) = bills::apart(&said, &right) {
+        if let Some(what) = apart::<Tariff>(&said, &right) {
             if self.tally.is_shown(BILL) {
-                println!(
-                    "difference: {what}; {}",
-                    bills::about(call, self.tally.seed, Some(number))
-                );
-                println!("{}", bills::shown(call, "harness", &right));
-                println!("{}", bills::shown(call, "planner", &said));
+                show(&what, call, self.tally.seed, Some(number), [&right, &said]);
             }
         }
     }

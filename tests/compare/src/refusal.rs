@@ -1,7 +1,6 @@
 //! What is turned back (document 01, "Turned back"): the first line of its table that holds.
 
-use crate::billing::{bill_len, Tariff, MOST_CENTS};
-use crate::plan::{chains, plan_len, Chains};
+use crate::plan::{chains, plan_len, round_count, Chains};
 use crate::sheet::{Header, Row, Sheet, Vehicle, INSERTION, SAVINGS, SWEEP};
 use crate::sheet::{HEADER, HOME, MAX_DISTANCE, MAX_DURATION, PENALTY, REST, WINDOW};
 
@@ -91,20 +90,18 @@ pub fn limiter_accepted(
     Ok((sheet, chains))
 }
 
-/// Refusals 1 to 8, 10 and 13, for a bill of `len` bytes. It is made of a sheet of any method.
-pub fn bill_accepted(
+/// Refusals 1 to 8 and 10, and then one of its own, of a sheet of any method and a plan that something
+/// is asked of. The buffer's length fits the plan's number of rounds, or does not.
+pub fn plan_accepted(
     bytes: &[u8],
     plan: &[u8],
-    tariff: Tariff,
-    len: usize,
+    fits: impl Fn(usize) -> bool,
+    own: Option<u32>,
 ) -> Result<(Sheet, Chains), u32> {
-    let fits = |rows| plan.len() == plan_len(rows) && len == bill_len(plan);
+    let fits = |rows| plan.len() == plan_len(rows) && fits(round_count(plan));
     let sheet = accepted_with(METHODS, bytes, fits)?;
     let chains = chains(plan, &sheet).ok_or(10u32)?;
-    if tariff.amounts().iter().any(|&amount| amount > MOST_CENTS) {
-        return Err(13);
-    }
-    Ok((sheet, chains))
+    own.map_or(Ok((sheet, chains)), Err)
 }
 
 /// From 0 to `most`. NaN fails the comparison; the sign keeps out what is below, -0.0 too.

@@ -4,18 +4,19 @@ use std::fmt::Debug;
 use std::process::ExitCode;
 
 use crate::angles::{misordered, Direction};
-use crate::billing::bill_len;
 use crate::kinds::Seen;
 use crate::lawful::{judge, Claims};
 use crate::listing::listing;
-use crate::plan::{chains, encode_chains, plan_len, round_at, stop_at, Chains};
+use crate::plan::{chains, encode_chains, plan_len, round_at, round_count, stop_at, Chains};
 use crate::plans::{Exact, Expected};
 use crate::reference::{limit, plan, Problem};
 use crate::refusal::{accepted, limiter_accepted, refusal, METHODS, OFFERED};
+use crate::selftest_asked::refusals as asked_refusals;
+use crate::selftest_rests;
 use crate::sheet::{field, Row, Sheet, Vehicle};
 use crate::sheet::{DEPOT, INSERTION, MAX_DISTANCE, NEAREST, NN_TW, PENALTY, REST, SAVINGS};
 use crate::sheet::{SWEEP, WINDOW};
-use crate::{promises, selftest_bills, selftest_imports, selftest_reasons, selftest_rests};
+use crate::{promises, selftest_bills, selftest_deals, selftest_imports, selftest_reasons};
 
 const LISTING: &str = "\
 rounds 1 aside 0
@@ -59,6 +60,7 @@ pub fn run() -> ExitCode {
     selftest_imports::run(&mut tally);
     selftest_rests::run(&mut tally);
     selftest_bills::run(&mut tally);
+    selftest_deals::run(&mut tally);
     selftest_reasons::run(&mut tally);
     println!("selftest: {} run, {} failed", tally.run, tally.failed);
     ExitCode::from(u8::from(tally.failed > 0))
@@ -173,7 +175,7 @@ fn rests(tally: &mut Tally) {
     }
 }
 
-/// The examples of "Turned back" that planner, limiter and bill share.
+/// The examples of "Turned back" that planner, limiter, bill and deal share.
 fn turned_back(tally: &mut Tally) {
     let sheet = sheet_a(INSERTION);
     let mut early = with_due(3.0);
@@ -202,13 +204,13 @@ fn turned_back(tally: &mut Tally) {
     for (number, bytes) in examples {
         tally.expect("planner", planner_refusal(&bytes, plan_len(3)), number);
         tally.expect("limiter", limiter_refusal(&bytes, &round, plan_len(3)), number);
-        tally.expect("bill", selftest_bills::refusal(&bytes, &round, 16), number);
+        tally.expect("bill, deal", asked_refusals(&bytes, &round, 1), [number; 2]);
     }
     let bytes = sheet.encode();
     tally.expect("longer plan", planner_refusal(&bytes, plan_len(3) + 1), 4);
     tally.expect("longer plan out", limiter_refusal(&bytes, &round, plan_len(3) + 1), 4);
     tally.expect("no plan in", limiter_refusal(&bytes, &[], plan_len(3)), 4);
-    tally.expect("no plan", selftest_bills::refusal(&bytes, &[], 16), 4);
+    tally.expect("no plan", asked_refusals(&bytes, &[], 1), [4; 2]);
 }
 
 /// Methods that are not offered are refused as 3, and no others.
@@ -234,9 +236,9 @@ fn turned_back_by_limiter(tally: &mut Tally) {
     let round = planned(&sheet_a(SAVINGS));
     tally.expect("planner, 2 depots", planner_refusal(&depots, plan_len(3)), 0);
     tally.expect("limiter, 2 depots", limiter_refusal(&depots, &round, plan_len(3)), 9);
-    tally.expect("bill, a link to a depot", selftest_bills::refusal(&depots, &round, 16), 10);
+    tally.expect("bill, deal, a link to a depot", asked_refusals(&depots, &round, 1), [10; 2]);
     let lone = encode_chains(3, &Chains { rounds: vec![(7, vec![2])], aside: vec![] });
-    tally.expect("bill, 2 depots", selftest_bills::refusal(&depots, &lone, 16), 0);
+    tally.expect("bill, deal, 2 depots", asked_refusals(&depots, &lone, 1), [0; 2]);
     let next_of = |row| stop_at(3, row);
     let damages: [(&str, usize, u8); 7] = [
         ("next of 2 is 2", next_of(2), 2),
@@ -252,7 +254,7 @@ fn turned_back_by_limiter(tally: &mut Tally) {
         let mut plan = round.clone();
         plan[at] = value;
         tally.expect(name, limit(&bytes, &plan, 1), Err(10));
-        tally.expect(name, selftest_bills::refusal(&bytes, &plan, bill_len(&plan)), 10);
+        tally.expect(name, asked_refusals(&bytes, &plan, round_count(&plan)), [10; 2]);
     }
 }
 

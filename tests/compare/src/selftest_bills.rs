@@ -1,12 +1,13 @@
 //! Bills of document 02's request Five, worked out by hand.
 
-use crate::bill_calls::Call;
-use crate::billing::{begun, bill_len, encoded, Tariff};
-use crate::bills::{apart, expected};
-use crate::plan::{encode_chains, round_at, Chains};
-use crate::refusal::bill_accepted;
+use crate::billing::{encoded, Tariff};
+use crate::plan::{round_at, Chains};
+use crate::plan_answers::{self, expected, Answer};
+use crate::plan_calls::Call;
 use crate::selftest::{sheet_a, Tally};
-use crate::sheet::{Row, Sheet, Vehicle, DEPOT, HOME, MAX_DISTANCE, REST, SAVINGS, WINDOW};
+use crate::selftest_asked::{between, call, of_length, plan, rested};
+use crate::sheet::{Sheet, HOME, MAX_DISTANCE, REST, SAVINGS};
+use crate::walked::{begun, Walked};
 use crate::wrong_bills::{wrong_bill, Wrong};
 
 pub fn run(tally: &mut Tally) {
@@ -18,30 +19,13 @@ pub fn run(tally: &mut Tally) {
     told_apart(tally);
 }
 
-/// The answer for a bill of so many bytes, if it is a refusal.
-pub fn refusal(sheet: &[u8], plan: &[u8], len: usize) -> u32 {
-    bill_accepted(sheet, plan, tariff(7, 11, 0), len).err().unwrap_or(0)
-}
-
 fn tariff(distance_rate: u32, duration_rate: u32, least: u32) -> Tariff {
     Tariff { rates: [distance_rate, duration_rate], least }
 }
 
-/// Rounds of vehicle 7.
-fn plan(rounds: &[&[usize]], aside: &[usize]) -> Chains {
-    let rounds = rounds.iter().map(|stops| (7, stops.to_vec())).collect();
-    Chains { rounds, aside: aside.to_vec() }
-}
-
-fn call(sheet: &Sheet, chains: &Chains, tariff: Tariff) -> Call {
-    let plan = encode_chains(sheet.rows.len(), chains);
-    let bill_len = bill_len(&plan);
-    Call { flavour: 0, sheet: sheet.encode(), plan, tariff, bill_len }
-}
-
 /// A charge for each round and their sum, or a refusal.
-fn answer(call: &Call) -> Result<Vec<u64>, u32> {
-    expected(call).map(|billed| billed.bill())
+fn answer(call: &Call<Tariff>) -> Result<Vec<u64>, u32> {
+    expected(call).map(|walked| call.asked.bill(walked.routes()))
 }
 
 fn units(tally: &mut Tally) {
@@ -99,48 +83,10 @@ fn of_sheet_a(tally: &mut Tally) {
     tally.expect("no row", answer(&call), Ok(vec![0]));
 }
 
-/// Sheet A with a leg from stop 2 home that makes the round 1, 2 so long, and at times others.
-fn of_length(length: f64, duration: Option<f64>) -> Sheet {
-    let mut sheet = sheet_a(SAVINGS);
-    sheet.distances[6] = length - 14.0;
-    sheet.times = duration.map(|duration| {
-        let mut times = sheet.distances.clone();
-        times[6] = duration - 14.0;
-        times
-    });
-    sheet
-}
-
 fn over_limit() -> Sheet {
     let mut sheet = of_length(2000.0, None);
     sheet.vehicles[0].marks = MAX_DISTANCE;
     sheet
-}
-
-/// One stop, 10 out and 10 home, and a rest of so long from 15 to 20.
-fn rested(marks: u32, due: f64, rest: f64, home_due: f64) -> Sheet {
-    let row = |marks, due| Row { marks, due, ..Row::default() };
-    let vehicle = Vehicle { id: 7, marks, earliest: 15.0, latest: 20.0, ..Vehicle::default() };
-    Sheet {
-        method: SAVINGS,
-        rows: vec![row(DEPOT | WINDOW, home_due), row(WINDOW, due)],
-        vehicles: vec![Vehicle { rest_duration: rest, ..vehicle }],
-        distances: vec![0.0, 10.0, 10.0, 0.0],
-        times: None,
-    }
-}
-
-/// Two depots, of vehicles 6 and 7, and a stop at 10 and 600 from them.
-fn between() -> Sheet {
-    let vehicle = |id, depot| Vehicle { id, depot, ..Vehicle::default() };
-    let row = |marks| Row { marks, ..Row::default() };
-    Sheet {
-        method: SAVINGS,
-        rows: vec![row(DEPOT), row(DEPOT), row(0)],
-        vehicles: vec![vehicle(6, 0), vehicle(7, 1)],
-        distances: vec![0.0, 0.0, 10.0, 0.0, 0.0, 600.0, 10.0, 600.0, 0.0],
-        times: None,
-    }
 }
 
 fn of_other_sheets(tally: &mut Tally) {
@@ -172,40 +118,44 @@ fn of_other_sheets(tally: &mut Tally) {
 fn turned_back(tally: &mut Tally) {
     let right = call(&sheet_a(SAVINGS), &plan(&[&[1, 2]], &[]), tariff(7, 11, 0));
     for len in [0, 8, 15, 17, 24] {
-        let short = Call { bill_len: len, ..right.clone() };
+        let short = Call { len, ..right.clone() };
         tally.expect("a bill of another length", answer(&short).err(), Some(4));
     }
     for len in [0, 1] {
-        let short = Call { plan: vec![0; len], bill_len: 8, ..right.clone() };
+        let short = Call { plan: vec![0; len], len: 8, ..right.clone() };
         tally.expect("a plan of no number", answer(&short).err(), Some(4));
     }
     let mut many = right.clone();
     many.plan[0] = 4;
     for (len, want) in [(16, 4), (32, 4), (40, 10)] {
-        let many = Call { bill_len: len, ..many.clone() };
+        let many = Call { len, ..many.clone() };
         tally.expect("more rounds than rows", answer(&many).err(), Some(want));
     }
     let over = 1_000_001;
     for dear in [tariff(over, 0, 0), tariff(0, over, 0), tariff(0, 0, over)] {
-        let mut dear = Call { tariff: dear, ..right.clone() };
+        let mut dear = Call { asked: dear, ..right.clone() };
         tally.expect("an amount out of range", answer(&dear).err(), Some(13));
         dear.plan[round_at(0)] = 8;
         tally.expect("such, and an unknown id", answer(&dear).err(), Some(10));
         dear.sheet[16 + 12] = 8;
         tally.expect("such, and a row's mark 8", answer(&dear).err(), Some(5));
-        dear.bill_len = 17;
+        dear.len = 17;
         tally.expect("such, and a longer bill", answer(&dear).err(), Some(4));
         dear.sheet[4] = 5;
         tally.expect("such, and method 5", answer(&dear).err(), Some(3));
     }
 }
 
+fn walked(call: &Call<Tariff>) -> Walked {
+    expected(call).unwrap_or_else(|number| panic!("refused {number}"))
+}
+
 /// Wrong readings of two rounds, the second of them empty.
 fn misread(tally: &mut Tally) {
     let sheet = of_length(1000.0, None);
     let right = call(&sheet, &plan(&[&[1, 2], &[]], &[]), tariff(7, 11, 40));
-    let billed = expected(&right).unwrap_or_else(|number| panic!("refused {number}"));
-    tally.expect("the right bill", billed.bill(), vec![40, 0, 40]);
+    let walked = walked(&right);
+    tally.expect("the right bill", right.asked.bill(walked.routes()), vec![40, 0, 40]);
     let cases: [(Wrong, &[u64]); 5] = [
         (Wrong::LeastOnce, &[29, 0, 40]),
         (Wrong::LeastAdded, &[69, 0, 69]),
@@ -214,10 +164,11 @@ fn misread(tally: &mut Tally) {
         (Wrong::SumShort, &[40, 0, 40]),
     ];
     for (wrong, want) in cases {
-        tally.expect("a wrong reading", wrong_bill(&billed, wrong), want.to_vec());
+        let misread = wrong_bill(&walked, right.asked, wrong);
+        tally.expect("a wrong reading", misread, want.to_vec());
     }
     let lone = call(&sheet, &plan(&[&[1, 2]], &[]), tariff(7, 11, 0));
-    let billed = expected(&lone).unwrap_or_else(|number| panic!("refused {number}"));
+    let walked = self::walked(&lone);
     let cases: [(Wrong, u64, u64); 5] = [
         (Wrong::Floor, 7 + 11, 18),
         (Wrong::Exclusive, 2 * 7 + 2 * 11, 36),
@@ -226,14 +177,15 @@ fn misread(tally: &mut Tally) {
         (Wrong::SumShort, 7 + 2 * 11, 0),
     ];
     for (wrong, charge, sum) in cases {
-        tally.expect("a wrong reading", wrong_bill(&billed, wrong), vec![charge, sum]);
+        let misread = wrong_bill(&walked, lone.asked, wrong);
+        tally.expect("a wrong reading", misread, vec![charge, sum]);
     }
 }
 
 /// That answers are told from each other.
 fn told_apart(tally: &mut Tally) {
     let right = Ok(encoded(&[18, 18, 36]));
-    let apart = |said: Result<Vec<u8>, u32>| apart(&said, &right);
+    let apart = |said: Answer| plan_answers::apart::<Tariff>(&said, &right);
     tally.expect("the same", apart(right.clone()), None);
     let other = |bill: &[u64]| apart(Ok(encoded(bill)));
     tally.expect("a cent", other(&[18, 19, 36]), Some("another charge of round 2".into()));

@@ -1,13 +1,12 @@
 //! Examples of document 02's request Six: why a stop is set aside.
 
-use crate::billing::bill_len;
 use crate::lawful::Claims;
 use crate::lawful_reasons::judge_plan;
-use crate::plan::{encode_chains, put_reason, reasons, Chains};
+use crate::plan::{encode_chains, put_reason, reasons, round_count, Chains};
 use crate::reference::{limit, plan};
 use crate::refusal::METHODS;
 use crate::selftest::{sheet_a, Tally};
-use crate::selftest_bills;
+use crate::selftest_asked::refusals;
 use crate::sheet::{
     Row, Sheet, Vehicle, DEPOT, HOME, INSERTION, MAX_DISTANCE, MAX_DURATION, NEAREST,
 };
@@ -238,7 +237,7 @@ fn turned_back(tally: &mut Tally) {
     for (reason, number) in [(0, 0), (8, 0), (9, 10), (256, 10), (264, 10), (65535, 10)] {
         let plan = given(0, reason);
         tally.expect("limited", limit(&sheet, &plan, 1).err().unwrap_or(0), number);
-        let billed = selftest_bills::refusal(&sheet, &plan, bill_len(&plan));
-        tally.expect("billed", billed, number);
+        let asked = refusals(&sheet, &plan, round_count(&plan));
+        tally.expect("billed, dealt", asked, [number; 2]);
     }
 }

@@ -2,9 +2,9 @@
 
 use u_routing::models::Route;
 
-use crate::billing::{begun, figures, with_sum, Billed, Tariff, UNITS};
-use crate::cross::unmarked;
-use crate::sheet::{Sheet, HOME, REST, WINDOW};
+use crate::billing::{with_sum, Tariff, UNITS};
+use crate::walked::{begun, figures, Walked};
+use crate::wrong_walks::{walked_otherwise, WrongWalk};
 
 #[derive(Clone, Copy, PartialEq)]
 pub enum Wrong {
@@ -20,11 +20,7 @@ pub enum Wrong {
     EmptyCharged,
     SumShort,
     Narrow,
-    FirstVehicle,
-    FirstDepot,
-    NoRest,
-    NoRestAtHome,
-    NoDue,
+    Walk(WrongWalk),
 }
 
 pub const WRONG: [(Wrong, &str); 17] = [
@@ -40,19 +36,19 @@ pub const WRONG: [(Wrong, &str); 17] = [
     (Wrong::EmptyCharged, "an empty round charged"),
     (Wrong::SumShort, "the sum without the last round"),
     (Wrong::Narrow, "charges of 32 bits"),
-    (Wrong::FirstVehicle, "all rounds of the first vehicle"),
-    (Wrong::FirstDepot, "all rounds from row 0"),
-    (Wrong::NoRest, "no rest"),
-    (Wrong::NoRestAtHome, "no rest at home"),
-    (Wrong::NoDue, "a rest at home past the depot's due"),
+    (Wrong::Walk(WrongWalk::FirstVehicle), "all rounds of the first vehicle"),
+    (Wrong::Walk(WrongWalk::FirstDepot), "all rounds from row 0"),
+    (Wrong::Walk(WrongWalk::NoRest), "no rest"),
+    (Wrong::Walk(WrongWalk::NoRestAtHome), "no rest at home"),
+    (Wrong::Walk(WrongWalk::NoDue), "a rest at home past the depot's due"),
 ];
 
-pub fn wrong_bill(right: &Billed, wrong: Wrong) -> Vec<u64> {
-    if let Some(other) = walked_otherwise(right, wrong) {
-        return other.bill();
+pub fn wrong_bill(right: &Walked, tariff: Tariff, wrong: Wrong) -> Vec<u64> {
+    if let Wrong::Walk(wrong) = wrong {
+        let other = walked_otherwise(right, wrong);
+        return tariff.bill(other.as_ref().unwrap_or(right).routes());
     }
-    let Billed { tariff, solution, .. } = right;
-    let charges = || solution.routes().iter().map(|route| charge(*tariff, route, wrong));
+    let charges = || right.routes().iter().map(|route| charge(tariff, route, wrong));
     let mut bill = with_sum(charges().collect());
     let sum = bill.last_mut().expect("a bill has a sum");
     match wrong {
@@ -61,33 +57,6 @@ pub fn wrong_bill(right: &Billed, wrong: Wrong) -> Vec<u64> {
         _ => (),
     }
     bill
-}
-
-/// The bill of other rounds or of another sheet, where that is how it is misread.
-fn walked_otherwise(right: &Billed, wrong: Wrong) -> Option<Billed> {
-    let (mut sheet, mut chains) = (right.sheet.clone(), right.chains.clone());
-    let (depots, has_home) = (sheet.depots(), has_mark(&sheet, HOME));
-    match wrong {
-        Wrong::FirstVehicle if sheet.vehicles.len() > 1 => {
-            chains.rounds.iter_mut().for_each(|(id, _)| *id = sheet.vehicles[0].id);
-        }
-        Wrong::FirstDepot if depots > 1 => {
-            sheet.vehicles.iter_mut().for_each(|vehicle| vehicle.depot = 0);
-        }
-        Wrong::NoRest if has_mark(&sheet, REST) => {
-            sheet.vehicles.iter_mut().for_each(|vehicle| vehicle.marks &= !(REST | HOME));
-        }
-        Wrong::NoRestAtHome if has_home => sheet = unmarked(&sheet),
-        Wrong::NoDue if has_home => {
-            sheet.rows.iter_mut().take(depots).for_each(|row| row.marks &= !WINDOW);
-        }
-        _ => return None,
-    }
-    Some(Billed::new(sheet, chains, right.tariff))
-}
-
-fn has_mark(sheet: &Sheet, mark: u32) -> bool {
-    sheet.vehicles.iter().any(|vehicle| vehicle.marks & mark != 0)
 }
 
 fn charge(tariff: Tariff, route: &Route, wrong: Wrong) -> u64 {

@@ -1,10 +1,10 @@
 -- What is so of a sheet and a plan that the door lets in, and when the further buffer does not count. Assumes nothing.
 use Rattle.std.specs.Prelude.{◌≡◌, Bool, not, ◌&&◌, ◌||◌, List, length}
 use Rattle.std.proofs.Math.Path.{refl}
-use Rattle.std.proofs.Common.{sym, arith, true≢false, leb-true}
-use Prim.Native.Nat.{ℕ, zero, suc}
+use Rattle.std.proofs.Common.{sym, arith, true≢false, leb-true, eqb-true, eqb}
+use Prim.Native.Nat.{ℕ, zero, suc, ◌≤◌}
 use Rattle.std.proofs.Math.Bool.{true, false}
-use Rattle.sheet.specs.Fields.{plan_length}
+use Rattle.sheet.specs.Fields.{sheet_length, plan_length}
 use Rattle.sheet.specs.Depots.{depots_of}
 use Rattle.sheet.specs.Refusal.{header_right, counts_right, method_right, lengths_right, unless, contents, refusal_of}
 use Rattle.sheet.specs.Accepted.{Accepted}
@@ -22,6 +22,20 @@ door_room s plan a b one = go (lengths_right s (length plan))
         ≡ or_else (unless (header_right s) 1 (unless (counts_right s) 2 (unless (method_right s) 3 (unless (d && b) 4 (or_else (contents s) (unless (not one || one_depot s) 9 0)))))) (unless (plan_taken s plan) 10 0)
     go true h = rw (h refl)
     go false h = refl
+
+-- a plan of its length has a count of rounds
+counted : (s : List ℕ) (m : ℕ) → lengths_right s m ≡ true → 2 ≤ m
+unfolding lengths_right
+counted s m e = go (eqb (length s) (sheet_length s)) (eqb m (plan_length s)) refl e
+  where
+    go : (a b : Bool) → eqb m (plan_length s) ≡ b → a && b ≡ true → 2 ≤ m
+    go false b f g = absurd (true≢false (sym g))
+    go true false f g = absurd (true≢false (sym g))
+    go true true f g = omega (arith, eqb-true m (plan_length s) f)
+
+-- so a further buffer whose length goes by that count is looked at only where there is one
+pub door_counted : (s plan : List ℕ) (a b one : Bool) → (2 ≤ length plan → a ≡ b) → door_refusal s plan a one ≡ door_refusal s plan b one
+door_counted s plan a b one h = door_room s plan a b one (λ e. h (counted s (length plan) e))
 
 -- nothing is told
 pub record Open (s : List ℕ) (m : ℕ) (room one : Bool) : Type 0 where

@@ -1,57 +1,23 @@
 -- A plan that `plan_rounds` or `limit_rounds` wrote is never refused for the plan when it is billed. Assumes nothing.
-use Rattle.std.specs.Prelude.{◌≡◌, Bool, ◌&&◌, List, T, get_or}
-use Rattle.std.proofs.Math.Path.{refl, sym}
-use Rattle.std.proofs.Common.{◌∙◌, true≢false}
-use Prim.Native.Nat.{ℕ, zero, suc, ◌+◌, ◌*◌, ◌<◌}
-use Rattle.std.proofs.Math.Bool.{true, false}
-use Rattle.std.proofs.Math.Dec.{eqb}
-use Rattle.std.proofs.Math.ListN.{length}
-use borrow.Author.Tests.{eqb-true, eq-eqb}
-use Rattle.sheet.specs.Fields.{sheet_length, plan_length}
-use Rattle.sheet.specs.Refusal.{unless, lengths_right, refusal_of}
-use Rattle.sheet.specs.Laws.Accepted.{accepted, not_refused}
+use Rattle.std.specs.Prelude.{◌≡◌, refl, ℕ, ◌+◌, ◌*◌, ◌<◌, true, false, List, length, get_or}
+use Rattle.std.proofs.Common.{eq-eqb}
+use Rattle.sheet.specs.Refusal.{unless}
 use Rattle.plan.specs.Read.{rounds_at}
-use Rattle.plan_door.specs.Door.{plan_taken, door_refusal}
-use Rattle.plan_door.specs.Laws.Door.{open_door, door_fits, door_accepted}
+use Rattle.plan_door.specs.Door.{door_refusal}
 use Rattle.tariff.specs.declared.Rates.{Rates}
 use Rattle.tariff.specs.Charge.{rates_right}
 use Rattle.tariff_bill.specs.Bill.{bill_room, bill_refusal}
-use Rattle.planner_limiting.specs.Limiting.{limit_refusal}
-use Rattle.planner.specs.Answer.{answer_number, Answered}
-use Rattle.planner.specs.Limited.{limit_told, limit_answer, LimitAnswered, LimitOnce}
-use Rattle.planner.specs.Laws.Promised.{number_is, bytes_are, stands}
+use Rattle.planner.specs.Answer.{Answered}
+use Rattle.planner.specs.Limited.{LimitAnswered, LimitOnce}
+use Rattle.planner.specs.Laws.Opened.{planned_opened, limited_opened}
 
--- a right plan of its length, billed into a buffer of the length that it asks for
-right-billed : (s plan : List ℕ) (t : Rates) → refusal_of s (length plan) ≡ 0 → T (plan_taken s plan) → bill_refusal s plan t (8 * (rounds_at plan + 1)) ≡ unless (rates_right t) 13 0
+-- billed into a buffer of the length that it asks for, what is refused of it is a rate
+opened_billed : (s plan : List ℕ) (t : Rates) → door_refusal s plan true false ≡ 0 → bill_refusal s plan t (8 * (rounds_at plan + 1)) ≡ unless (rates_right t) 13 0
 unfolding bill_refusal bill_room
-right-billed s plan t free right = rw (eq-eqb (8 * (rounds_at plan + 1)) (8 * (rounds_at plan + 1)) refl) (rw (open_door s plan false free refl (holds (plan_taken s plan) right)) refl)
-  where
-    holds : (b : Bool) → T b → b ≡ true
-    holds true h = refl
-    holds false h = absurd h
+opened_billed s plan t free = rw (eq-eqb (8 * (rounds_at plan + 1)) (8 * (rounds_at plan + 1)) refl) (rw free refl)
 
--- what is refused of it then is a rate
 pub planned_billed : (s lent plan : List ℕ) → ((i : ℕ) → get_or s i 0 < 256) → Answered s lent 0 plan → length plan ≡ length lent → (t : Rates) → bill_refusal s plan t (8 * (rounds_at plan + 1)) ≡ unless (rates_right t) 13 0
-planned_billed s lent plan small a same t =
-    let free : refusal_of s (length lent) ≡ 0 = sym (number_is s (length lent)) ∙ sym a.number in
-    right-billed s plan t (rw same free) (rw (bytes_are s lent 0 plan a refl) (stands s (accepted s (length lent) free).0 small).right)
+planned_billed s lent plan small a same t = opened_billed s plan t (planned_opened s lent plan small a same)
 
-module _ (s plan lent out : List ℕ) (greatest : ℕ) (a : LimitAnswered s plan greatest lent 0 out) where
-  let_in : door_refusal s plan (lengths_right s (length lent)) true ≡ 0
-  unfolding limit_answer limit_refusal
-  let_in = go (limit_refusal s plan (length lent)) a.number
-    where
-      go : (n : ℕ) → 0 ≡ answer_number (limit_told n s plan greatest) → n ≡ 0
-      go zero e = refl
-      go (suc n) e = sym e
-
-  room : length lent ≡ plan_length s
-  unfolding lengths_right
-  room = go (eqb (length s) (sheet_length s)) (door_fits s plan (lengths_right s (length lent)) true let_in)
-    where
-      go : (b : Bool) → b && eqb (length lent) (plan_length s) ≡ true → length lent ≡ plan_length s
-      go true e = eqb-true (length lent) (plan_length s) e
-      go false e = absurd (true≢false (sym e))
-
-  pub limited_billed : LimitOnce s 0 out → length out ≡ length lent → (t : Rates) → bill_refusal s out t (8 * (rounds_at out + 1)) ≡ unless (rates_right t) 13 0
-  limited_billed once same t = right-billed s out t (rw (same ∙ room) (not_refused s (door_accepted s plan (lengths_right s (length lent)) true let_in).0)) (once refl).right
+pub limited_billed : (s plan lent out : List ℕ) (greatest : ℕ) → LimitAnswered s plan greatest lent 0 out → LimitOnce s 0 out → length out ≡ length lent → (t : Rates) → bill_refusal s out t (8 * (rounds_at out + 1)) ≡ unless (rates_right t) 13 0
+limited_billed s plan lent out greatest a once same t = opened_billed s out t (limited_opened s plan lent out greatest a once same)

@@ -2,7 +2,7 @@
 use Rattle.std.specs.Prelude.{◌≡◌, ◌<◌}
 use Rattle.std.proofs.Common.{arith}
 use Rattle.sheet.specs.declared.refusal.Refusal.{Refusal}
-use Rattle.sheet.specs.declared.refusal.Refusal.TheVariants.{Header, Counts, Method, Lengths, Rows, Entries, Vehicles, Fleet, Depots, Plan, Text, TextRows, Rates}
+use Rattle.sheet.specs.declared.refusal.Refusal.TheVariants.{Header, Counts, Method, Lengths, Rows, Entries, Vehicles, Fleet, Depots, Plan, Text, TextRows, Rates, Crews}
 use Rattle.sheet.specs.Told.{number_of}
 
 pub number_positive : (refusal : Refusal) → 0 < number_of refusal
@@ -19,6 +19,7 @@ number_positive Plan = omega arith
 number_positive Text = omega arith
 number_positive TextRows = omega arith
 number_positive Rates = omega arith
+number_positive Crews = omega arith
 
 pub told_some : (refusal : Refusal) → number_of refusal ≡ 0 → ⊥
 told_some refusal e = omega (arith, number_positive refusal, e)

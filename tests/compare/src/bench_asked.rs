@@ -1,7 +1,7 @@
-//! `compare bench bills`: bills against this harness's own over the Rust's figures, in one process on
-//! the same plans of 101 rows.
+//! `compare bench bills` and `compare bench deals`: against this harness's own over the Rust's figures, in
+//! one process on the same plans of 101 rows.
 //!
-//! Both go from the bytes of sheet and plan to those of the bill; `build_route` alone, of all rounds
+//! Both go from the bytes of sheet and plan to those of the answer; `build_route` alone, of all rounds
 //! in the Rust's own types, is shown besides.
 
 use u_routing::models::Route;
@@ -9,18 +9,30 @@ use u_routing::models::Route;
 use crate::bench_limits::shared_out;
 use crate::bench_plans::{self, sheet, CAPACITIES, FEATURES, LEGS};
 use crate::bench_sides::{Drive, Side};
-use crate::billing::{bill_len, encoded, with_sum, Tariff};
+use crate::billing::Tariff;
+use crate::dealing::Crews;
 use crate::fit::Round;
 use crate::limiting::rounds;
 use crate::plan::encode_chains;
-use crate::planner;
+use crate::plan_answers::Answered;
 use crate::reference::Problem;
-use crate::refusal::bill_accepted;
 use crate::sheet::NEAREST;
 
 const ROWS: usize = 101;
 const ROUNDS: [usize; 4] = [100, 20, 4, 1];
-const TARIFF: Tariff = Tariff { rates: [7, 11], least: 20 };
+
+/// What is asked when it is timed.
+pub trait Timed: Answered {
+    const ASKED: Self;
+}
+
+impl Timed for Tariff {
+    const ASKED: Tariff = Tariff { rates: [7, 11], least: 20 };
+}
+
+impl Timed for Crews {
+    const ASKED: Crews = Crews(8);
+}
 
 #[derive(Clone, Copy)]
 pub struct Case {
@@ -28,17 +40,18 @@ pub struct Case {
     feature: &'static str,
 }
 
-pub struct Billing {
+pub struct Asking<A> {
+    asked: A,
     sheet: Vec<u8>,
     plan: Vec<u8>,
-    bill: Vec<u8>,
+    buffer: Vec<u8>,
     problem: Problem,
     rounds: Vec<Round>,
 }
 
-impl Drive for Billing {
+impl<A: Timed> Drive for Asking<A> {
     type Case = Case;
-    const NAME: &'static str = "bills";
+    const NAME: &'static str = A::NAME;
     const CORE: &'static str = "build_route";
     const HEAD: &'static str = "rounds | ";
 
@@ -51,37 +64,37 @@ impl Drive for Billing {
         format!("{} | {}", case.rounds, case.feature)
     }
 
-    fn new(case: Case) -> Billing {
+    fn new(case: Case) -> Asking<A> {
         let (rows, capacity, legs) = (ROWS, CAPACITIES[0], LEGS[0]);
         let Case { rounds: count, feature } = case;
         let method = NEAREST;
         let sheet = sheet(bench_plans::Case { method, rows, depots: 1, capacity, legs, feature });
         let (problem, chains) = (Problem::held(&sheet), shared_out(&sheet, count));
         let plan = encode_chains(rows, &chains);
-        let bill = vec![0; bill_len(&plan)];
-        let rounds = rounds(&problem, &chains);
-        let mut drive = Billing { sheet: sheet.encode(), plan, bill, problem, rounds };
+        let buffer = vec![0; A::len_for(&plan)];
+        let (asked, rounds) = (A::ASKED, rounds(&problem, &chains));
+        let mut drive = Asking { asked, sheet: sheet.encode(), plan, buffer, problem, rounds };
         drive.drive(Side::Port);
-        assert!(drive.bill == drive.billed(), "the bill is the harness's");
+        assert!(drive.buffer == drive.answered(), "the answer is the harness's");
         drive
     }
 
     fn drive(&mut self, side: Side) -> usize {
         match side {
-            Side::Port => planner::bill(&self.sheet, &self.plan, TARIFF, &mut self.bill) as usize,
-            Side::Rust => self.billed().len(),
+            Side::Port => self.asked.ask(&self.sheet, &self.plan, &mut self.buffer) as usize,
+            Side::Rust => self.answered().len(),
             Side::Core => built(&self.problem, &self.rounds).map(|route| route.len()).sum(),
         }
     }
 }
 
-impl Billing {
-    fn billed(&self) -> Vec<u8> {
-        let accepted = bill_accepted(&self.sheet, &self.plan, TARIFF, self.bill.len());
+impl<A: Timed> Asking<A> {
+    fn answered(&self) -> Vec<u8> {
+        let accepted = self.asked.accepted(&self.sheet, &self.plan, self.buffer.len());
         let (sheet, chains) = accepted.expect("an accepted call");
         let problem = Problem::held(&sheet);
         let routes = built(&problem, &rounds(&problem, &chains)).collect::<Vec<_>>();
-        encoded(&with_sum(routes.iter().map(|route| TARIFF.charge(route)).collect()))
+        self.asked.bytes(&routes)
     }
 }
 

@@ -1,32 +1,64 @@
-//! Calls for a bill, by flavour: plans that are planned and limited, plans dealt at random and fitted
-//! to begun units, damaged plans, and whatever else is turned back.
+//! Calls that ask something of a plan as it stands, a bill or a deal, by flavour: plans that are planned
+//! and limited, plans dealt at random and fitted to whole units, damaged plans, and whatever else is
+//! turned back.
 //!
 //! A call depends on the seed, its number and the plans of its makers alone, so that each can be made
 //! again.
 
-use crate::bill_fits::{enlarge, fit_round, fit_units, overcharge, tariff};
-use crate::billing::{bill_len, Tariff};
 use crate::damage::{Base, Values};
+use crate::figure_fits::{enlarge, fit_round};
 use crate::fit::Round;
 use crate::flavours::{any_sheet, drawn_at_home, drawn_with_due, MOST_LENT};
 use crate::generate::sheet_of;
 use crate::limit_calls::{close_depots, dealt, lone};
 use crate::limiting::rounds;
-use crate::plan::{chains, encode_chains, plan_len, Chains};
+use crate::plan::{chains, encode_chains, plan_len, round_count, Chains};
 use crate::plan_damage::{damage_plan, fill_unread, link_depot, DAMAGES};
 use crate::random::Random;
 use crate::reference::Problem;
-use crate::refusal::{refusal, METHODS, MOST_ROWS};
+use crate::refusal::{plan_accepted, refusal, METHODS, MOST_ROWS};
 use crate::sheet::{Sheet, DEPOT, HEADER};
 
-/// One call for a bill.
+/// What is asked of a plan. The answer's length goes by the plan's own number of rounds.
+pub trait Asked: Copy + 'static {
+    /// Its own refusal, of what is out of range, after all others.
+    const REFUSAL: u32;
+    /// By so much a length may be taken for another.
+    const STEP: usize;
+    /// What a length is cut to where it is counted in too few bits, and numbers of rounds whose length
+    /// is 0 then.
+    const NARROW: usize;
+    const WRAPPED: [u16; 2];
+
+    /// The length of the answer for so many rounds.
+    fn len(rounds: usize) -> usize;
+    fn is_in_range(self) -> bool;
+    /// Fits a sheet to whole units of its rounds.
+    fn fit(sheet: &mut Sheet, rounds: &[Round], random: &mut Random);
+    /// One that is in range.
+    fn drawn(sheet: &Sheet, rounds: &[Round], random: &mut Random) -> Self;
+    fn put_out_of_range(&mut self, random: &mut Random);
+
+    /// Refusals 1 to 8, 10 and its own, for a buffer of `len` bytes.
+    fn accepted(self, sheet: &[u8], plan: &[u8], len: usize) -> Result<(Sheet, Chains), u32> {
+        let own = (!self.is_in_range()).then_some(Self::REFUSAL);
+        plan_accepted(sheet, plan, |rounds| len == Self::len(rounds), own)
+    }
+
+    /// The length for a plan of 2 bytes or more, which need not be right.
+    fn len_for(plan: &[u8]) -> usize {
+        Self::len(round_count(plan))
+    }
+}
+
+/// One call, with a buffer of `len` bytes.
 #[derive(Clone)]
-pub struct Call {
+pub struct Call<A> {
     pub flavour: usize,
     pub sheet: Vec<u8>,
     pub plan: Vec<u8>,
-    pub tariff: Tariff,
-    pub bill_len: usize,
+    pub asked: A,
+    pub len: usize,
 }
 
 /// Who plans a sheet, and who brings a plan within a number of rounds.
@@ -53,7 +85,7 @@ pub const FLAVOURS: [(&str, usize); 19] = [
     ("limited", 24),
     ("dealt, fitted", 40),
     ("dealt, fitted to units", 60),
-    ("amounts", 12),
+    ("out of range", 12),
     ("lengths", 14),
     ("refused", 24),
     ("tiny", 0),
@@ -63,18 +95,16 @@ pub const PLANNED: usize = 11;
 const LIMITED: usize = 12;
 const FITTED: usize = 13;
 const UNITS: usize = 14;
-const AMOUNTS: usize = 15;
+const OUT_OF_RANGE: usize = 15;
 const LENGTHS: usize = 16;
 const REFUSED: usize = 17;
 pub const TINY: usize = 18;
 
 /// One sheet in so many has as many rows as there may be.
 const LARGE: usize = 500;
-/// Numbers of rounds whose bill's length, in 16 bits, is 0.
-const WRAPPED: [u16; 2] = [u16::MAX, 8191];
 
 /// The call of a number.
-pub fn call(seed: u64, number: usize, makers: &Makers) -> Call {
+pub fn call<A: Asked>(seed: u64, number: usize, makers: &Makers) -> Call<A> {
     let random = &mut Random::numbered(seed, number);
     let flavour = random.by_share(FLAVOURS.iter().map(|(_, share)| *share));
     let mut sheet = sheet(flavour, random);
@@ -87,9 +117,9 @@ pub fn call(seed: u64, number: usize, makers: &Makers) -> Call {
             let given = encode_chains(sheet.rows.len(), &given);
             made((makers.limit)(&sheet.encode(), &given, greatest as u32), &sheet)
         }
-        _ => dealt_bytes(flavour, &mut sheet, random),
+        _ => dealt_bytes::<A>(flavour, &mut sheet, random),
     };
-    let tariff = tariff(&sheet, &with_stops(&sheet, &plan), random);
+    let asked = A::drawn(&sheet, &rounds(&Problem::held(&sheet), &plan), random);
     match flavour {
         DEPOT_LINK => link_depot(&mut bytes, &sheet, &plan, random),
         REFUSED if random.one_in(3) => {
@@ -100,8 +130,8 @@ pub fn call(seed: u64, number: usize, makers: &Makers) -> Call {
         }
         _ => (),
     }
-    let bill_len = bill_len(&bytes);
-    let mut call = Call { flavour, sheet: sheet.encode(), plan: bytes, tariff, bill_len };
+    let len = A::len_for(&bytes);
+    let mut call = Call { flavour, sheet: sheet.encode(), plan: bytes, asked, len };
     call.turn_wrong(sheet, random);
     call
 }
@@ -134,14 +164,17 @@ fn made(plan: Vec<u8>, sheet: &Sheet) -> (Vec<u8>, Chains) {
 }
 
 /// A plan that no one made, to some rounds of which the sheet is fitted.
-fn dealt_bytes(flavour: usize, sheet: &mut Sheet, random: &mut Random) -> (Vec<u8>, Chains) {
+fn dealt_bytes<A: Asked>(
+    flavour: usize,
+    sheet: &mut Sheet,
+    random: &mut Random,
+) -> (Vec<u8>, Chains) {
     let plan = if random.one_in(4) { lone(sheet, random) } else { dealt(sheet, random) };
-    let rounds = with_stops(sheet, &plan);
-    let fit = if flavour == UNITS { fit_units } else { fit_round };
-    if matches!(flavour, FITTED | UNITS) && !rounds.is_empty() {
-        for _ in 0..1 + random.below(3) {
-            fit(sheet, &rounds[random.below(rounds.len())], random);
-        }
+    let rounds = rounds(&Problem::held(sheet), &plan);
+    match flavour {
+        FITTED => fit_some(sheet, &rounds, random, fit_round),
+        UNITS => A::fit(sheet, &rounds, random),
+        _ => (),
     }
     let mut bytes = encode_chains(sheet.rows.len(), &plan);
     if random.one_in(2) {
@@ -150,18 +183,31 @@ fn dealt_bytes(flavour: usize, sheet: &mut Sheet, random: &mut Random) -> (Vec<u
     (bytes, plan)
 }
 
-/// The rounds that are not empty.
-fn with_stops(sheet: &Sheet, plan: &Chains) -> Vec<Round> {
-    let mut rounds = rounds(&Problem::held(sheet), plan);
-    rounds.retain(|round| !round.stops.is_empty());
-    rounds
+/// Fits a sheet to one, two or three of the rounds with stops, where there are any.
+pub fn fit_some(
+    sheet: &mut Sheet,
+    rounds: &[Round],
+    random: &mut Random,
+    fit: impl Fn(&mut Sheet, &Round, &mut Random),
+) {
+    let rounds = with_stops(rounds);
+    if !rounds.is_empty() {
+        for _ in 0..1 + random.below(3) {
+            fit(sheet, rounds[random.below(rounds.len())], random);
+        }
+    }
 }
 
-impl Call {
-    /// Makes wrong what a flavour is about; a length or an amount at times in the others that are
+/// The rounds that are not empty.
+pub fn with_stops(rounds: &[Round]) -> Vec<&Round> {
+    rounds.iter().filter(|round| !round.stops.is_empty()).collect()
+}
+
+impl<A: Asked> Call<A> {
+    /// Makes wrong what a flavour is about; a length or what is asked at times in the others that are
     /// refused too, where the first refusal has to answer.
     fn turn_wrong(&mut self, sheet: Sheet, random: &mut Random) {
-        let at_times = matches!(self.flavour, ..PLANNED | AMOUNTS | LENGTHS | REFUSED);
+        let at_times = matches!(self.flavour, ..PLANNED | OUT_OF_RANGE | LENGTHS | REFUSED);
         let rows = sheet.rows.len();
         if self.flavour == REFUSED {
             self.refuse(sheet, random);
@@ -169,10 +215,10 @@ impl Call {
         if self.flavour == LENGTHS {
             self.stretch(rows, random);
         } else if at_times && random.one_in(5) {
-            self.stretch_bill(rows, random);
+            self.stretch_buffer(rows, random);
         }
-        if self.flavour == AMOUNTS || (at_times && random.one_in(5)) {
-            overcharge(&mut self.tariff, random);
+        if self.flavour == OUT_OF_RANGE || (at_times && random.one_in(5)) {
+            self.asked.put_out_of_range(random);
         }
     }
 
@@ -192,12 +238,12 @@ impl Call {
         }
     }
 
-    /// Lengths that are wrong, most often the bill's alone.
+    /// Lengths that are wrong, most often the buffer's alone.
     fn stretch(&mut self, rows: usize, random: &mut Random) {
         let which = random.below(8);
         if which == 0 {
-            self.plan[..2].copy_from_slice(&random.pick(&WRAPPED).to_le_bytes());
-            self.bill_len = 0;
+            self.plan[..2].copy_from_slice(&random.pick(&A::WRAPPED).to_le_bytes());
+            self.len = 0;
             return;
         }
         if which == 1 || which == 2 {
@@ -209,14 +255,15 @@ impl Call {
             self.sheet.resize(random.pick(&[len - 1, len + 1, len - 8, len + 8, len / 2]), 0);
         }
         if which > 3 {
-            self.stretch_bill(rows, random);
+            self.stretch_buffer(rows, random);
         }
     }
 
-    fn stretch_bill(&mut self, rows: usize, random: &mut Random) {
-        let (len, of_rows) = (self.bill_len, 8 * (rows + 1));
-        let beside = [len - 8, len - 1, len + 1, len + 8];
+    fn stretch_buffer(&mut self, rows: usize, random: &mut Random) {
+        let (len, of_rows) = (self.len, A::len(rows));
+        let less = |by| len.saturating_sub(by);
+        let beside = [less(A::STEP), less(1), len + 1, len + A::STEP];
         let other = [0, 1, len / 2, 2 * len, of_rows, of_rows, self.plan.len()];
-        self.bill_len = if random.one_in(2) { random.pick(&beside) } else { random.pick(&other) };
+        self.len = if random.one_in(2) { random.pick(&beside) } else { random.pick(&other) };
     }
 }

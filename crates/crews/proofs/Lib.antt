@@ -1,0 +1,3 @@
+pub mod Least
+pub mod Ranking
+pub mod Dealing

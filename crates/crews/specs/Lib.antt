@@ -1,0 +1,5 @@
+pub mod Deal
+pub mod Fair
+pub mod Asked
+pub mod Ranked
+pub mod Laws
