@@ -81,8 +81,8 @@
    half as much again, or more, as any call was seen to take (tests/c/stack.c).
    PLANNER_STACK_SAVINGS is for plan_rounds on a sheet of PLANNER_SAVINGS,
    PLANNER_STACK for every other call. */
-#define PLANNER_STACK_SAVINGS 262144
-#define PLANNER_STACK 32768
+#define PLANNER_STACK_SAVINGS 327680
+#define PLANNER_STACK 8192
 
 #ifdef __cplusplus
 extern "C" {

@@ -69,7 +69,9 @@ pub fn clarke_wright_savings<const N: usize>(
 }
 
 // The same of at most 24 members, whose tables are a tenth as large: to set up the others takes longer than such a plan. That they
-// are no more is a clause, here and of who calls it: the members are a part of a table.
+// are no more is a clause, here and of who calls it: the members are a part of a table. Not inlined, so that no other method's
+// planning has its frame.
+#[inline(never)]
 pub fn clarke_wright_few<const N: usize>(
     sheet: &Sheet,
     depot: usize,

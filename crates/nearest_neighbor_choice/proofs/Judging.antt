@@ -1,8 +1,9 @@
 -- A stop judged: it keeps the limits, or not; it loses, is out, or is taken; and the best of all stops left, one by one. Assumes nothing.
 use Rattle.std.specs.Prelude.{Option, Some, None}
-use mathlib.Core.Path.{◌≡◌, refl, sym, ap, ◌∙◌}
-use Prim.Native.Nat.{ℕ, ◌+◌, ◌≤◌, ◌<◌}
+use mathlib.Core.Path.{◌≡◌, refl, sym, ap, subst, ◌∙◌}
+use Prim.Native.Nat.{ℕ, zero, suc, ◌+◌, ◌-◌, ◌≤◌, ◌<◌}
 use native.Mathlib.Numerals.{add-one}
+use Rattle.std.proofs.Common.{add-zero}
 use native.Mathlib.Omega.{arith}
 use mathlib.Core.Bool.{Bool, true, false, ◌||◌, or-false}
 use mathlib.Core.List.{List}
@@ -48,22 +49,31 @@ module _ (c : StopChoice) (j : ℕ) (t : Bool) (k : Float) where
   is_taken key e f g = rw (g, ← e, f)
 
 -- ---- the loop over the stops left
-pub record Choosing (offer : ℕ → Offer) (left : List ℕ) (c : StopChoice) (j end : ℕ) : Type 0 where
-  pub last : end ≡ length left
-  pub within : j ≤ end
+pub record Choosing (offer : ℕ → Offer) (left : List ℕ) (c : StopChoice) (j : ℕ) : Type 0 where
+  pub within : j ≤ length left
   pub same : choose offer None 0 left ≡ choose offer c j (drop j left)
 
-module _ (offer : ℕ → Offer) (left : List ℕ) (c : StopChoice) (j end : ℕ) (g : Choosing offer left c j end) where
-  pub goes_on : (d : StopChoice) → j < end → d ≡ better_stop c j (offer (get_or left j 0)) → Choosing offer left d (j + 1) end
+module _ (offer : ℕ → Offer) (left : List ℕ) (c : StopChoice) where
+  pub goes_on : (j : ℕ) → Choosing offer left c j → (d : StopChoice) → j < length left → d ≡ better_stop c j (offer (get_or left j 0)) → Choosing offer left d (j + 1)
   unfolding choose
-  goes_on d h e =
-      let k : j < length left = omega (arith, g.last) in
+  goes_on j g d h e =
       record {
-        last = g.last;
         within = omega arith;
-        same = g.same ∙ ap (choose offer c j) (drop-cons left j 0 k) ∙ ap (λ (n : ℕ). choose offer (better_stop c j (offer (get_or left j 0))) (j + 1) (drop n left)) (sym (add-one j)) ∙ ap (λ (x : StopChoice). choose offer x (j + 1) (drop (j + 1) left)) (sym e);
+        same = g.same ∙ ap (choose offer c j) (drop-cons left j 0 h) ∙ ap (λ (n : ℕ). choose offer (better_stop c j (offer (get_or left j 0))) (j + 1) (drop n left)) (sym (add-one j)) ∙ ap (λ (x : StopChoice). choose offer x (j + 1) (drop (j + 1) left)) (sym e);
       }
 
-  pub ends : end ≤ j → c ≡ choose offer None 0 left
+  pub ends : (j : ℕ) → Choosing offer left c j → length left ≤ j → c ≡ choose offer None 0 left
   unfolding choose
-  ends h = let e : j ≡ length left = omega (arith, g.last, g.within) in sym (g.same ∙ rw (e, drop-length left))
+  ends j g h = let e : j ≡ length left = omega (arith, g.within) in sym (g.same ∙ rw (e, drop-length left))
+
+  -- stops passed over that are no better
+  passes : (n j : ℕ) → Choosing offer left c j → j + n ≤ length left → ((i : ℕ) → j ≤ i → i < j + n → c ≡ better_stop c i (offer (get_or left i 0))) → Choosing offer left c (j + n)
+  passes zero j g h p = rw (add-zero j) g
+  passes (suc n) j g h p =
+      let e : j + 1 + n ≡ j + suc n = omega arith in
+      subst (Choosing offer left c) e (passes n (j + 1) (goes_on j g c (omega arith) (p j (omega arith) (omega arith))) (omega arith) (λ i k l. p i (omega arith) (omega arith)))
+
+  pub passes_to : (j end : ℕ) → Choosing offer left c j → (j ≤ end) × (end ≤ length left) → ((i : ℕ) → j ≤ i → i < end → c ≡ better_stop c i (offer (get_or left i 0))) → Choosing offer left c end
+  passes_to j end g h p =
+      let e : j + (end - j) ≡ end = omega (arith, h.0) in
+      subst (Choosing offer left c) e (passes (end - j) j g (omega (arith, h.0, h.1)) (λ i k l. p i k (omega (arith, h.0))))

@@ -1,19 +1,18 @@
 // Tests of f64 bit patterns.
 #![tactic(auto)]
 
-ghost use Rattle.std.specs.Prelude.{◌≡◌, not, T};
+ghost use Rattle.std.specs.Prelude.{◌≡◌, ◌<◌, not, T};
 ghost use Rattle.std.specs.Float.{binary64};
 ghost use Rattle.std.specs.Float.Ieee.{of_bits, nan_bits, le};
 ghost use Rattle.numbers.specs.Range.{in_range};
 
-// Whether a pattern is that of a number from 0 to `max`. Above the infinity's pattern lie the NaNs and every set sign, -0 too.
-pub fn in_range(bits: u64, max: f64) -> bool
-    ensures { result ≡ in_range bits max }
+// Whether a pattern is that of a number from 0 to the one whose pattern is `max`. One comparison: the patterns of such numbers ascend
+// as the numbers do, and those of the NaNs and of every set sign, -0 too, lie above them.
+pub fn in_range(bits: u64, max: u64) -> bool
+    requires { max < 0x7ff0_0000_0000_0000 }
+    ensures { result ≡ in_range bits (of_bits binary64 max) }
 {
-    if 0x7ff0_0000_0000_0000 < bits {
-        return false;
-    }
-    f64::from_bits(bits) <= max
+    bits <= max
 }
 
 pub fn at_least(bits: u64, min: f64) -> bool

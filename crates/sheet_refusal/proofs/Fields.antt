@@ -49,6 +49,11 @@ module _ (s : List ℕ) where
       go zero = refl
       go (suc n) = ne_eqb (suc n) 0 (λ e. omega arith) ∙ sym (ne_eqb (0 + 65536 * suc n) 0 (λ e. omega arith))
 
+-- at most 0 is 0
+pub at_most_none : (n : ℕ) → leb n 0 ≡ eqb n 0
+at_most_none zero = refl
+at_most_none (suc n) = lt-leb (suc n) 0 (omega arith) ∙ sym (ne_eqb (suc n) 0 (λ e. omega arith))
+
 -- a test that passed
 pub passed : (a b : Bool) → a ≡ b → a ≡ true → T b
 passed a b e f = subst T (sym (sym e ∙ f)) tt

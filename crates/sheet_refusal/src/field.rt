@@ -1,9 +1,18 @@
 // The ranges of single fields. Signed fields are tested as the patterns they are read from.
-ghost use Rattle.std.specs.Prelude.{◌≡◌, ◌+◌, ◌≤◌, true, length};
+ghost use Rattle.std.specs.Prelude.{◌≡◌, ◌+◌, ◌≤◌, ◌<◌, true, length};
+ghost use Rattle.std.specs.Float.{binary64};
+ghost use Rattle.std.specs.Float.Ieee.{of_bits};
 ghost use Rattle.wire.specs.Bytes.{signed};
 ghost use Rattle.sheet.specs.Ranges.{vehicle_marking, cost_per_distance};
 
 use sheet::vehicle;
+
+// The patterns of 10^6, 10^9 and 10^12.
+pub const MILLION: u64 = f64::to_bits(1_000_000.0);
+
+pub const BILLION: u64 = f64::to_bits(1_000_000_000.0);
+
+pub const TRILLION: u64 = f64::to_bits(1_000_000_000_000.0);
 
 #[tactic(auto, unfolding(sheet::specs::Ranges::coordinate, wire::specs::Bytes::signed))]
 pub fn coordinate(pattern: u32) -> bool
@@ -44,19 +53,17 @@ pub fn amount(sheet: &[u8], at: usize) -> bool
     requires { at + 8 ≤ length sheet.now }
     ensures { result ≡ Rattle.sheet.specs.Ranges.amount sheet.now at }
 {
-    numbers::in_range(wire::u64_at(sheet, at), 1_000_000_000.0)
+    numbers::in_range(wire::u64_at(sheet, at), BILLION)
 }
 
-// From 0 to `max` where its mark is, and all zero bits where not.
-pub fn optional(sheet: &[u8], at: usize, present: bool, max: f64) -> bool
-    requires { at + 8 ≤ length sheet.now }
-    ensures { result ≡ Rattle.sheet.specs.Ranges.optional present max sheet.now at }
+// From 0 to the number of the pattern `max` where its mark is, and all zero bits where not: then its maximum is 0.
+pub fn optional(sheet: &[u8], at: usize, present: bool, max: u64) -> bool
+    requires at_in_bounds { at + 8 ≤ length sheet.now }
+    requires max_finite { max < 0x7ff0_0000_0000_0000 }
+    ensures { result ≡ Rattle.sheet.specs.Ranges.optional present (of_bits binary64 max) sheet.now at }
 {
-    let bits = wire::u64_at(sheet, at);
-    if present {
-        return numbers::in_range(bits, max);
-    }
-    bits == 0
+    let most = if present { max } else { 0 };
+    wire::u64_at(sheet, at) <= most
 }
 
 // Two fields in order where their mark is, and all zero bits where not.
@@ -91,5 +98,5 @@ pub fn cost_per_distance(sheet: &[u8], at: usize) -> bool
     ensures { result ≡ cost_per_distance sheet.now at }
 {
     let bits = wire::u64_at(sheet, at);
-    numbers::in_range(bits, 1_000_000.0) && (bits == 0 || numbers::at_least(bits, 0.001))
+    numbers::in_range(bits, MILLION) && (bits == 0 || numbers::at_least(bits, 0.001))
 }

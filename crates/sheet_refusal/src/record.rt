@@ -19,7 +19,7 @@ fn serving_in_range(sheet: &[u8], at: usize) -> bool
             sheet,
             at + 40,
             sheet::has_mark(customer::PENALTY, marks),
-            1_000_000.0,
+            field::MILLION,
         )
 }
 
@@ -45,12 +45,12 @@ fn maxima_in_range(sheet: &[u8], at: usize) -> bool
         sheet,
         at + 32,
         sheet::has_mark(vehicle::MAX_DISTANCE, marks),
-        1_000_000_000_000.0,
+        field::TRILLION,
     ) && field::optional(
         sheet,
         at + 40,
         sheet::has_mark(vehicle::MAX_DURATION, marks),
-        1_000_000_000_000.0,
+        field::TRILLION,
     )
 }
 
@@ -60,8 +60,7 @@ fn rest_in_range(sheet: &[u8], at: usize) -> bool
     ensures { result ≡ rest_in_range sheet.now at }
 {
     let rests = sheet::has_mark(vehicle::REST, wire::u32_at(sheet, at + 12));
-    field::interval(sheet, at + 48, rests)
-        && field::optional(sheet, at + 64, rests, 1_000_000_000.0)
+    field::interval(sheet, at + 48, rests) && field::optional(sheet, at + 64, rests, field::BILLION)
 }
 
 #[tactic(auto, unfolding(sheet::specs::Ranges::vehicle_in_range, sheet::specs::Fields::depot_field, sheet::specs::Fields::vehicle_marks))]

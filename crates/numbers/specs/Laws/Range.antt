@@ -22,7 +22,7 @@ fields_clear (suc x) t y h = go (eqb (suc x) (ones binary64)) (eqb t 0) h
     go false b k = clear_value (odd 53 false (hid binary64 + t) x 1074) ((hid binary64 + t) * 2 ^ x) (2 ^ 1074) (odd_sign 53 false (hid binary64 + t) x 1074)
 
 -- the pattern of the infinity: among those with the sign clear, the ones above it are NaN's
-abbrev infinity : ℕ
+abbrev pub infinity : ℕ
 infinity = 0x7ff0_0000_0000_0000
 
 no_sign : (n : ℕ) → n < 0x8000_0000_0000_0000 → leb (top binary64) n ≡ false
@@ -44,7 +44,7 @@ le_nan nan y e = refl
 le_nan (inf s) y e = absurd (true≢false (sym e))
 le_nan (fin s m d) y e = absurd (true≢false (sym e))
 
--- the test as the code makes it: one comparison of the pattern refuses NaN, a set sign and so -0
+-- above the infinity's pattern lie the NaNs' and every set sign's, -0's too: none of them is in range
 pub in_range_above : (n : ℕ) (max : Float) → infinity < n → in_range n max ≡ false
 unfolding in_range
 in_range_above n max h = go (ltb n 0x8000_0000_0000_0000) refl

@@ -63,7 +63,7 @@ units_clear f q k = go (ltb (q * 2 ^ k) (2 ^ (low f + suc (emax f))))
     go true = clear_value (odd (suc (prec f)) false q k (low f)) (q * 2 ^ k) (2 ^ low f) (odd_sign (suc (prec f)) false q k (low f))
     go false = refl
 
-round_clear : (f : Format) (a c : ℕ) → Clear (round f false a c)
+pub round_clear : (f : Format) (a c : ℕ) → Clear (round f false a c)
 round_clear f a c = subst Clear (sym (round_is f false a c)) (units_clear f _ _)
 
 pub or_le : (a b : ℕ) → T (ltb a b || (eqb a b && true)) → a ≤ b

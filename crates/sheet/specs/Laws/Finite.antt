@@ -241,3 +241,8 @@ module _ (s : List ℕ) (a : Accepted s) where
   pub capacity_bounded : (v : ℕ) → v < vehicles_of s → (vehicle_of s v).capacity < 0x8000_0000
   unfolding vehicle_of
   capacity_bounded v h = capacity_upto (u32_at s (vehicle_at s v + 8)) (a.vehicle v h).carries
+
+-- a distance is an f64's value
+pub distance_fits : (s : List ℕ) (i j : ℕ) → T (fits binary64 (distance_of s i j))
+unfolding distance_of f64_at
+distance_fits s i j = of_bits-fits binary64 (u64_at s (entry_at s (i * rows_of s + j)))

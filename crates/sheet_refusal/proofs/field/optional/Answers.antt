@@ -1,11 +1,17 @@
 -- `sheet_refusal::field::optional` meets its contract. Assumes nothing.
+use Rattle.std.proofs.Common.{sym}
+use Rattle.wire.specs.Bytes.{u64_at}
+use Rattle.numbers.specs.Laws.Patterns.{pattern_order}
 use Rattle.sheet.specs.Ranges.{optional, zero_bits}
+use Rattle.sheet_refusal.proofs.Fields.{at_most_none}
 use Rattle.sheet_refusal.proofs.field.optional.Goals as goal
-
-pub returns-then-present : goal.returns-then-present
-unfolding optional
-returns-then-present c = rw (c.if-present.true, c.in_range.ensures, c.u64_at-bits.ensures)
+use Rattle.sheet_refusal.proofs.field.optional.Goals.{then-present, else-present}
 
 pub returns : goal.returns
 unfolding optional zero_bits
-returns c = rw (c.if-present.false, c.u64_at-bits.ensures)
+returns c =
+    let n = u64_at c.args.sheet.now c.args.at in
+    elim c.if-present.branch [
+      | then-present w ↦ rw (w.most-is, w.if-present.true, c.u64_at.ensures) (sym (pattern_order n c.args.max c.requires.max_finite))
+      | else-present w ↦ rw (w.most-is, w.if-present.false, c.u64_at.ensures) (at_most_none n)
+    ]
