@@ -5,7 +5,7 @@ ghost use Rattle.std.specs.Prelude.{◌≡◌, ◌≤◌, ◌<◌, length};
 ghost use Rattle.sheet.specs.Fields.{rows_of, most_rows};
 ghost use Rattle.evaluation.specs.Routed.{Routed};
 ghost use Rattle.clarke_wright_savings.specs.Savings.{first_is, last_is, merge_too_dear, joined_passes, passing, after_merge};
-ghost use Rattle.clarke_wright_slots.specs.Slots.{slots_in, Slotted};
+ghost use Rattle.clarke_wright_slots.specs.Slots.{slots_in, Slotted, SlotsAsLong};
 ghost use Rattle.clarke_wright_joining.specs.Ways.{meant, way_of, WaySlots};
 
 use clarke_wright_slots::RouteSlots;
@@ -108,6 +108,7 @@ pub fn merge_by<const CELLS: usize>(
     ensures count_kept { slots.new.count ≡ slots.old.count }
     ensures slotted_2 { Slotted sheet.now slots.new.count slots.new.cells slots.new.lens slots.new.loads slots.new.slots }
     ensures lens_after { slots_in slots.new.count slots.new.cells slots.new.lens ≡ after_merge (slots_in slots.old.count slots.old.cells slots.old.lens) (passing sheet.now terms (slots_in slots.old.count slots.old.cells slots.old.lens) (meant (slots_in slots.old.count slots.old.cells slots.old.lens) way)) }
+    ensures as_long { SlotsAsLong slots.old.cells slots.old.lens slots.old.loads slots.old.slots slots.new.cells slots.new.lens slots.new.loads slots.new.slots }
 {
     let Some((into, from, back, forth)) = way else {
         return;

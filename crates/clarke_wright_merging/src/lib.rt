@@ -4,7 +4,7 @@
 ghost use Rattle.std.specs.Prelude.{◌≡◌, ◌≤◌, ◌<◌, length, take};
 ghost use Rattle.sheet.specs.Fields.{rows_of, most_rows};
 ghost use Rattle.clarke_wright_savings.specs.Savings.{merge_of, after_merge};
-ghost use Rattle.clarke_wright_slots.specs.Slots.{slots_in, Slotted};
+ghost use Rattle.clarke_wright_slots.specs.Slots.{slots_in, Slotted, SlotsAsLong};
 ghost use Rattle.clarke_wright_merging.specs.Legs.{Legs, merged_in};
 
 use clarke_wright_savings::Savings;
@@ -29,6 +29,7 @@ fn merge<const CELLS: usize>(
     ensures count_kept { slots.new.count ≡ slots.old.count }
     ensures slotted_2 { Slotted sheet.now slots.new.count slots.new.cells slots.new.lens slots.new.loads slots.new.slots }
     ensures lens_after { slots_in slots.new.count slots.new.cells slots.new.lens ≡ after_merge (slots_in slots.old.count slots.old.cells slots.old.lens) (merge_of sheet.now terms (slots_in slots.old.count slots.old.cells slots.old.lens) i j) }
+    ensures as_long { SlotsAsLong slots.old.cells slots.old.lens slots.old.loads slots.old.slots slots.new.cells slots.new.lens slots.new.loads slots.new.slots }
 {
     let a = slots.slots[i as usize] as usize;
     let b = slots.slots[j as usize] as usize;
@@ -58,6 +59,7 @@ pub fn merge_all<const PAIRS: usize, const CELLS: usize>(
     ensures count_kept { slots.new.count ≡ slots.old.count }
     ensures slotted_2 { Slotted sheet.now slots.new.count slots.new.cells slots.new.lens slots.new.loads slots.new.slots }
     ensures lens_after { slots_in slots.new.count slots.new.cells slots.new.lens ≡ merged_in sheet.now terms savings.now.from savings.now.to (take savings.now.count savings.now.entries) (slots_in slots.old.count slots.old.cells slots.old.lens) }
+    ensures as_long { SlotsAsLong slots.old.cells slots.old.lens slots.old.loads slots.old.slots slots.new.cells slots.new.lens slots.new.loads slots.new.slots }
 {
     let mut trial = [0u16; sheet::MOST_ROWS];
     for &entry in &savings.entries[..savings.count] {

@@ -8,7 +8,8 @@ ghost use Rattle.evaluation.specs.Routed.{Routed};
 ghost use Rattle.constructive.specs.Stored.{Stored, Room, filled_by};
 ghost use Rattle.constructive.specs.Members.{part, Members};
 ghost use Rattle.clarke_wright_savings.specs.Savings.{routes_of, aside_of, clarke_wright};
-ghost use Rattle.clarke_wright_slots.specs.Slots.{slots_in, Roomy, Slotted};
+ghost use Rattle.clarke_wright_savings.specs.Listed.{SavingsAsLong};
+ghost use Rattle.clarke_wright_slots.specs.Slots.{slots_in, Roomy, Slotted, SlotsAsLong};
 
 use clarke_wright_savings::terms::Directed;
 use clarke_wright_savings::{Savings, terms};
@@ -34,12 +35,14 @@ fn merge_members<'a, const PAIRS: usize, const CELLS: usize>(
     ensures count_after { slots.new.count ≡ length members.now }
     ensures slotted { Slotted sheet.now slots.new.count slots.new.cells slots.new.lens slots.new.loads slots.new.slots }
     ensures lens_after { slots_in slots.new.count slots.new.cells slots.new.lens ≡ routes_of sheet.now terms members.now }
+    ensures savings_as_long { SavingsAsLong savings.old.from savings.old.to savings.old.values savings.old.entries savings.new.from savings.new.to savings.new.values savings.new.entries }
+    ensures slots_as_long { SlotsAsLong slots.old.cells slots.old.lens slots.old.loads slots.old.slots slots.new.cells slots.new.lens slots.new.loads slots.new.slots }
 {
     // The stops of the rounds, none of which has started, lend their room to the sort.
     savings.rank(sheet, terms, members, &mut slots.cells);
     let left = slots.start(sheet, terms.common, members, aside);
     clarke_wright_merging::merge_all(sheet, terms, savings, slots);
-    left
+    &aside[..left]
 }
 
 // The rounds by way of tables that are lent.
@@ -61,6 +64,8 @@ pub fn plan_by<const PAIRS: usize, const CELLS: usize, const N: usize>(
     requires roomy { Roomy (total - filled.routed) slots.old.cells slots.old.lens slots.old.loads slots.old.slots }
     ensures value { result ≡ filled_by filled (clarke_wright sheet.now depot vehicle (part tables.old.stops filled.routed total)).rounds }
     ensures stored { Stored tables.old.stops tables.old.ends tables.old.vehicles filled (clarke_wright sheet.now depot vehicle (part tables.old.stops filled.routed total)) tables.new.stops tables.new.ends tables.new.vehicles }
+    ensures savings_as_long { SavingsAsLong savings.old.from savings.old.to savings.old.values savings.old.entries savings.new.from savings.new.to savings.new.values savings.new.entries }
+    ensures slots_as_long { SlotsAsLong slots.old.cells slots.old.lens slots.old.loads slots.old.slots slots.new.cells slots.new.lens slots.new.loads slots.new.slots }
 {
     let start = filled.routed;
     let stops = &tables.stops[..];

@@ -4,7 +4,7 @@ use Prim.Native.Nat.{ℕ, ◌*◌, ◌≤◌}
 use native.Mathlib.Nat.{zero-add}
 use native.Mathlib.Omega.{arith}
 use mathlib.Core.List.{List, ◌++◌}
-use lib.ListN.{length, take, length-map}
+use lib.ListN.{length, take, drop, length-append, length-drop, length-map}
 use lib.Seq.{take_at}
 use lib.Ieee.{Float}
 use Rattle.constructive.specs.Laws.TableContents.{long_enough}
@@ -57,6 +57,10 @@ module _
 
     pub placed : Entries (take count values) (take count entries)
     placed = rw (keys, places) (savings_entries savings)
+
+    -- the places in another order are as many
+    pub as_many : (front : List ℕ) → length front ≡ count → length (front ++ drop count entries) ≡ length entries
+    as_many front l = length-append front (drop count entries) ∙ omega (arith, l, length-drop count entries, entries_hold)
 
     -- they fit in the tables
     pub few : count ≤ length members * length members

@@ -15,6 +15,13 @@ pub record SavingsPushed (from to : List ℕ) (values : List Float) (entries : L
   pub saved : take (at + length savings) values' ≡ take at values ++ values_of savings
   pub placed : take (at + length savings) entries' ≡ take at entries ++ numbered (length savings) at
 
+-- tables that are as long as they were (a clause: the length of an array that is lent is known to a proof until a call takes it)
+pub record SavingsAsLong (from to : List ℕ) (values : List Float) (entries from' to' : List ℕ) (values' : List Float) (entries' : List ℕ) : Type 0 where
+  pub starts : length from' ≡ length from
+  pub ends : length to' ≡ length to
+  pub saved : length values' ≡ length values
+  pub placed : length entries' ≡ length entries
+
 -- tables whose front holds these savings
 pub record Listed (savings : List Saving) (from to : List ℕ) (values : List Float) : Type 0 where
   pub starts : take (length savings) from ≡ froms_of savings

@@ -10,7 +10,7 @@ ghost use Rattle.sheet.specs.Fields.{rows_of};
 ghost use Rattle.sheet.specs.Values.{distance_of};
 ghost use Rattle.evaluation.specs.Routed.{Routed};
 ghost use Rattle.clarke_wright_savings.specs.Savings.{paired, value_of, savings_from, savings_of, ranked};
-ghost use Rattle.clarke_wright_savings.specs.Listed.{SavingsPushed, Listed};
+ghost use Rattle.clarke_wright_savings.specs.Listed.{SavingsPushed, SavingsAsLong, Listed};
 
 use constructive::terms::Terms;
 use sheet::Sheet;
@@ -68,6 +68,7 @@ impl<const N: usize> Savings<N> {
         requires count_bound { self.old.count < 0x10000 }
         ensures count_after { self.new.count ≡ self.old.count + 1 }
         ensures savings_pushed { SavingsPushed self.old.from self.old.to self.old.values self.old.entries self.old.count (record { from = start; to = end; value = value } ∷ []) self.new.from self.new.to self.new.values self.new.entries }
+        ensures as_long { SavingsAsLong self.old.from self.old.to self.old.values self.old.entries self.new.from self.new.to self.new.values self.new.entries }
     {
         let at = self.count;
         self.from[at] = start;
@@ -85,6 +86,7 @@ impl<const N: usize> Savings<N> {
         requires members_bound { self.old.count + length members.now < 0x10000 }
         ensures count_after { self.new.count ≡ self.old.count + length (savings_from sheet.now terms start members.now) }
         ensures savings_pushed { SavingsPushed self.old.from self.old.to self.old.values self.old.entries self.old.count (savings_from sheet.now terms start members.now) self.new.from self.new.to self.new.values self.new.entries }
+        ensures as_long { SavingsAsLong self.old.from self.old.to self.old.values self.old.entries self.new.from self.new.to self.new.values self.new.entries }
     {
         let home = sheet.distance(start as usize, terms.common.depot);
         for &other in members {
@@ -105,6 +107,7 @@ impl<const N: usize> Savings<N> {
         requires members_in_bounds { length members.now * length members.now ≤ N }
         ensures count_after { self.new.count ≡ length (savings_of sheet.now terms members.now members.now) }
         ensures savings_pushed { SavingsPushed self.old.from self.old.to self.old.values self.old.entries 0 (savings_of sheet.now terms members.now members.now) self.new.from self.new.to self.new.values self.new.entries }
+        ensures as_long { SavingsAsLong self.old.from self.old.to self.old.values self.old.entries self.new.from self.new.to self.new.values self.new.entries }
     {
         self.count = 0;
         for &start in members {
@@ -120,6 +123,7 @@ impl<const N: usize> Savings<N> {
         ensures count_after { self.new.count ≡ length (savings_of sheet.now terms members.now members.now) }
         ensures listed { Listed (savings_of sheet.now terms members.now members.now) self.new.from self.new.to self.new.values }
         ensures entries_after { take self.new.count self.new.entries ≡ ranked (savings_of sheet.now terms members.now members.now) }
+        ensures as_long { SavingsAsLong self.old.from self.old.to self.old.values self.old.entries self.new.from self.new.to self.new.values self.new.entries }
     {
         self.push_all(sheet, terms, members);
         sorting::sort_descending(

@@ -5,10 +5,11 @@ use native.Mathlib.Omega.{arith}
 use mathlib.Core.Bool.{cond}
 use mathlib.Core.List.{List, ◌++◌}
 use lib.Dec.{ltb}
-use lib.ListN.{length, get_or, set, take, drop}
+use lib.ListN.{length, get_or, set, take, drop, length-set}
 use Rattle.lists.specs.Count.{count}
+use Rattle.wire.specs.Laws.Bytes.{length_write}
 use Rattle.wire.specs.Laws.Overwrite.{put_part}
-use Rattle.clarke_wright_slots.specs.Slots.{slot_at, SlotTaken}
+use Rattle.clarke_wright_slots.specs.Slots.{slot_at, Roomy, SlotTaken, SlotsAsLong}
 
 -- a slot, from where it starts to where it ends
 abbrev pub slot_to : List ℕ → List ℕ → ℕ → List ℕ
@@ -26,4 +27,14 @@ taken cells lens loads slots into from stops slots' room f = record {
   measured = refl;
   loaded = refl;
   known = λ x h. f x h ∙ ap (λ (l : List ℕ). cond (ltb 0 (count x l)) into (get_or slots x 0)) (to_slot cells lens from);
+}
+
+-- it leaves the tables as long as they were
+pub taken_long : {cells lens loads slots : List ℕ} {into from : ℕ} {stops cells' lens' loads' slots' : List ℕ} → Roomy (into + 1) cells lens loads slots → length stops ≤ 101
+    → length slots' ≡ length slots → SlotTaken cells lens loads slots into from stops cells' lens' loads' slots' → SlotsAsLong cells lens loads slots cells' lens' loads' slots'
+taken_long {cells} {lens} {loads} {into = into} {from} {stops} room few known t = record {
+  celled = ap length t.celled ∙ length_write cells (into * 101) stops (omega (arith, room.celled, few));
+  measured = ap length t.measured ∙ length-set (set lens into (length stops)) from 0 ∙ length-set lens into (length stops);
+  loaded = ap length t.loaded ∙ length-set (set loads into (get_or loads into 0 + get_or loads from 0)) from 0 ∙ length-set loads into (get_or loads into 0 + get_or loads from 0);
+  known = known;
 }

@@ -4,7 +4,7 @@ ghost use Rattle.lists.specs.Count.{count};
 ghost use Rattle.sheet.specs.Fields.{rows_of, most_rows};
 ghost use Rattle.evaluation.specs.Routed.{Routed};
 ghost use Rattle.clarke_wright_savings.specs.Savings.{starts_of, aside_of};
-ghost use Rattle.clarke_wright_slots.specs.Slots.{slots_in, Roomy, Slotted, RouteStarted};
+ghost use Rattle.clarke_wright_slots.specs.Slots.{slots_in, Roomy, Slotted, RouteStarted, SlotsAsLong};
 
 use crate::RouteSlots;
 use constructive::terms::Terms;
@@ -24,22 +24,25 @@ impl<const CELLS: usize> RouteSlots<CELLS> {
         self.slots[row as usize] = slot as u16;
     }
 
-    // A slot for each member, in order. Answers the stops that no round can take, in `aside`, which is lent.
-    pub fn start<'a>(
+    // A slot for each member, in order; the stops that no round can take stand in `aside`. Answers how many those are, and not
+    // that part of it: of a table that is lent on nothing can be said when the call ends.
+    pub fn start(
         &mut self,
         sheet: &Sheet,
         terms: Terms,
         members: &[u16],
-        aside: &'a mut [u16],
-    ) -> &'a [u16]
+        aside: &mut [u16],
+    ) -> usize
         requires routed { Routed sheet.now terms.depot members.now }
         requires by_index { (x : ℕ) → count x members.now ≤ 1 }
         requires roomy { Roomy (length members.now) self.old.cells self.old.lens self.old.loads self.old.slots }
         requires most_rows_in_bounds { most_rows ≤ length aside.old }
-        ensures value { result.now ≡ aside_of sheet.now terms members.now }
+        ensures value { result ≡ length (aside_of sheet.now terms members.now) }
+        ensures aside_after { take result aside.new ≡ aside_of sheet.now terms members.now }
         ensures count_after { self.new.count ≡ length members.now }
         ensures slotted { Slotted sheet.now self.new.count self.new.cells self.new.lens self.new.loads self.new.slots }
         ensures lens_after { slots_in self.new.count self.new.cells self.new.lens ≡ starts_of sheet.now terms members.now }
+        ensures as_long { SlotsAsLong self.old.cells self.old.lens self.old.loads self.old.slots self.new.cells self.new.lens self.new.loads self.new.slots }
     {
         // No row has a round yet.
         self.slots.fill(members.len() as u16);
@@ -55,6 +58,6 @@ impl<const CELLS: usize> RouteSlots<CELLS> {
             end += 1;
         }
         self.count = members.len();
-        &aside[..end]
+        end
     }
 }

@@ -46,7 +46,8 @@ pub fn deal(sheet: &[u8], plan: &[u8], crews: u32, deal: &mut [u8]) -> Result<()
     }; sheet::MOST_ROWS];
     let mut wholes = [0u64; sheet::MOST_ROWS];
     let room = deal_room(plan, deal.len());
-    let figures = plan_figures::walk_plan(sheet, plan, room, false, &mut figures)?;
+    let rounds = plan_figures::walk_plan(sheet, plan, room, false, &mut figures)?;
+    let figures = &figures[..rounds];
     if !crews::crews_right(crews) {
         return Err(Refusal::Crews);
     }

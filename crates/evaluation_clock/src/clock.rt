@@ -99,6 +99,7 @@ impl BreakClock {
     }
 
     // The same, in the clock that is lent. Answers whether it is alive.
+    #[tactic(auto, unfolding(crate::specs::Clock::moved_of))]
     pub fn push(&mut self, sheet: &Sheet, row: usize) -> bool
         requires clocked { Clocked sheet.now self.old }
         requires row_bound { row < rows_of sheet.now }

@@ -7,7 +7,7 @@
 ghost use Rattle.std.specs.Prelude.{◌≡◌, ◌-◌, ◌<◌, drop};
 ghost use Rattle.evaluation.specs.Routed.{Routed};
 ghost use Rattle.constructive.specs.Outcome.{start_in, outcome_in};
-ghost use Rattle.constructive.specs.Tables.{Tables};
+ghost use Rattle.constructive.specs.Tables.{Tables, AsLong};
 ghost use Rattle.fleet.specs.Cheapest.{pick_of};
 ghost use Rattle.fleet.specs.Limit.{dropped, limit_on, limit_routes, soft_in};
 ghost use Rattle.fleet_limiter.specs.Limitable.{Limitable};
@@ -58,6 +58,7 @@ fn refit<const N: usize>(
     requires triable { Triable sheet.now windows total }
     ensures held { TablesHold sheet.now tables.new.stops tables.new.ends tables.new.vehicles n total (refit_outcome sheet.now windows.soft (pending_first (outcome_in tables.old.stops tables.old.ends tables.old.vehicles n total))) }
     ensures behind_kept { drop total tables.new.stops ≡ drop total tables.old.stops }
+    ensures as_long { AsLong tables.old.stops tables.old.ends tables.old.vehicles tables.new.stops tables.new.ends tables.new.vehicles }
 {
     loop {
         let Some((j, round, place, _)) = choose(sheet, windows, tables, n, total) else {
@@ -80,6 +81,7 @@ fn drop_round<const N: usize>(
     requires n_nonzero { (0 < n) × (start_in tables.old.ends n ≡ total) }
     ensures held { TablesHold sheet.now tables.new.stops tables.new.ends tables.new.vehicles (n - 1) total (refit_outcome sheet.now windows.soft (dropped sheet.now (outcome_in tables.old.stops tables.old.ends tables.old.vehicles n total).rounds)) }
     ensures behind_kept { drop total tables.new.stops ≡ drop total tables.old.stops }
+    ensures as_long { AsLong tables.old.stops tables.old.ends tables.old.vehicles tables.new.stops tables.new.ends tables.new.vehicles }
 {
     let round = fleet_tables::victim(sheet, tables, n);
     fleet_tables::take_out(tables, n, round);
@@ -98,7 +100,8 @@ fn drop_rounds<const N: usize>(
 ) -> usize
     requires tables { Tables sheet.now tables.old.stops tables.old.ends tables.old.vehicles rounds total }
     requires triable { Triable sheet.now windows total }
-    ensures { TablesHold sheet.now tables.new.stops tables.new.ends tables.new.vehicles result total (limit_on sheet.now windows.soft greatest rounds (outcome_in tables.old.stops tables.old.ends tables.old.vehicles rounds total)) }
+    ensures held { TablesHold sheet.now tables.new.stops tables.new.ends tables.new.vehicles result total (limit_on sheet.now windows.soft greatest rounds (outcome_in tables.old.stops tables.old.ends tables.old.vehicles rounds total)) }
+    ensures as_long { AsLong tables.old.stops tables.old.ends tables.old.vehicles tables.new.stops tables.new.ends tables.new.vehicles }
 {
     let mut n = rounds;
     // Not over a range turned round: `greatest + 1` might overflow, and the number left is answered.
@@ -119,7 +122,8 @@ fn limit<const N: usize>(
     total: usize,
 ) -> usize
     requires { Limitable sheet.now tables.old.stops tables.old.ends tables.old.vehicles rounds total }
-    ensures { TablesHold sheet.now tables.new.stops tables.new.ends tables.new.vehicles result total (limit_on sheet.now (soft_in sheet.now (outcome_in tables.old.stops tables.old.ends tables.old.vehicles rounds total)) greatest rounds (outcome_in tables.old.stops tables.old.ends tables.old.vehicles rounds total)) }
+    ensures held { TablesHold sheet.now tables.new.stops tables.new.ends tables.new.vehicles result total (limit_on sheet.now (soft_in sheet.now (outcome_in tables.old.stops tables.old.ends tables.old.vehicles rounds total)) greatest rounds (outcome_in tables.old.stops tables.old.ends tables.old.vehicles rounds total)) }
+    ensures as_long { AsLong tables.old.stops tables.old.ends tables.old.vehicles tables.new.stops tables.new.ends tables.new.vehicles }
 {
     if rounds <= greatest {
         return rounds;
@@ -141,6 +145,7 @@ pub fn limit_routes<const N: usize>(
     requires { Limitable sheet.now tables.old.stops tables.old.ends tables.old.vehicles rounds total }
     ensures total_after { outcome_in tables.new.stops tables.new.ends tables.new.vehicles result total ≡ limit_routes sheet.now greatest (outcome_in tables.old.stops tables.old.ends tables.old.vehicles rounds total) }
     ensures tables { Tables sheet.now tables.new.stops tables.new.ends tables.new.vehicles result total }
+    ensures as_long { AsLong tables.old.stops tables.old.ends tables.old.vehicles tables.new.stops tables.new.ends tables.new.vehicles }
 {
     let n = limit(sheet, greatest as usize, tables, rounds, total);
     let from = tables.start_of(n);

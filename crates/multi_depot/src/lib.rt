@@ -5,6 +5,7 @@
 ghost use Rattle.std.specs.Prelude.{◌-◌, ◌≤◌, length};
 ghost use Rattle.sheet.specs.Depots.{depots_of};
 ghost use Rattle.sheet.specs.Fields.{rows_of};
+ghost use Rattle.constructive.specs.Tables.{AsLong};
 ghost use Rattle.constructive.specs.TableContents.{HoldsOutcome};
 ghost use Rattle.multi_depot_offers.specs.ByDepot.{by_depot, outcome_of};
 ghost use Rattle.multi_depot_offers.specs.Promises.{PlanningTables};
@@ -24,7 +25,8 @@ fn by_depot<const N: usize>(
 ) -> Filled
     requires planning_tables { PlanningTables sheet.now at.old tables.old.stops tables.old.ends tables.old.vehicles }
     requires sheet_in_bounds { rows_of sheet.now ≤ length marks.old }
-    ensures { HoldsOutcome tables.new.stops tables.new.ends tables.new.vehicles result (rows_of sheet.now - depots_of sheet.now) (by_depot sheet.now) }
+    ensures holds_outcome { HoldsOutcome tables.new.stops tables.new.ends tables.new.vehicles result (rows_of sheet.now - depots_of sheet.now) (by_depot sheet.now) }
+    ensures as_long { AsLong tables.old.stops tables.old.ends tables.old.vehicles tables.new.stops tables.new.ends tables.new.vehicles }
 {
     let rows = at.len();
     let mut before = [0u16; sheet::MOST_ROWS];
@@ -48,7 +50,8 @@ pub fn outcome<const N: usize>(
     tables: &mut RouteTables<N>,
 ) -> Filled
     requires { OutcomeTables sheet.now at.old marks.old tables.old.stops tables.old.ends tables.old.vehicles }
-    ensures { OutcomeStored sheet.now tables.new.stops tables.new.ends tables.new.vehicles result (outcome_of sheet.now) }
+    ensures outcome_stored { OutcomeStored sheet.now tables.new.stops tables.new.ends tables.new.vehicles result (outcome_of sheet.now) }
+    ensures as_long { AsLong tables.old.stops tables.old.ends tables.old.vehicles tables.new.stops tables.new.ends tables.new.vehicles }
 {
     let rows = sheet.rows();
     if sheet.depots() == 1 {

@@ -14,7 +14,8 @@ pub fn has_vehicle(sheet: &Sheet, depot: usize) -> bool
     (0..sheet.vehicles()).any(|v| sheet.vehicle_at(v).depot as usize == depot)
 }
 
-// Whether the stop is nearer to depot d than to depot e; a tie goes to the lower.
+// Whether the stop is nearer to depot d than to depot e; a tie goes to the lower. Not by tuples compared: that took 1.5 times as
+// long where there are many depots.
 #[tactic(auto, unfolding(crate::specs::ByDepot::sooner))]
 pub fn is_sooner(sheet: &Sheet, stop: usize, d: usize, e: usize) -> bool
     requires { (stop < rows_of sheet.now) × ((d < rows_of sheet.now) × (e < rows_of sheet.now)) }
@@ -22,7 +23,7 @@ pub fn is_sooner(sheet: &Sheet, stop: usize, d: usize, e: usize) -> bool
 {
     let here = sheet.distance(d, stop);
     let there = sheet.distance(e, stop);
-    (here, d) < (there, e)
+    here < there || (here == there && d < e)
 }
 
 // Whether depot d is asked: it has a vehicle, and is no nearer than `after`, if that is a depot. Here and below `is_none_or` was tried:

@@ -89,7 +89,8 @@ pub fn one_depot<const N: usize>(
     tables: &mut RouteTables<N>,
 ) -> Filled
     requires { PlanningTables sheet.now at.old tables.old.stops tables.old.ends tables.old.vehicles }
-    ensures { HoldsOutcome tables.new.stops tables.new.ends tables.new.vehicles result (rows_of sheet.now - depots_of sheet.now) (planned_of sheet.now 0 (all_stops sheet.now)) }
+    ensures holds_outcome { HoldsOutcome tables.new.stops tables.new.ends tables.new.vehicles result (rows_of sheet.now - depots_of sheet.now) (planned_of sheet.now 0 (all_stops sheet.now)) }
+    ensures as_long { AsLong tables.old.stops tables.old.ends tables.old.vehicles tables.new.stops tables.new.ends tables.new.vehicles }
 {
     at.fill(0);
     let filled = Filled::default();

@@ -6,14 +6,13 @@ ghost use Rattle.sheet.specs.Values.{vehicle_of};
 ghost use Rattle.constructive.specs.Stored.{Stored, Room, filled_by};
 ghost use Rattle.constructive.specs.Members.{part, Members, Fleet};
 ghost use Rattle.nearest_neighbor.specs.Greedy.{vehicle_round, greedy};
-ghost use Rattle.nearest_neighbor_choice.specs.Partial.{pushed_by, ClockKept, PartialRoute};
+ghost use Rattle.nearest_neighbor_choice.specs.Partial.{PartialRoute};
 ghost use Rattle.nearest_neighbor.specs.Heuristic.{limits_by, rule_of, onward_by};
 
 use constructive::tables;
 use constructive::tables::{Filled, RouteTables};
 use evaluation::limits;
 use evaluation::limits::RouteLimits;
-use evaluation_clock::clock::BreakClock;
 use nearest_neighbor_choice::partial::Partial;
 use nearest_neighbor_choice::rule::Rule;
 use nearest_neighbor_choice::{partial, rule};
@@ -32,17 +31,6 @@ fn limits_for<R: Rule>(sheet: &Sheet, rule: R, vehicle: Vehicle, index: usize) -
     limits::limits_at(sheet, index)
 }
 
-// The clock driven on to `row`.
-#[tactic(auto, unfolding(nearest_neighbor_choice::specs::Partial::pushed_by))]
-fn pushed_by(sheet: &Sheet, kept: Option<BreakClock>, row: usize) -> Option<BreakClock>
-    requires clock_kept { ClockKept sheet.now kept }
-    requires row_bound { row < rows_of sheet.now }
-    ensures { result ≡ pushed_by sheet.now kept row }
-{
-    let clock = kept?;
-    Some(clock.next(sheet, row))
-}
-
 // The round one stop further.
 fn drive_on<R: Rule>(sheet: &Sheet, rule: R, partial: Partial, row: usize) -> Partial
     requires partial_route { PartialRoute sheet.now partial }
@@ -55,7 +43,7 @@ fn drive_on<R: Rule>(sheet: &Sheet, rule: R, partial: Partial, row: usize) -> Pa
         load: partial.load + sheet.demand(row),
         travelled: partial.travelled + sheet.distance(partial.current, row),
         clock: rule.clock_at(sheet, partial, row),
-        rest: pushed_by(sheet, partial.rest, row),
+        rest: partial::pushed_by(sheet, partial.rest, row),
     }
 }
 

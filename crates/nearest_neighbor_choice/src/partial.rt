@@ -2,7 +2,7 @@
 ghost use Rattle.std.specs.Prelude.{◌≡◌, ◌<◌};
 ghost use Rattle.sheet.specs.Fields.{rows_of};
 ghost use Rattle.nearest_neighbor_choice.specs.Offers.{there_and_home};
-ghost use Rattle.nearest_neighbor_choice.specs.Partial.{trip_of, empty_partial, clock_for, allows_by, allows_on_way, allows_home, partial_carries, PartialRoute, ClockKept};
+ghost use Rattle.nearest_neighbor_choice.specs.Partial.{trip_of, empty_partial, clock_for, pushed_by, allows_by, allows_on_way, allows_home, partial_carries, PartialRoute, ClockKept};
 
 use evaluation::keeping;
 use evaluation::limits::RouteLimits;
@@ -42,6 +42,17 @@ pub fn empty_partial(rest: Option<VehicleBreak>, depot: usize) -> Partial
     }
 }
 
+// The clock driven on to `row`.
+#[tactic(auto, unfolding(crate::specs::Partial::pushed_by))]
+pub fn pushed_by(sheet: &Sheet, kept: Option<BreakClock>, row: usize) -> Option<BreakClock>
+    requires clock_kept { ClockKept sheet.now kept }
+    requires row_bound { row < rows_of sheet.now }
+    ensures { result ≡ pushed_by sheet.now kept row }
+{
+    let clock = kept?;
+    Some(clock.next(sheet, row))
+}
+
 // Whether the vehicle can load what the row asks.
 pub fn carries(sheet: &Sheet, vehicle: Vehicle, partial: Partial, row: usize) -> bool
     requires partial_route { PartialRoute sheet.now partial }
@@ -54,7 +65,7 @@ pub fn carries(sheet: &Sheet, vehicle: Vehicle, partial: Partial, row: usize) ->
 // Whether the limits are kept with the row as the last stop and no rest at home: by the clock, where there is one to keep;
 // else by the distance and the duration that are given. Depot, limits, row and distance go apart here and in `allows_home`, as in
 // `evaluation::keeping`, which is called with them.
-fn allows_on_way(
+pub fn allows_on_way(
     sheet: &Sheet,
     depot: usize,
     limits: RouteLimits,
@@ -75,7 +86,7 @@ fn allows_on_way(
 
 // Whether they are kept with the rest at home, where the vehicle has one and may take it there: asked only of what is
 // turned down.
-fn allows_home(
+pub fn allows_home(
     sheet: &Sheet,
     depot: usize,
     limits: RouteLimits,

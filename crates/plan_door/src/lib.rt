@@ -6,6 +6,7 @@ ghost use Rattle.std.specs.Prelude.{◌≡◌, ℕ, List, length};
 ghost use Rattle.sheet.specs.Accepted.{Sized};
 ghost use Rattle.sheet.specs.Fields.{plan_length};
 ghost use Rattle.sheet.specs.Told.{told};
+ghost use Rattle.constructive.specs.Tables.{AsLong};
 ghost use Rattle.plan.specs.Read.{read_plan};
 ghost use Rattle.plan_reader.specs.Reading.{stop_count, ReadRight};
 ghost use Rattle.plan_reasons.specs.Reasons.{reasons_right};
@@ -64,7 +65,8 @@ pub fn enter<const N: usize>(
     tables: &mut RouteTables<N>,
 ) -> Result<usize, Refusal>
     requires { DoorTables tables.old.stops tables.old.ends tables.old.vehicles }
-    ensures { EntryAs sheet.now plan.now room one result tables.new.stops tables.new.ends tables.new.vehicles }
+    ensures entry_as { EntryAs sheet.now plan.now room one result tables.new.stops tables.new.ends tables.new.vehicles }
+    ensures as_long { AsLong tables.old.stops tables.old.ends tables.old.vehicles tables.new.stops tables.new.ends tables.new.vehicles }
 {
     unread_refusal(sheet, plan.len(), room, one)?;
     let sheet = Sheet::new(sheet);

@@ -3,11 +3,11 @@ use Prim.Native.Nat.{ℕ, ◌≤◌}
 use native.Mathlib.Omega.{arith}
 use mathlib.Core.Path.{◌≡◌, ◌∙◌}
 use mathlib.Core.Bool.{Bool}
-use mathlib.Core.List.{List}
+use mathlib.Core.List.{List, ◌++◌}
 use Rattle.std.specs.Prelude.{map}
 use Rattle.std.proofs.lemmas.List.{length-map}
 use lib.ListN.{length, take}
-use lib.Seq.{length-take-le}
+use lib.Seq.{length-take-le, take-append_seam}
 use Rattle.sheet.specs.Fields.{most_rows}
 use Rattle.constructive.specs.Outcome.{rounds_in, outcome_in}
 use Rattle.constructive.specs.Laws.Stored.{length_rounds}
@@ -16,6 +16,10 @@ use Rattle.plan_reader.specs.Reading.{stop_count}
 use Rattle.plan_door.specs.Door.{LetIn}
 use Rattle.plan_figures.specs.declared.RouteFigures.{RouteFigures}
 use Rattle.plan_figures.specs.Walked.{route_figures, Walked}
+
+-- what was written at the start of the table
+pub first : (n : ℕ) (figures rest : List RouteFigures) → length figures ≡ n → take n (figures ++ rest) ≡ figures
+first n figures rest e = rw (← e) (take-append_seam figures rest)
 
 module _ (s plan : List ℕ) (room one : Bool) (stops ends vehicles : List ℕ) (n : ℕ) (e : LetIn s plan room one stops ends vehicles n) where
   -- the table has a place for each round

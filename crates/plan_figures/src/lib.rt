@@ -1,7 +1,7 @@
 // A plan read, and each of its rounds walked anew to its figures.
 #![tactic(auto)]
 
-ghost use Rattle.std.specs.Prelude.{◌≡◌, ◌≤◌, length, map, IfOk};
+ghost use Rattle.std.specs.Prelude.{◌≡◌, ◌≤◌, length, take, map, IfOk};
 ghost use Rattle.sheet.specs.Fields.{most_rows};
 ghost use Rattle.sheet.specs.Told.{told};
 ghost use Rattle.constructive.specs.Outcome.{rounds_in};
@@ -47,21 +47,21 @@ fn walk_rounds<const N: usize>(sheet: &Sheet, tables: &RouteTables<N>, figures: 
     }
 }
 
-// The plan's refusal, or its rounds walked: as much of `figures` as they fill. The tables stand here.
-pub fn walk_plan<'a>(
+// The plan's refusal, or how many rounds are walked: their figures stand first in `figures`. The tables stand here.
+pub fn walk_plan(
     sheet: &[u8],
     plan: &[u8],
     room: bool,
     one: bool,
-    figures: &'a mut [RouteFigures],
-) -> Result<&'a [RouteFigures], Refusal>
+    figures: &mut [RouteFigures],
+) -> Result<usize, Refusal>
     requires { most_rows ≤ length figures.old }
     ensures told { told result ≡ door_refusal sheet.now plan.now room one }
-    ensures walked { IfOk result (λ walked. Walked sheet.now plan.now room one walked.now) }
+    ensures in_bounds { IfOk result (λ rounds. rounds ≤ length figures.new) }
+    ensures walked { IfOk result (λ rounds. Walked sheet.now plan.now room one (take rounds figures.new)) }
 {
     let mut tables = RouteTables::<{ sheet::MOST_ROWS }>::new();
     let rounds = plan_door::enter(sheet, plan, room, one, &mut tables)?;
-    let walked = &mut figures[..rounds];
-    walk_rounds(&Sheet::new(sheet), &tables, walked);
-    Ok(walked)
+    walk_rounds(&Sheet::new(sheet), &tables, &mut figures[..rounds]);
+    Ok(rounds)
 }

@@ -161,7 +161,8 @@ pub fn read_plan<const N: usize>(
     tables: &mut RouteTables<N>,
 ) -> Option<usize>
     requires { ReaderTables sheet.now plan.now tables.old.stops tables.old.ends tables.old.vehicles }
-    ensures { ReadAs sheet.now plan.now result tables.new.stops tables.new.ends tables.new.vehicles }
+    ensures read_as { ReadAs sheet.now plan.now result tables.new.stops tables.new.ends tables.new.vehicles }
+    ensures as_long { AsLong tables.old.stops tables.old.ends tables.old.vehicles tables.new.stops tables.new.ends tables.new.vehicles }
 {
     let total = read_chains(sheet, plan, tables)?;
     let stops = &tables.stops[..];

@@ -31,8 +31,9 @@ fn main(rt: HostRuntime) {
     let mut out = io::writer(&rt);
     for _ in 0..u64::MAX {
         if let Err(stop) = replay_record(&mut input, &mut out) {
-            let _ = line::print_stop(&mut out, stop);
-            break;
+            if !line::print_stop(&mut out, stop) {
+                break;
+            }
         }
     }
 }

@@ -1,5 +1,5 @@
 // The lines that are printed.
-ghost use Rattle.std.specs.Prelude.{OnOk};
+ghost use Rattle.std.specs.Prelude.{◌≡◌, false, OnOk};
 ghost use Rattle.std.specs.Io.KnownBytes.{Appends};
 ghost use Rattle.replay_io.specs.Lines.{number_line, refused_line, bytes_line, answer_line, counted_line};
 
@@ -7,12 +7,30 @@ use crate::record::Ending;
 use std::io;
 use std::io::Write;
 
-// What is printed where a run ends.
-pub fn print_stop<W: Write>(out: &mut W, stop: Ending) -> io::Result<()> {
+// Ends a run whose record is cut short, or has more bytes than there is room for.
+pub fn stop_at_cut<W: Write>(out: &mut W) -> bool
+    ensures { result ≡ false }
+{
+    let _ = out.write_all(b"cut\n");
+    false
+}
+
+// Ends a run at a record of another kind.
+pub fn stop_at_unknown<W: Write>(out: &mut W, kind: u8) -> bool
+    ensures { result ≡ false }
+{
+    let _ = writeln!(out, "unknown kind {kind}");
+    false
+}
+
+// What is printed where a run ends. Answers that it does not go on.
+pub fn print_stop<W: Write>(out: &mut W, stop: Ending) -> bool
+    ensures { result ≡ false }
+{
     match stop {
-        Ending::Done | Ending::Unwritten => Ok(()),
-        Ending::Cut => out.write_all(b"cut\n"),
-        Ending::Unknown(kind) => writeln!(out, "unknown kind {kind}"),
+        Ending::Done | Ending::Unwritten => false,
+        Ending::Cut => stop_at_cut(out),
+        Ending::Unknown(kind) => stop_at_unknown(out, kind),
     }
 }
 

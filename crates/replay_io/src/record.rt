@@ -1,6 +1,8 @@
 // The parts of a record.
-ghost use Rattle.std.specs.Prelude.{◌≡◌, ◌≤◌, ◌↔◌, min, length, take, IfOk, IsOk};
+ghost use Rattle.std.specs.Prelude.{◌≡◌, ◌≤◌, ◌↔◌, min, [], ◌∷◌, length, take, IfOk, IsOk};
 ghost use Rattle.std.specs.Counts.{IsPrefixLen};
+ghost use Rattle.std.specs.Int.{w32, to_le_bytes};
+ghost use Rattle.std.specs.List.{flat_map};
 ghost use Rattle.std.specs.Io.KnownBytes.{Consumes};
 
 use std::io;
@@ -67,7 +69,9 @@ pub fn read_part<R: Read>(input: &mut R, len: u32, room: &mut [u8]) -> usize
 }
 
 // The kind of the next record.
-pub fn read_kind<R: Read>(input: &mut R) -> Result<u8, Ending> {
+pub fn read_kind<R: Read>(input: &mut R) -> Result<u8, Ending>
+    ensures { IfOk result (λ kind. Consumes (R.remaining input.old) (R.remaining input.new) (kind ∷ [])) }
+{
     let mut kind = [0u8; 1];
     if read_full(input, &mut kind) == 0 {
         return Err(Ending::Done);
@@ -75,15 +79,24 @@ pub fn read_kind<R: Read>(input: &mut R) -> Result<u8, Ending> {
     Ok(kind[0])
 }
 
+// Little-endian.
+fn number_of(bytes: [u8; 4]) -> u32
+    ensures { to_le_bytes w32 result ≡ bytes }
+{
+    u32::from_le_bytes(bytes)
+}
+
 // So many numbers, little-endian.
-pub fn read_numbers<R: Read, const N: usize>(input: &mut R) -> Result<[u32; N], Ending> {
+pub fn read_numbers<R: Read, const N: usize>(input: &mut R) -> Result<[u32; N], Ending>
+    ensures { IfOk result (λ numbers. Consumes (R.remaining input.old) (R.remaining input.new) (flat_map (to_le_bytes w32) numbers)) }
+{
     let mut numbers = [0; N];
     for number in &mut numbers {
         let mut bytes = [0u8; 4];
         if read_full(input, &mut bytes) < 4 {
             return Err(Ending::Cut);
         }
-        *number = u32::from_le_bytes(bytes);
+        *number = number_of(bytes);
     }
     Ok(numbers)
 }

@@ -86,8 +86,9 @@ pub fn has_mark(mark: u32, marks: u32) -> bool
     marks / mark % 2 == 1
 }
 
-// A sheet that passed its check: no contract has to ask for that. A clause sees its bytes. Beside them it holds how many rows it
-// has and where its distances and its times start, which is one place where it has no times.
+// A sheet that passed its check: no contract has to ask for that. A clause sees its bytes. Beside them it holds how many rows and
+// depots it has, since depots are counted row by row, and where its distances and its times start, which is one place where it has
+// no times.
 //
 // A row and a vehicle stay numbers, whose bound a clause says: a type of theirs would have to name the sheet, and be made anew of
 // each number of a table. Before the check there are no types either, for a header, for counts or for a record that lies within
@@ -96,6 +97,7 @@ pub fn has_mark(mark: u32, marks: u32) -> bool
 pub struct Sheet<'a> {
     bytes: &'a [u8],
     rows: usize,
+    depots: usize,
     distances: usize,
     times: usize,
 }
@@ -105,7 +107,7 @@ impl<'a> Model for Sheet<'a> {
 
     ghost view = { λ a. a.bytes.now };
 
-    ghost invariant = { λ a. Located a.bytes.now a.rows a.distances a.times };
+    ghost invariant = { λ a. Located a.bytes.now a.rows a.depots a.distances a.times };
 }
 
 impl<'a> Sheet<'a> {
@@ -114,11 +116,13 @@ impl<'a> Sheet<'a> {
         ensures { result ≡ bytes.now }
     {
         let rows = rows(bytes);
+        let depots = customer::depots(bytes);
         let distances = matrix::tables(bytes);
         let times = distances + 8 * (times(bytes) as usize * (rows * rows));
         Sheet {
             bytes,
             rows,
+            depots,
             distances,
             times,
         }
@@ -158,7 +162,7 @@ impl<'a> Sheet<'a> {
         ensures value { result ≡ depots_of self.now }
         ensures accepted { Accepted self.now }
     {
-        customer::depots(self.bytes)
+        self.depots
     }
 
     pub fn method(&self) -> Method

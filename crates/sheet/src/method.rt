@@ -31,12 +31,20 @@ impl TryFrom<u8> for Method {
     }
 }
 
+// The byte that names a sheet's method: before the check it may be any.
+pub fn method_byte(sheet: &[u8]) -> u8
+    requires { header_size ≤ length sheet.now }
+    ensures { result ≡ method_of sheet.now }
+{
+    sheet[4]
+}
+
 // A sheet's method, or refusal 3.
 pub fn method_of(sheet: &[u8]) -> Result<Method, Refusal>
     requires { header_size ≤ length sheet.now }
     ensures { Decodes (method_of sheet.now) result }
 {
-    Method::try_from(sheet[4])
+    Method::try_from(method_byte(sheet))
 }
 
 // The same where the method is known to be one of the five: it cannot fail.

@@ -60,7 +60,8 @@ pub fn row_lines(text: &[u8], from: usize) -> Option<RowLines>
         if !is_row_line(line, count) {
             return None;
         }
-        in_range &= customer_in_range(line);
+        // Not by `&=`, which would ask the lines after one out of range too.
+        in_range = in_range && customer_in_range(line);
         count += 1;
         at = walk::line_after(text, at);
     }

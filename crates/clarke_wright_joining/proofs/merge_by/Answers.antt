@@ -1,6 +1,7 @@
 -- `clarke_wright_joining::merge_by` meets its contract. Assumes nothing.
 use native.Mathlib.Omega.{arith}
 use Rattle.std.proofs.Common.{rules}
+use Rattle.clarke_wright_slots.proofs.Taking.{taken_long}
 use Rattle.clarke_wright_joining.proofs.Joining.{fitting, few_stops, all_routed, takes_over, not_passed, taken}
 use Rattle.clarke_wright_joining.proofs.merge_by.Goals as goal
 
@@ -28,5 +29,6 @@ take_over-requires g c = (search rules, takes_over c.requires.slotted c.requires
 pub returns : goal.returns
 returns g c =
     let both = taken c.requires.slotted c.requires.way_slots c.in-Some.is c.route-ri.ensures c.route-rj.ensures c.args.terms c.requires.depot_bound c.join-n.ensures.trial_after c.is_passed.ensures c.if-not-is_passed.false c.take_over.ensures.slots_len c.take_over.ensures.slot_taken in
+    let room = takes_over c.requires.slotted c.requires.way_slots c.in-Some.is c.route-ri.ensures c.route-rj.ensures c.args.terms c.requires.depot_bound c.join-n.ensures.trial_after in
     let kept = c.take_over.ensures.count_kept in
-    record { count_kept = kept; slotted_2 = rw kept both.0; lens_after = rw kept both.1 }
+    record { count_kept = kept; slotted_2 = rw kept both.0; lens_after = rw kept both.1; as_long = taken_long room.0 room.1.1.0 c.take_over.ensures.slots_len c.take_over.ensures.slot_taken }

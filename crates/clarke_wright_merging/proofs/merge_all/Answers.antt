@@ -1,5 +1,6 @@
 -- `clarke_wright_merging::merge_all` meets its contract. Assumes nothing.
 use mathlib.Core.Path.{◌∙◌}
+use Rattle.std.proofs.Common.{rules}
 use Rattle.clarke_wright_merging.proofs.Merging.{goes_on, ends}
 use Rattle.clarke_wright_merging.proofs.merge_all.Goals as goal
 
@@ -12,6 +13,7 @@ loop-entry-preserved g c =
       counted = kept;
       merging = goes_on i.merging c.loop-entry-test.true (rw kept at m.slotted_2) (rw (kept, i.counted) at m.lens_after);
       long = c.merge.auto.trial ∙ i.long;
+      as_long = search rules;
     }
 
 pub returns-clause-lens_after : goal.returns-clause-lens_after

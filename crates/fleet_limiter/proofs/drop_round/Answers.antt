@@ -11,6 +11,7 @@ refit-requires g c = (search rules, (after_tables c.requires.tables c.requires.n
 
 pub returns : goal.returns
 returns g c = record {
+  as_long = search rules;
   held = drops c.requires.tables c.requires.n_nonzero.0 c.victim-round.ensures c.requires.n_nonzero.1 c.take_out.ensures.held _ c.refit.ensures.held;
   behind_kept = stays c.requires.tables c.requires.n_nonzero.0 c.victim-round.ensures c.requires.n_nonzero.1 c.take_out.ensures.held _ c.take_out.ensures.behind_kept c.refit.ensures.behind_kept;
 }

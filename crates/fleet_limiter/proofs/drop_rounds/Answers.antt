@@ -7,7 +7,7 @@ use Rattle.fleet_limiter.proofs.DroppingRounds.{ends_so, few, alone, goes_on}
 use Rattle.fleet_limiter.proofs.drop_rounds.Goals as goal
 
 pub drop_round-requires : goal.drop_round-requires
-drop_round-requires g c = let l = c.loop-n.invariant in
+drop_round-requires g c = let l = c.loop-n.invariant.dropping in
     let h = c.loop-n-test.true in
     let e = c.start_of-routed.ensures in
     let t = c.requires.triable in
@@ -15,7 +15,7 @@ drop_round-requires g c = let l = c.loop-n.invariant in
     (search rules, (alone l h e, (record { windows = t.windows; some = t.some; few = omega (arith, few l h e, t.few) }, (some, sym e))))
 
 pub loop-n-preserved : goal.loop-n-preserved
-loop-n-preserved g c = goes_on c.loop-n.invariant c.loop-n-test.true c.start_of-routed.ensures c.drop_round.ensures.behind_kept c.drop_round.ensures.held
+loop-n-preserved g c = record { as_long = search rules; dropping = goes_on c.loop-n.invariant.dropping c.loop-n-test.true c.start_of-routed.ensures c.drop_round.ensures.behind_kept c.drop_round.ensures.held }
 
-pub returns : goal.returns
-returns g c = ends_so c.loop-n.invariant c.loop-n-test.false
+pub returns-clause-held : goal.returns-clause-held
+returns-clause-held g c = ends_so c.loop-n.invariant.dropping c.loop-n-test.false

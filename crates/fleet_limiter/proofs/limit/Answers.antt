@@ -4,11 +4,11 @@ use Rattle.std.proofs.Common.{rules}
 use Rattle.fleet_limiter.proofs.Windows.{triable, read_so, stays}
 use Rattle.fleet_limiter.proofs.limit.Goals as goal
 
-pub returns-then-rounds-greatest : goal.returns-then-rounds-greatest
-returns-then-rounds-greatest g c = stays c.requires c.if-rounds-greatest.true
+pub returns-then-rounds-greatest-clause-held : goal.returns-then-rounds-greatest-clause-held
+returns-then-rounds-greatest-clause-held g c = stays c.requires c.if-rounds-greatest.true
 
 pub drop_rounds-requires : goal.drop_rounds-requires
 drop_rounds-requires g c = (search rules, (c.requires.tables, triable c.requires c.windows_in-windows.ensures (omega (arith, c.if-rounds-greatest.false))))
 
-pub returns : goal.returns
-returns g c = read_so c.requires c.windows_in-windows.ensures _ c.drop_rounds.ensures
+pub returns-clause-held : goal.returns-clause-held
+returns-clause-held g c = read_so c.requires c.windows_in-windows.ensures _ c.drop_rounds.ensures.held

@@ -10,15 +10,15 @@ pub lay_aside-requires-clause-marks_in_bounds : goal.lay_aside-requires-clause-m
 lay_aside-requires-clause-marks_in_bounds g c = let w = c.settle in
     room_aside w.new.at (planned_still (w.ensures.untouched c.if-not-settle.true) c.plan_depots-filled.ensures.planned) (omega arith)
 
-pub returns-then-not-settle : goal.returns-then-not-settle
+pub returns-then-not-settle-clause-holds_outcome : goal.returns-then-not-settle-clause-holds_outcome
 unfolding by_depot
-returns-then-not-settle g c = let w = c.settle in
+returns-then-not-settle-clause-holds_outcome g c = let w = c.settle in
     rw (sym w.ensures.at_after) (gathered_held w.new.at (planned_still (w.ensures.untouched c.if-not-settle.true) c.plan_depots-filled.ensures.planned) (omega arith) c.lay_aside.ensures)
 
 pub lay_aside-requires-2-clause-marks_in_bounds : goal.lay_aside-requires-2-clause-marks_in_bounds
 lay_aside-requires-2-clause-marks_in_bounds g c = room_aside c.settle.new.at c.plan_depots-last.ensures.planned (omega arith)
 
-pub returns : goal.returns
+pub returns-clause-holds_outcome : goal.returns-clause-holds_outcome
 unfolding by_depot
-returns g c = let w = c.settle in
+returns-clause-holds_outcome g c = let w = c.settle in
     rw (sym w.ensures.at_after) (gathered_held w.new.at c.plan_depots-last.ensures.planned (omega arith) c.lay_aside-2.ensures)

@@ -8,5 +8,5 @@ pub lay_depot-requires : goal.lay_depot-requires
 lay_depot-requires g c = let z = c.fill.ensures.after (λ y e. e) in
     (search rules, (lent_zeros c.requires z, rw (is_empty c.default-filled.ensures) (next_zeros c.requires z)))
 
-pub returns : goal.returns
-returns g c = one_held c.requires (c.fill.ensures.after (λ y e. e)) (rw (is_empty c.default-filled.ensures) at c.lay_depot.ensures)
+pub returns-clause-holds_outcome : goal.returns-clause-holds_outcome
+returns-clause-holds_outcome g c = one_held c.requires (c.fill.ensures.after (λ y e. e)) (rw (is_empty c.default-filled.ensures) at c.lay_depot.ensures)

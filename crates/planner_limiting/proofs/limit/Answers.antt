@@ -5,11 +5,11 @@ use Rattle.planner_limiting.proofs.PlanOut.{limit_refused, limit_may, limit_fits
 use Rattle.planner_limiting.proofs.limit.Goals as goal
 
 pub returns-in_err-rounds : goal.returns-in_err-rounds
-returns-in_err-rounds c = let p = err_from_is_err_and c.from_residual.result c.from_residual.ensures.1 in rw (p.1, p.2) (limit_refused _ _ _ _ _ (number_positive _) c.in_err-rounds.ensures)
+returns-in_err-rounds c = let p = err_from_is_err_and c.from_residual.result c.from_residual.ensures.1 in rw (p.1, p.2) (limit_refused _ _ _ _ _ (number_positive _) c.in_err-rounds.ensures.entry_as)
 
 pub limit_read-requires : goal.limit_read-requires
 limit_read-requires c =
-    let in_ok = c.in_ok-rounds.ensures in
+    let in_ok = c.in_ok-rounds.ensures.entry_as in
     let out = c.args.plan_out.now in
     rw c.new-sheet.ensures record {
       limitable = limit_may _ _ out in_ok;
@@ -19,4 +19,4 @@ limit_read-requires c =
     }
 
 pub returns : goal.returns
-returns c = limit_done _ _ _ c.in_ok-rounds.ensures _ _ (rw c.new-sheet.ensures at c.limit_read.ensures)
+returns c = limit_done _ _ _ c.in_ok-rounds.ensures.entry_as _ _ (rw c.new-sheet.ensures at c.limit_read.ensures)

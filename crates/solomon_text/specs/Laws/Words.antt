@@ -84,3 +84,8 @@ module _ (line : List ℕ) (at end : ℕ) (s : AtWord line at) (p : FirstPart is
       none e =
           let out : length line ≤ at = omega arith in
           rw (no_words_left line at out, drop_of_length-le line out) (take-nil (end - at))
+
+-- ---- a line's first word and what follows it
+pub record FirstWord (line word rest : List ℕ) : Type 0 where
+  pub words : words_of line ≡ word ∷ words_of rest
+  pub shorter : length rest < length line

@@ -8,10 +8,10 @@ use Rattle.clarke_wright_savings.proofs.Savings.push_all.Goals as goal
 
 pub loop-start-init : goal.loop-start-init
 unfolding savings_of
-loop-start-init g c = none_yet _ refl _ _ _ _ _ _
+loop-start-init g c = record { as_long = search rules; gathering = none_yet _ refl _ _ _ _ _ _ }
 
 pub loop-start-preserved : goal.loop-start-preserved
-loop-start-preserved g c = let p = c.push_from in of_takes _ _ c.loop-start.invariant c.loop-start-test.true _ _ _ _ _ p.ensures.count_after p.ensures.savings_pushed
+loop-start-preserved g c = let p = c.push_from in record { as_long = search rules; gathering = of_takes _ _ c.loop-start.invariant.gathering c.loop-start-test.true _ _ _ _ _ p.ensures.count_after p.ensures.savings_pushed }
 
 pub push_from-requires : goal.push_from-requires
-push_from-requires g c = (search rules, (c.requires.routed, (c.requires.routed.row c.loop-start.start-index (omega arith), (omega (arith, few _ _ c.loop-start.invariant c.loop-start-test.true, c.requires.members_in_bounds), of_fits _ _ c.loop-start.invariant c.loop-start-test.true c.requires.routed.few))))
+push_from-requires g c = (search rules, (c.requires.routed, (c.requires.routed.row c.loop-start.start-index (omega arith), (omega (arith, few _ _ c.loop-start.invariant.gathering c.loop-start-test.true, c.requires.members_in_bounds), of_fits _ _ c.loop-start.invariant.gathering c.loop-start-test.true c.requires.routed.few))))

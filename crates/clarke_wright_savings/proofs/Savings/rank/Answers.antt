@@ -4,7 +4,7 @@ use native.Mathlib.Nat.{le_trans}
 use native.Mathlib.Omega.{arith}
 use lib.Seq.{length-take-le}
 use Rattle.std.proofs.Common.{rules}
-use Rattle.clarke_wright_savings.proofs.Ranking.{listed, entries_hold, numbers, placed, few, in_rank}
+use Rattle.clarke_wright_savings.proofs.Ranking.{listed, entries_hold, numbers, placed, few, as_many, in_rank}
 use Rattle.clarke_wright_savings.proofs.Savings.rank.Goals as goal
 
 pub shared_whole_as_front-sort_descending : goal.shared_whole_as_front-sort_descending
@@ -28,4 +28,5 @@ returns g c = let o = c.push_all in
       count_after = e.count_after;
       listed = listed _ _ _ e.count_after e.savings_pushed;
       entries_after = in_rank _ _ _ e.count_after e.savings_pushed d.new.entries _ l d.ensures;
+      as_long = let k = e.as_long in record { starts = k.starts; ends = k.ends; saved = k.saved; placed = as_many _ _ _ e.count_after e.savings_pushed d.new.entries l ∙ k.placed };
     }

@@ -1,13 +1,19 @@
 -- `solomon_text::words::word_at` meets its contract. Assumes nothing.
-use Rattle.std.proofs.Common.{rules, refl, not, eqb, length, ap, ◌∙◌}
-use Rattle.std.proofs.lemmas.Iterator.Splits.{YieldsList-from_slice_split}
-use Rattle.std.proofs.lemmas.Iterator.Consumers.{YieldsList-from_filter, nth_from_yields_List}
-use borrow.Author.Tests.{tests}
-use Rattle.solomon_text.specs.Lines.{is_blank, words_of}
-use Rattle.solomon_text.proofs.WordWalk.{words_split, word_got}
+use Rattle.std.proofs.Common.{arith}
+use Rattle.solomon_text.proofs.WordWalk.{seeking_begins, seeking_goes_on, seeking_in_vain, seeking_ends}
 use Rattle.solomon_text.proofs.words.word_at.Goals as goal
 
-pub returns : goal.returns
-returns c =
-    ap (λ x. x.now) c.unwrap_or.ensures
-    ∙ word_got (words_of c.args.line.now) c.args.n c.nth.result _ refl (rw (← words_split c.args.line.now) (nth_from_yields_List c.nth.result c.nth.new.self c.args.n c.nth.ensures.ran (YieldsList-from_filter _ (λ part. not (eqb (length part) 0)) (YieldsList-from_slice_split _ is_blank c.args.line.now (cc) (cc) c.split.ensures.closure (λ x b q k. search (rules, tests))) c.filter.ensures.closure (λ x b q k. search (rules, tests)))))
+pub loop-init : goal.loop-init
+loop-init c = seeking_begins c.args.line.now c.args.n
+
+pub returns-in_default : goal.returns-in_default
+returns-in_default c = seeking_in_vain c.args.line.now c.loop.rest.now c.args.n c.loop.counter c.loop.invariant c.in_default.ensures
+
+pub loop-preserved : goal.loop-preserved
+loop-preserved c = seeking_goes_on c.args.line.now c.loop.rest.now c.in-Some.field-0-0.now c.in-Some.after.now c.args.n c.loop.counter c.loop-test.true c.loop.invariant c.in-Some.ensures
+
+pub returns-in-Some-first_word : goal.returns-in-Some-first_word
+returns-in-Some-first_word c = seeking_ends c.args.line.now c.loop.rest.now c.in-Some-first_word.word.now c.in-Some-first_word.field-0-1.now c.args.n c.loop.counter (omega arith) c.loop.invariant c.in-Some-first_word.ensures
+
+pub returns-in-None : goal.returns-in-None
+returns-in-None c = seeking_in_vain c.args.line.now c.loop.rest.now c.args.n c.loop.counter c.loop.invariant c.in-None.ensures
