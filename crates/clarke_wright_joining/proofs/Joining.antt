@@ -9,11 +9,8 @@ use lib.ListN.{length, get_or}
 use Rattle.lists.specs.Every.{Every}
 use Rattle.lists.specs.Laws.Every.{every_at}
 use Rattle.sheet.specs.Fields.{rows_of}
-use Rattle.sheet.specs.Accepted.{Accepted}
-use Rattle.sheet.specs.Laws.Finite.{demand_bounded}
 use Rattle.evaluation.specs.Routed.{Routed}
 use Rattle.constructive.specs.declared.terms.Terms.{Terms}
-use Rattle.constructive.specs.Load.{load_of}
 use Rattle.constructive.proofs.Loading.{load_few}
 use Rattle.clarke_wright_savings.specs.Savings.{route_at, apart, joined, only_if, joined_passes, merge_passes, passing, after_merge}
 use Rattle.clarke_wright_savings.specs.Routes.{Slots}
@@ -48,6 +45,7 @@ pub record Fitting (cells lens loads : List ℕ) (into from : ℕ) : Type 0 wher
   pub from_in : from < 101
   pub into_celled : into * 101 + 101 ≤ length cells
   pub from_celled : from * 101 + 101 ≤ length cells
+  pub measured : 101 ≤ length lens
   pub loaded : 101 ≤ length loads
   pub into_long : get_or lens into 0 ≤ 101
   pub from_long : get_or lens from 0 ≤ 101
@@ -78,6 +76,7 @@ module _ {s : List ℕ} {n : ℕ} {cells lens loads slots : List ℕ} (g : Slott
     from_in = omega (arith, q, g.room.most);
     into_celled = omega (arith, p, g.room.celled);
     from_celled = omega (arith, q, g.room.celled);
+    measured = g.room.measured;
     loaded = g.room.loaded;
     into_long = short_at a p;
     from_long = short_at b q;

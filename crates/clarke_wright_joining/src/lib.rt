@@ -6,6 +6,7 @@ ghost use Rattle.sheet.specs.Fields.{rows_of, most_rows};
 ghost use Rattle.evaluation.specs.Routed.{Routed};
 ghost use Rattle.clarke_wright_savings.specs.Savings.{first_is, last_is, merge_too_dear, joined_passes, passing, after_merge};
 ghost use Rattle.clarke_wright_slots.specs.Slots.{slots_in, Slotted, SlotsAsLong};
+ghost use Rattle.clarke_wright_slots.specs.Lent.{SlotsLent};
 ghost use Rattle.clarke_wright_joining.specs.Ways.{meant, way_of, WaySlots};
 
 use clarke_wright_slots::RouteSlots;
@@ -94,21 +95,16 @@ fn is_passed(sheet: &Sheet, terms: Terms, into: &[u16], from: &[u16], stops: &[u
 }
 
 // Joins two slots this way, where that passes.
-pub fn merge_by<const CELLS: usize>(
-    sheet: &Sheet,
-    terms: Terms,
-    way: Way,
-    slots: &mut RouteSlots<CELLS>,
-    trial: &mut [u16],
-)
-    requires slotted { Slotted sheet.now slots.old.count slots.old.cells slots.old.lens slots.old.loads slots.old.slots }
+pub fn merge_by(sheet: &Sheet, terms: Terms, way: Way, slots: &mut RouteSlots, trial: &mut [u16])
+    requires slotted { Slotted sheet.now slots.old.count slots.old.cells.now slots.old.lens.now slots.old.loads.now slots.old.slots.now }
     requires depot_bound { terms.depot < rows_of sheet.now }
-    requires way_slots { WaySlots (slots_in slots.old.count slots.old.cells slots.old.lens) way }
+    requires way_slots { WaySlots (slots_in slots.old.count slots.old.cells.now slots.old.lens.now) way }
     requires most_rows_in_bounds { most_rows ≤ length trial.old }
     ensures count_kept { slots.new.count ≡ slots.old.count }
-    ensures slotted_2 { Slotted sheet.now slots.new.count slots.new.cells slots.new.lens slots.new.loads slots.new.slots }
-    ensures lens_after { slots_in slots.new.count slots.new.cells slots.new.lens ≡ after_merge (slots_in slots.old.count slots.old.cells slots.old.lens) (passing sheet.now terms (slots_in slots.old.count slots.old.cells slots.old.lens) (meant (slots_in slots.old.count slots.old.cells slots.old.lens) way)) }
-    ensures as_long { SlotsAsLong slots.old.cells slots.old.lens slots.old.loads slots.old.slots slots.new.cells slots.new.lens slots.new.loads slots.new.slots }
+    ensures slotted_2 { Slotted sheet.now slots.new.count slots.new.cells.now slots.new.lens.now slots.new.loads.now slots.new.slots.now }
+    ensures lens_after { slots_in slots.new.count slots.new.cells.now slots.new.lens.now ≡ after_merge (slots_in slots.old.count slots.old.cells.now slots.old.lens.now) (passing sheet.now terms (slots_in slots.old.count slots.old.cells.now slots.old.lens.now) (meant (slots_in slots.old.count slots.old.cells.now slots.old.lens.now) way)) }
+    ensures as_long { SlotsAsLong slots.old.cells.now slots.old.lens.now slots.old.loads.now slots.old.slots.now slots.new.cells.now slots.new.lens.now slots.new.loads.now slots.new.slots.now }
+    ensures lent { SlotsLent slots.old slots.new }
 {
     let Some((into, from, back, forth)) = way else {
         return;

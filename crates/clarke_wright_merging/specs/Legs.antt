@@ -4,9 +4,10 @@ use Rattle.sheet.specs.Fields.{rows_of}
 use Rattle.clarke_wright_savings.specs.declared.terms.Directed.{Directed}
 use Rattle.clarke_wright_savings.specs.Savings.{merge_of, after_merge}
 
--- legs between rows, at these places in tables of so many entries
-pub record Legs (s : List ℕ) (pairs : ℕ) (from to entries : List ℕ) : Type 0 where
-  pub inside : (k : ℕ) → k < length entries → get_or entries k 0 < pairs
+-- legs between rows, at these places
+pub record Legs (s from to entries : List ℕ) : Type 0 where
+  pub starts : (k : ℕ) → k < length entries → get_or entries k 0 < length from
+  pub ends : (k : ℕ) → k < length entries → get_or entries k 0 < length to
   pub from_row : (k : ℕ) → k < length entries → get_or from (get_or entries k 0) 0 < rows_of s
   pub to_row : (k : ℕ) → k < length entries → get_or to (get_or entries k 0) 0 < rows_of s
 

@@ -3,7 +3,8 @@ use mathlib.Core.Path.{◌≡◌, refl, sym, ap, ◌∙◌}
 use Prim.Native.Nat.{ℕ, ◌≤◌, ◌<◌}
 use native.Mathlib.Nat.{le_trans}
 use mathlib.Core.List.{List, [], ◌∷◌}
-use lib.ListN.{length, get_or, take, length-map, get_or-map}
+use native.Mathlib.Omega.{arith}
+use lib.ListN.{length, get_or, take, length-take, length-map, get_or-map}
 use lib.Seq.{get_or-take}
 use lib.Ieee.{Float}
 use Rattle.lists.specs.Every.{Every}
@@ -16,7 +17,7 @@ use Rattle.evaluation.specs.Routed.{Routed}
 use Rattle.clarke_wright_savings.specs.declared.terms.Directed.{Directed}
 use Rattle.clarke_wright_savings.specs.Savings.{Saving, saving_of, saves, savings_from, savings_of, values_of, numbered, ranked, starts_of, merge_of, after_merge, no_saving, merged_by, routes_of}
 use Rattle.clarke_wright_savings.specs.Laws.Ranked.{kept_every, savings_entries}
-use Rattle.clarke_wright_savings.specs.Listed.{Listed}
+use Rattle.clarke_wright_savings.specs.Listed.{froms_of, tos_of, Listed}
 use Rattle.clarke_wright_merging.specs.Legs.{Legs, merged_in}
 
 -- ---- legs between rows
@@ -41,6 +42,9 @@ ranked_within savings =
     sorted_each (greater (values_of savings)) (λ e. e < length savings) (numbered (length savings) 0)
     (rw (length-map savings (λ (x : Saving). x.value)) at (savings_entries savings))
 
+within : {A : Type 0} (n : ℕ) (xs ys : List A) → take n xs ≡ ys → length ys ≡ n → n ≤ length xs
+within n xs ys e l = omega (arith, ap length e, length-take n xs, l)
+
 module _ (savings : List Saving) (from to : List ℕ) (values : List Float) (l : Listed savings from to values) where
   starts_at : (e : ℕ) → e < length savings → get_or from e 0 ≡ (get_or savings e no_saving).from
   starts_at e h =
@@ -53,6 +57,12 @@ module _ (savings : List Saving) (from to : List ℕ) (values : List Float) (l :
       sym (get_or-take (length savings) to e 0 h)
       ∙ ap (λ (xs : List ℕ). get_or xs e 0) l.ends
       ∙ get_or-map (λ (x : Saving). x.to) savings e no_saving
+
+  starts_hold : length savings ≤ length from
+  starts_hold = within (length savings) from (froms_of savings) l.starts (length-map savings (λ (x : Saving). x.from))
+
+  ends_hold : length savings ≤ length to
+  ends_hold = within (length savings) to (tos_of savings) l.ends (length-map savings (λ (x : Saving). x.to))
 
   merged_same : (s : List ℕ) (t : Directed) (es : List ℕ) → Each (λ e. e < length savings) es → (routes : List (List ℕ))
       → merged_in s t from to es routes ≡ merged_by s t savings es routes
@@ -78,14 +88,15 @@ module _
     all = savings_of s t members members
 
     -- LEGS BETWEEN MEMBERS: each place that is ranked is one of the tables', with rows of the sheet
-    pub ranked_legs : (depot : ℕ) → Routed s depot members → (pairs : ℕ) → length (savings_of s t members members) ≤ pairs → Legs s pairs from to (take n entries)
-    ranked_legs depot r pairs few =
+    pub ranked_legs : (depot : ℕ) → Routed s depot members → Legs s from to (take n entries)
+    ranked_legs depot r =
         let ms = every_of (λ (i : ℕ). i < rows_of s) 0 members r.row in
         let rows = savings_rows s t members members ms ms in
         let at : (k : ℕ) → k < length (take n entries) → get_or (take n entries) k 0 < length all = λ k h. each_at (λ i. i < length all) (take n entries) k h (rw e (ranked_within all)) in
         let row : (i : ℕ) → i < length all → Rows s (get_or all i no_saving) = λ i h. every_at (Rows s) no_saving all i h rows in
         record {
-          inside = λ k h. le_trans (at k h) few;
+          starts = λ k h. le_trans (at k h) (starts_hold all from to values l);
+          ends = λ k h. le_trans (at k h) (ends_hold all from to values l);
           from_row = λ k h. rw (starts_at all from to values l (get_or (take n entries) k 0) (at k h)) (row (get_or (take n entries) k 0) (at k h)).0;
           to_row = λ k h. rw (ends_at all from to values l (get_or (take n entries) k 0) (at k h)) (row (get_or (take n entries) k 0) (at k h)).1;
         }

@@ -1,6 +1,6 @@
 -- The tables of savings as they fill. Assumes nothing.
 use mathlib.Core.Path.{◌≡◌, sym, ap, ◌∙◌}
-use Prim.Native.Nat.{ℕ, zero, suc, ◌+◌, ◌<◌}
+use Prim.Native.Nat.{ℕ, zero, suc, ◌+◌, ◌≤◌}
 use native.Mathlib.Nat.{zero-add, add-zero, suc-add, add_assoc}
 use native.Mathlib.Omega.{arith}
 use mathlib.Core.List.{List, [], ◌∷◌, ◌++◌, append_assoc}
@@ -8,17 +8,27 @@ use lib.ListN.{length, take, set, length-append}
 use lib.Ieee.{Float}
 use Rattle.std.proofs.lemmas.List.{take_more_set, map-append}
 use Rattle.clarke_wright_savings.specs.Savings.{Saving, values_of, numbered}
-use Rattle.clarke_wright_savings.specs.Listed.{froms_of, tos_of, SavingsPushed}
+use Rattle.clarke_wright_savings.specs.Listed.{froms_of, tos_of, Space, SavingsPushed, SavingsAsLong}
 
 -- ---- one saving
-module _ (n : ℕ) (from to : List ℕ) (values : List Float) (entries : List ℕ) (at : ℕ) (h : at < n) where
-  pub pushes : length from ≡ n → length to ≡ n → length values ≡ n → length entries ≡ n → (x : Saving) → SavingsPushed from to values entries at (x ∷ []) (set from at x.from) (set to at x.to) (set values at x.value) (set entries at at)
+-- tables that are as long as they were have the room that they had
+pub room_kept : {from to : List ℕ} {values : List Float} {entries from' to' : List ℕ} {values' : List Float} {entries' : List ℕ} → SavingsAsLong from to values entries from' to' values' entries'
+    → (n : ℕ) → Space from to values entries n → (m : ℕ) → m ≤ n → Space from' to' values' entries' m
+room_kept k n p m h = record {
+  starts = omega (arith, k.starts, p.starts, h);
+  ends = omega (arith, k.ends, p.ends, h);
+  saved = omega (arith, k.saved, p.saved, h);
+  placed = omega (arith, k.placed, p.placed, h);
+}
+
+module _ (from to : List ℕ) (values : List Float) (entries : List ℕ) (at : ℕ) (h : Space from to values entries (at + 1)) where
+  pub pushes : (x : Saving) → SavingsPushed from to values entries at (x ∷ []) (set from at x.from) (set to at x.to) (set values at x.value) (set entries at at)
   unfolding numbered
-  pushes starts ends saved placed x = record {
-    starts = take_more_set from at x.from (omega (arith, starts, h));
-    ends = take_more_set to at x.to (omega (arith, ends, h));
-    saved = take_more_set values at x.value (omega (arith, saved, h));
-    placed = take_more_set entries at at (omega (arith, placed, h));
+  pushes x = record {
+    starts = take_more_set from at x.from (omega (arith, h.starts));
+    ends = take_more_set to at x.to (omega (arith, h.ends));
+    saved = take_more_set values at x.value (omega (arith, h.saved));
+    placed = take_more_set entries at at (omega (arith, h.placed));
   }
 
 -- ---- savings after savings

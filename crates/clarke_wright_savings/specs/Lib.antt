@@ -1,4 +1,5 @@
 pub mod Savings
 pub mod Routes
 pub mod Listed
+pub mod Lent
 pub mod Laws

@@ -5,7 +5,7 @@ use native.Mathlib.Nat.{add-zero}
 use native.Mathlib.Omega.{arith}
 use mathlib.Core.List.{List, [], ◌∷◌, ◌++◌, append-nil}
 use lib.ListN.{length, get_or, take, drop, length-drop}
-use lib.Seq.{length-take-le}
+use lib.Seq.{length-take-le, take_all}
 use Rattle.wire.specs.Bytes.{write}
 use Rattle.wire.specs.Laws.Bytes.{length_write, write_write}
 use Rattle.wire.specs.Laws.Overwrite.{put_part, write_same}
@@ -216,11 +216,12 @@ module _ {n : ℕ} {cells lens : List ℕ} {v : ℕ} {stops₀ ends₀ vehicles�
           }
 
       -- as the code copies it
-      pub closes : (copied ends' vehicles' : List ℕ) (f' : Filled) → copied ≡ take (101 * k + many - 101 * k) (drop (101 * k) cells)
+      pub closes : (copied ends' vehicles' : List ℕ) (f' : Filled) → copied ≡ take (length (take (f.routed + many - f.routed) (drop f.routed stops))) (take (101 * k + many - 101 * k) (drop (101 * k) cells))
           → f' ≡ record { rounds = f.rounds + 1; routed = f.routed + many } → ends' ≡ write ends f.rounds ((f.routed + many) ∷ []) → vehicles' ≡ write vehicles f.rounds (v ∷ [])
           → Filling n cells lens v stops₀ ends₀ vehicles₀ f₀ (take f.routed stops ++ (copied ++ drop (f.routed + many - f.routed) (drop f.routed stops))) ends' vehicles' f' (k + 1)
       closes copied ends' vehicles' f' p u q r =
-          let e : copied ≡ route = p ∙ lent in
+          let room = length-take-le (f.routed + many - f.routed) (drop f.routed stops) (omega (arith, length-drop f.routed stops, fits.1)) in
+          let e : copied ≡ route = p ∙ rw lent (take_all _ route (omega (arith, long_route, room))) in
           closed _ ends' vehicles' f' (rw e (put_part stops f.routed (f.routed + many - f.routed) route (omega (arith, long_route)))) u q r
       -- ---- all slots are through
 

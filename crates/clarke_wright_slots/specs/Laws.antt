@@ -1,2 +1,2 @@
-pub mod Slots
 pub mod HowMany
+pub mod Slots

@@ -1,2 +1,3 @@
 pub mod Slots
+pub mod Lent
 pub mod Laws

@@ -52,7 +52,7 @@ pub record Slotted (s : List ℕ) (n : ℕ) (cells lens loads slots : List ℕ) 
   pub load : (k : ℕ) → k < n → get_or loads k 0 ≡ load_of s (route_at (slots_in n cells lens) k)
   pub slot : (x : ℕ) → x < most_rows → get_or slots x 0 ≡ slot_of x (slots_in n cells lens)
 
--- tables that are as long as they were (a clause: the length of an array that is lent is known to a proof until a call takes it)
+-- tables that are as long as they were (a clause: of a slice in a struct that is lent a proof knows no length once a call took it)
 pub record SlotsAsLong (cells lens loads slots cells' lens' loads' slots' : List ℕ) : Type 0 where
   pub celled : length cells' ≡ length cells
   pub measured : length lens' ≡ length lens

@@ -9,18 +9,42 @@ ghost use Rattle.sheet.specs.Fields.{most_rows};
 ghost use Rattle.lists.specs.Count.{count};
 ghost use Rattle.wire.specs.Bytes.{write};
 ghost use Rattle.clarke_wright_slots.specs.Slots.{slot_at, Roomy, or_reversed, end_to_end, SlotTaken};
+ghost use Rattle.clarke_wright_slots.specs.Lent.{SlotsLent};
 
 // The stops of slot k stand in `cells` from 101 times k on, `lens` says how many they are, `loads` what they ask of a vehicle,
 // `slots` has the slot of each row, and `count` slots are in use. A row with no round has `count` in `slots`: a u16 for each row is
 // all it takes. Without a heap there is no Vec of rounds. Lengths and loads are two tables: a round is read by the one, a merge is
-// tried by the other, and together they would take a third as much again.
+// tried by the other, and together they would take a third as much again. Each is lent at a length of its own, and each function
+// that is lent this struct leaves the slices in it that it found there (`SlotsLent`).
 #[derive(Drop)]
-pub struct RouteSlots<const CELLS: usize> {
+pub struct RouteSlots<'a> {
+    pub cells: &'a mut [u16],
+    pub lens: &'a mut [u16],
+    pub loads: &'a mut [u32],
+    pub slots: &'a mut [u16],
+    pub count: usize,
+}
+
+// Tables of a caller's own, for slots with so many stops in all, which it lends in `RouteSlots`.
+#[derive(Drop)]
+pub struct SlotArrays<const CELLS: usize> {
     pub cells: [u16; CELLS],
     pub lens: [u16; sheet::MOST_ROWS],
     pub loads: [u32; sheet::MOST_ROWS],
     pub slots: [u16; sheet::MOST_ROWS],
-    pub count: usize,
+}
+
+impl<const CELLS: usize> SlotArrays<CELLS> {
+    pub fn new() -> Self
+        ensures { (n : ℕ) → n ≤ most_rows → n * most_rows ≤ CELLS → Roomy n result.cells result.lens result.loads result.slots }
+    {
+        SlotArrays {
+            cells: [0; CELLS],
+            lens: [0; sheet::MOST_ROWS],
+            loads: [0; sheet::MOST_ROWS],
+            slots: [0; sheet::MOST_ROWS],
+        }
+    }
 }
 
 // Copies a round over the front of a table, last stop first. By a loop: `copy_from_slice` and `reverse` take twice the time.
@@ -67,48 +91,36 @@ fn relabel(slots: &mut [u16], route: &[u16], slot: u16)
     }
 }
 
-impl<const CELLS: usize> RouteSlots<CELLS> {
-    pub fn new() -> Self
-        ensures room { (n : ℕ) → n ≤ most_rows → n * most_rows ≤ CELLS → Roomy n result.cells result.lens result.loads result.slots }
-        ensures none_yet { result.count ≡ 0 }
-    {
-        RouteSlots {
-            cells: [0; CELLS],
-            lens: [0; sheet::MOST_ROWS],
-            loads: [0; sheet::MOST_ROWS],
-            slots: [0; sheet::MOST_ROWS],
-            count: 0,
-        }
-    }
-
+impl RouteSlots<'_> {
     // The stops of slot k.
     pub fn route(&self, k: usize) -> &[u16]
-        requires celled { (k < most_rows) × (k * most_rows + most_rows ≤ length self.now.cells) }
-        requires long { get_or self.now.lens k 0 ≤ most_rows }
-        ensures { result.now ≡ slot_at self.now.cells self.now.lens k }
+        requires celled { (k < most_rows) × (k * most_rows + most_rows ≤ length self.now.cells.now) }
+        requires measured { k < length self.now.lens.now }
+        requires long { get_or self.now.lens.now k 0 ≤ most_rows }
+        ensures { result.now ≡ slot_at self.now.cells.now self.now.lens.now k }
     {
         let at = k * sheet::MOST_ROWS;
-        let cells = &self.cells[..];
-        &cells[at..at + self.lens[k] as usize]
+        &self.cells[at..at + self.lens[k] as usize]
     }
 
     // Empties slot `from` into slot `into`, which then has these stops.
     pub fn take_over(&mut self, into: usize, from: usize, stops: &[u16])
-        requires roomy { Roomy (into + 1) self.old.cells self.old.lens self.old.loads self.old.slots }
-        requires roomy_2 { Roomy (from + 1) self.old.cells self.old.lens self.old.loads self.old.slots }
+        requires roomy { Roomy (into + 1) self.old.cells.now self.old.lens.now self.old.loads.now self.old.slots.now }
+        requires roomy_2 { Roomy (from + 1) self.old.cells.now self.old.lens.now self.old.loads.now self.old.slots.now }
         requires stops_len_bound { length stops.now ≤ most_rows }
-        requires from_bound { get_or self.old.lens from 0 ≤ most_rows }
-        requires by_index { (k : ℕ) → k < get_or self.old.lens from 0 → get_or (slot_at self.old.cells self.old.lens from) k 0 < most_rows }
-        requires from_bound_2 { get_or self.old.loads into 0 + get_or self.old.loads from 0 < 0x1_0000_0000 }
-        ensures slot_taken { SlotTaken self.old.cells self.old.lens self.old.loads self.old.slots into from stops.now self.new.cells self.new.lens self.new.loads self.new.slots }
-        ensures slots_len { length self.new.slots ≡ length self.old.slots }
+        requires from_bound { get_or self.old.lens.now from 0 ≤ most_rows }
+        requires by_index { (k : ℕ) → k < get_or self.old.lens.now from 0 → get_or (slot_at self.old.cells.now self.old.lens.now from) k 0 < most_rows }
+        requires from_bound_2 { get_or self.old.loads.now into 0 + get_or self.old.loads.now from 0 < 0x1_0000_0000 }
+        ensures slot_taken { SlotTaken self.old.cells.now self.old.lens.now self.old.loads.now self.old.slots.now into from stops.now self.new.cells.now self.new.lens.now self.new.loads.now self.new.slots.now }
+        ensures slots_len { length self.new.slots.now ≡ length self.old.slots.now }
         ensures count_kept { self.new.count ≡ self.old.count }
+        ensures lent { SlotsLent self.old self.new }
     {
         let at = into * sheet::MOST_ROWS;
         let start = from * sheet::MOST_ROWS;
         let gone = self.lens[from] as usize;
-        let cells = &mut self.cells[..];
-        relabel(&mut self.slots, &cells[start..start + gone], into as u16);
+        let cells = &mut *self.cells;
+        relabel(self.slots, &cells[start..start + gone], into as u16);
         cells[at..at + stops.len()].copy_from_slice(stops);
         self.lens[into] = stops.len() as u16;
         self.lens[from] = 0;

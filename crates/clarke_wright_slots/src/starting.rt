@@ -5,17 +5,19 @@ ghost use Rattle.sheet.specs.Fields.{rows_of, most_rows};
 ghost use Rattle.evaluation.specs.Routed.{Routed};
 ghost use Rattle.clarke_wright_savings.specs.Savings.{starts_of, aside_of};
 ghost use Rattle.clarke_wright_slots.specs.Slots.{slots_in, Roomy, Slotted, RouteStarted, SlotsAsLong};
+ghost use Rattle.clarke_wright_slots.specs.Lent.{SlotsLent};
 
 use crate::RouteSlots;
 use constructive::terms::Terms;
 use sheet::Sheet;
 
-impl<const CELLS: usize> RouteSlots<CELLS> {
+impl RouteSlots<'_> {
     // A slot with one stop.
     fn start_route(&mut self, sheet: &Sheet, row: u16, slot: usize)
         requires row_bound { row < rows_of sheet.now }
-        requires roomy { Roomy (slot + 1) self.old.cells self.old.lens self.old.loads self.old.slots }
-        ensures { RouteStarted sheet.now row slot self.old.cells self.old.lens self.old.loads self.old.slots self.new.cells self.new.lens self.new.loads self.new.slots }
+        requires roomy { Roomy (slot + 1) self.old.cells.now self.old.lens.now self.old.loads.now self.old.slots.now }
+        ensures route_started { RouteStarted sheet.now row slot self.old.cells.now self.old.lens.now self.old.loads.now self.old.slots.now self.new.cells.now self.new.lens.now self.new.loads.now self.new.slots.now }
+        ensures lent { SlotsLent self.old self.new }
     {
         sheet.accepted();
         self.cells[sheet::MOST_ROWS * slot] = row;
@@ -35,14 +37,15 @@ impl<const CELLS: usize> RouteSlots<CELLS> {
     ) -> usize
         requires routed { Routed sheet.now terms.depot members.now }
         requires by_index { (x : ℕ) → count x members.now ≤ 1 }
-        requires roomy { Roomy (length members.now) self.old.cells self.old.lens self.old.loads self.old.slots }
+        requires roomy { Roomy (length members.now) self.old.cells.now self.old.lens.now self.old.loads.now self.old.slots.now }
         requires most_rows_in_bounds { most_rows ≤ length aside.old }
         ensures value { result ≡ length (aside_of sheet.now terms members.now) }
         ensures aside_after { take result aside.new ≡ aside_of sheet.now terms members.now }
         ensures count_after { self.new.count ≡ length members.now }
-        ensures slotted { Slotted sheet.now self.new.count self.new.cells self.new.lens self.new.loads self.new.slots }
-        ensures lens_after { slots_in self.new.count self.new.cells self.new.lens ≡ starts_of sheet.now terms members.now }
-        ensures as_long { SlotsAsLong self.old.cells self.old.lens self.old.loads self.old.slots self.new.cells self.new.lens self.new.loads self.new.slots }
+        ensures slotted { Slotted sheet.now self.new.count self.new.cells.now self.new.lens.now self.new.loads.now self.new.slots.now }
+        ensures lens_after { slots_in self.new.count self.new.cells.now self.new.lens.now ≡ starts_of sheet.now terms members.now }
+        ensures as_long { SlotsAsLong self.old.cells.now self.old.lens.now self.old.loads.now self.old.slots.now self.new.cells.now self.new.lens.now self.new.loads.now self.new.slots.now }
+        ensures lent { SlotsLent self.old self.new }
     {
         // No row has a round yet.
         self.slots.fill(members.len() as u16);

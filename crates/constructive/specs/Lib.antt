@@ -10,4 +10,5 @@ pub mod Tables
 pub mod TableContents
 pub mod Terms
 pub mod Unchecked
+pub mod Lent
 pub mod Laws

@@ -25,7 +25,7 @@ abbrev pub RoundTables : List ℕ → List ℕ → List ℕ → List ℕ → ℕ
 RoundTables s stops ends vehicles n = (total : ℕ) × Tables s stops ends vehicles n total
 
 -- tables that are as long as they were: what a loop that fills them anew goes by
--- (a clause: the length of an array that is lent is known to a proof until a call takes it)
+-- (a clause: of a slice in a struct that is lent a proof knows no length once a call took it)
 pub record AsLong (stops ends vehicles stops' ends' vehicles' : List ℕ) : Type 0 where
   pub stopped : length stops' ≡ length stops
   pub ended : length ends' ≡ length ends

@@ -10,7 +10,7 @@ ghost use Rattle.fleet.specs.Cheapest.{in_round, cheapest_insertion, pick_of};
 ghost use Rattle.fleet_cheapest.specs.Promises.{WindowsOf, Unwon, RoomToTry, terms_at};
 
 use constructive::load;
-use constructive::tables::RouteTables;
+use constructive::tables::RouteTablesRef;
 use constructive::terms::Terms;
 use evaluation::limits;
 use evaluation_prefix::Prefix;
@@ -132,19 +132,19 @@ fn try_round(
 }
 
 // The cheapest insertion of one stop into the n rounds of the tables.
-fn cheapest_insertion<const N: usize>(
+fn cheapest_insertion(
     sheet: &Sheet,
     windows: Windows,
-    tables: &RouteTables<N>,
+    tables: &RouteTablesRef,
     n: usize,
     row: u16,
     trial: &mut [u16],
 ) -> Choice
     requires windows_of { WindowsOf sheet.now windows }
-    requires room { RoomToTry sheet.now tables.now.stops tables.now.ends tables.now.vehicles n }
+    requires room { RoomToTry sheet.now tables.now.stops.now tables.now.ends.now tables.now.vehicles.now n }
     requires row_bound { row < rows_of sheet.now }
     requires most_rows_in_bounds { most_rows ≤ length trial.old }
-    ensures { result ≡ cheapest_insertion sheet.now windows.soft (rounds_in tables.now.stops tables.now.ends tables.now.vehicles n 0 0) row }
+    ensures { result ≡ cheapest_insertion sheet.now windows.soft (rounds_in tables.now.stops.now tables.now.ends.now tables.now.vehicles.now n 0 0) row }
 {
     let mut best = None;
     // by rounds: one stands in two tables, and the choice names it by i
@@ -167,17 +167,17 @@ fn cheapest_insertion<const N: usize>(
 }
 
 // The cheapest insertion of the stops pending, which stand in `pending`, into the n rounds of the tables.
-pub fn cheapest<const N: usize>(
+pub fn cheapest(
     sheet: &Sheet,
     windows: Windows,
-    tables: &RouteTables<N>,
+    tables: &RouteTablesRef,
     n: usize,
     pending: &[u16],
 ) -> Pick
     requires windows_of { WindowsOf sheet.now windows }
-    requires room { RoomToTry sheet.now tables.now.stops tables.now.ends tables.now.vehicles n }
+    requires room { RoomToTry sheet.now tables.now.stops.now tables.now.ends.now tables.now.vehicles.now n }
     requires routed { Routed sheet.now 0 pending.now }
-    ensures { result ≡ pick_of sheet.now windows.soft (rounds_in tables.now.stops tables.now.ends tables.now.vehicles n 0 0) pending.now }
+    ensures { result ≡ pick_of sheet.now windows.soft (rounds_in tables.now.stops.now tables.now.ends.now tables.now.vehicles.now n 0 0) pending.now }
 {
     let mut trial = [0u16; sheet::MOST_ROWS];
     let mut best = None;

@@ -1,10 +1,10 @@
 -- What a sheet has of windows: every row is the depot's or one of the stops. Assumes nothing.
 use Rattle.std.specs.Prelude.{None}
-use mathlib.Core.Path.{◌≡◌, refl, sym, ap, ◌∙◌, subst}
+use mathlib.Core.Path.{◌≡◌, sym, ap, ◌∙◌, subst}
 use Prim.Native.Nat.{ℕ, zero, suc, ◌≤◌, ◌<◌}
 use native.Mathlib.Omega.{arith}
-use mathlib.Core.Bool.{Bool, true, false, ◌||◌, true≢false}
-use mathlib.Core.List.{List, [], ◌∷◌}
+use mathlib.Core.Bool.{Bool, true, false}
+use mathlib.Core.List.{List}
 use lib.ListN.{take}
 use borrow.Author.Tests.{le-leb, lt-ltb}
 use Rattle.lists.specs.Count.{one, count}
@@ -13,12 +13,10 @@ use Rattle.lists.specs.Laws.Permutation.{every_counted}
 use Rattle.sheet.specs.Fields.{rows_of}
 use Rattle.sheet.specs.Values.{stop_of}
 use Rattle.sheet.specs.Depots.{depots_of}
-use Rattle.sheet.specs.declared.customer.Gate.{Gate}
-use Rattle.sheet.specs.declared.customer.Gate.TheVariants.{Open, Hard, Soft}
 use Rattle.sheet.specs.Stops.{is_stop}
 use Rattle.evaluation.specs.declared.limits.RouteLimits.{RouteLimits}
 use Rattle.evaluation.specs.Limits.{is_unlimited}
-use Rattle.evaluation.specs.Checks.{windowed, row_windowed, some_windowed, has_time_windows, has_soft_windows, route_checks_needed}
+use Rattle.evaluation.specs.Checks.{row_windowed, some_windowed, has_time_windows, has_soft_windows, route_checks_needed}
 use Rattle.constructive.specs.Outcome.{Outcome, outcome_in, stops_of}
 use Rattle.constructive.specs.Unchecked.{Windowless}
 use Rattle.constructive.specs.Laws.Unchecked.{neither, unchecked_windowless}

@@ -6,6 +6,7 @@
 
 ghost use Rattle.std.specs.Prelude.{◌≡◌, ◌-◌, ◌<◌, drop};
 ghost use Rattle.evaluation.specs.Routed.{Routed};
+ghost use Rattle.constructive.specs.Lent.{Lent};
 ghost use Rattle.constructive.specs.Outcome.{start_in, outcome_in};
 ghost use Rattle.constructive.specs.Tables.{Tables, AsLong};
 ghost use Rattle.fleet.specs.Cheapest.{pick_of};
@@ -13,7 +14,7 @@ ghost use Rattle.fleet.specs.Limit.{dropped, limit_on, limit_routes, soft_in};
 ghost use Rattle.fleet_limiter.specs.Limitable.{Limitable};
 ghost use Rattle.fleet_limiter.specs.Promises.{windows_in, TablesHold, Triable, pending_first, refit_outcome};
 
-use constructive::tables::RouteTables;
+use constructive::tables::{RouteTables, RouteTablesRef};
 use evaluation::checks;
 use fleet::Pick;
 use fleet_cheapest::Windows;
@@ -30,16 +31,10 @@ fn windows_in(sheet: &Sheet, stops: &[u16]) -> Windows
 }
 
 // The cheapest insertion of the stops behind the n rounds, up to `total`.
-fn choose<const N: usize>(
-    sheet: &Sheet,
-    windows: Windows,
-    tables: &RouteTables<N>,
-    n: usize,
-    total: usize,
-) -> Pick
-    requires tables { Tables sheet.now tables.now.stops tables.now.ends tables.now.vehicles n total }
+fn choose(sheet: &Sheet, windows: Windows, tables: &RouteTablesRef, n: usize, total: usize) -> Pick
+    requires tables { Tables sheet.now tables.now.stops.now tables.now.ends.now tables.now.vehicles.now n total }
     requires triable { Triable sheet.now windows total }
-    ensures { result ≡ pick_of sheet.now windows.soft (outcome_in tables.now.stops tables.now.ends tables.now.vehicles n total).rounds (outcome_in tables.now.stops tables.now.ends tables.now.vehicles n total).aside }
+    ensures { result ≡ pick_of sheet.now windows.soft (outcome_in tables.now.stops.now tables.now.ends.now tables.now.vehicles.now n total).rounds (outcome_in tables.now.stops.now tables.now.ends.now tables.now.vehicles.now n total).aside }
 {
     let routed = tables.start_of(n);
     let stops = &tables.stops[..];
@@ -47,21 +42,16 @@ fn choose<const N: usize>(
 }
 
 // The stops behind the n rounds, up to `total`, go into them, the cheapest first, until no round takes one.
-fn refit<const N: usize>(
-    sheet: &Sheet,
-    windows: Windows,
-    tables: &mut RouteTables<N>,
-    n: usize,
-    total: usize,
-)
-    requires tables { Tables sheet.now tables.old.stops tables.old.ends tables.old.vehicles n total }
+fn refit(sheet: &Sheet, windows: Windows, tables: &mut RouteTables, n: usize, total: usize)
+    requires tables { Tables sheet.now tables.old.stops.now tables.old.ends.now tables.old.vehicles.now n total }
     requires triable { Triable sheet.now windows total }
-    ensures held { TablesHold sheet.now tables.new.stops tables.new.ends tables.new.vehicles n total (refit_outcome sheet.now windows.soft (pending_first (outcome_in tables.old.stops tables.old.ends tables.old.vehicles n total))) }
-    ensures behind_kept { drop total tables.new.stops ≡ drop total tables.old.stops }
-    ensures as_long { AsLong tables.old.stops tables.old.ends tables.old.vehicles tables.new.stops tables.new.ends tables.new.vehicles }
+    ensures held { TablesHold sheet.now tables.new.stops.now tables.new.ends.now tables.new.vehicles.now n total (refit_outcome sheet.now windows.soft (pending_first (outcome_in tables.old.stops.now tables.old.ends.now tables.old.vehicles.now n total))) }
+    ensures behind_kept { drop total tables.new.stops.now ≡ drop total tables.old.stops.now }
+    ensures as_long { AsLong tables.old.stops.now tables.old.ends.now tables.old.vehicles.now tables.new.stops.now tables.new.ends.now tables.new.vehicles.now }
+    ensures lent { Lent tables.old tables.new }
 {
     loop {
-        let Some((j, round, place, _)) = choose(sheet, windows, tables, n, total) else {
+        let Some((j, round, place, _)) = choose(sheet, windows, &tables.as_ref(), n, total) else {
             return;
         };
         fleet_tables::put_in(tables, n, round, place, j);
@@ -69,39 +59,35 @@ fn refit<const N: usize>(
 }
 
 // Drops one of the n rounds, which have all stops up to `total`: those that no other takes stand behind the rounds.
-fn drop_round<const N: usize>(
-    sheet: &Sheet,
-    windows: Windows,
-    tables: &mut RouteTables<N>,
-    n: usize,
-    total: usize,
-)
-    requires tables { Tables sheet.now tables.old.stops tables.old.ends tables.old.vehicles n total }
+fn drop_round(sheet: &Sheet, windows: Windows, tables: &mut RouteTables, n: usize, total: usize)
+    requires tables { Tables sheet.now tables.old.stops.now tables.old.ends.now tables.old.vehicles.now n total }
     requires triable { Triable sheet.now windows total }
-    requires n_nonzero { (0 < n) × (start_in tables.old.ends n ≡ total) }
-    ensures held { TablesHold sheet.now tables.new.stops tables.new.ends tables.new.vehicles (n - 1) total (refit_outcome sheet.now windows.soft (dropped sheet.now (outcome_in tables.old.stops tables.old.ends tables.old.vehicles n total).rounds)) }
-    ensures behind_kept { drop total tables.new.stops ≡ drop total tables.old.stops }
-    ensures as_long { AsLong tables.old.stops tables.old.ends tables.old.vehicles tables.new.stops tables.new.ends tables.new.vehicles }
+    requires n_nonzero { (0 < n) × (start_in tables.old.ends.now n ≡ total) }
+    ensures held { TablesHold sheet.now tables.new.stops.now tables.new.ends.now tables.new.vehicles.now (n - 1) total (refit_outcome sheet.now windows.soft (dropped sheet.now (outcome_in tables.old.stops.now tables.old.ends.now tables.old.vehicles.now n total).rounds)) }
+    ensures behind_kept { drop total tables.new.stops.now ≡ drop total tables.old.stops.now }
+    ensures as_long { AsLong tables.old.stops.now tables.old.ends.now tables.old.vehicles.now tables.new.stops.now tables.new.ends.now tables.new.vehicles.now }
+    ensures lent { Lent tables.old tables.new }
 {
-    let round = fleet_tables::victim(sheet, tables, n);
+    let round = fleet_tables::victim(sheet, &tables.as_ref(), n);
     fleet_tables::take_out(tables, n, round);
     refit(sheet, windows, tables, n - 1, total);
 }
 
 // Drops rounds until there are no more than `greatest`; answers how many are left. What no round takes stands before the stops
 // set aside already.
-fn drop_rounds<const N: usize>(
+fn drop_rounds(
     sheet: &Sheet,
     windows: Windows,
     greatest: usize,
-    tables: &mut RouteTables<N>,
+    tables: &mut RouteTables,
     rounds: usize,
     total: usize,
 ) -> usize
-    requires tables { Tables sheet.now tables.old.stops tables.old.ends tables.old.vehicles rounds total }
+    requires tables { Tables sheet.now tables.old.stops.now tables.old.ends.now tables.old.vehicles.now rounds total }
     requires triable { Triable sheet.now windows total }
-    ensures held { TablesHold sheet.now tables.new.stops tables.new.ends tables.new.vehicles result total (limit_on sheet.now windows.soft greatest rounds (outcome_in tables.old.stops tables.old.ends tables.old.vehicles rounds total)) }
-    ensures as_long { AsLong tables.old.stops tables.old.ends tables.old.vehicles tables.new.stops tables.new.ends tables.new.vehicles }
+    ensures held { TablesHold sheet.now tables.new.stops.now tables.new.ends.now tables.new.vehicles.now result total (limit_on sheet.now windows.soft greatest rounds (outcome_in tables.old.stops.now tables.old.ends.now tables.old.vehicles.now rounds total)) }
+    ensures as_long { AsLong tables.old.stops.now tables.old.ends.now tables.old.vehicles.now tables.new.stops.now tables.new.ends.now tables.new.vehicles.now }
+    ensures lent { Lent tables.old tables.new }
 {
     let mut n = rounds;
     // Not over a range turned round: `greatest + 1` might overflow, and the number left is answered.
@@ -114,41 +100,44 @@ fn drop_rounds<const N: usize>(
 }
 
 // The same; windows are read only where a round is dropped.
-fn limit<const N: usize>(
+fn limit(
     sheet: &Sheet,
     greatest: usize,
-    tables: &mut RouteTables<N>,
+    tables: &mut RouteTables,
     rounds: usize,
     total: usize,
 ) -> usize
-    requires { Limitable sheet.now tables.old.stops tables.old.ends tables.old.vehicles rounds total }
-    ensures held { TablesHold sheet.now tables.new.stops tables.new.ends tables.new.vehicles result total (limit_on sheet.now (soft_in sheet.now (outcome_in tables.old.stops tables.old.ends tables.old.vehicles rounds total)) greatest rounds (outcome_in tables.old.stops tables.old.ends tables.old.vehicles rounds total)) }
-    ensures as_long { AsLong tables.old.stops tables.old.ends tables.old.vehicles tables.new.stops tables.new.ends tables.new.vehicles }
+    requires { Limitable sheet.now tables.old.stops.now tables.old.ends.now tables.old.vehicles.now rounds total }
+    ensures held { TablesHold sheet.now tables.new.stops.now tables.new.ends.now tables.new.vehicles.now result total (limit_on sheet.now (soft_in sheet.now (outcome_in tables.old.stops.now tables.old.ends.now tables.old.vehicles.now rounds total)) greatest rounds (outcome_in tables.old.stops.now tables.old.ends.now tables.old.vehicles.now rounds total)) }
+    ensures as_long { AsLong tables.old.stops.now tables.old.ends.now tables.old.vehicles.now tables.new.stops.now tables.new.ends.now tables.new.vehicles.now }
+    ensures lent { Lent tables.old tables.new }
 {
     if rounds <= greatest {
         return rounds;
     }
-    let stops = &tables.stops[..];
+    // `&mut` though it is only read: of a field that was lent as `&` a proof knows no element afterwards
+    let stops: &[u16] = &mut *tables.stops;
     let windows = windows_in(sheet, &stops[..total]);
     drop_rounds(sheet, windows, greatest, tables, rounds, total)
 }
 
 // Brings the `rounds` rounds of the tables, which have every stop, down to `greatest`; answers how many are left. The stops set
 // aside come out ascending.
-pub fn limit_routes<const N: usize>(
+pub fn limit_routes(
     sheet: &Sheet,
     greatest: u32,
-    tables: &mut RouteTables<N>,
+    tables: &mut RouteTables,
     rounds: usize,
     total: usize,
 ) -> usize
-    requires { Limitable sheet.now tables.old.stops tables.old.ends tables.old.vehicles rounds total }
-    ensures total_after { outcome_in tables.new.stops tables.new.ends tables.new.vehicles result total ≡ limit_routes sheet.now greatest (outcome_in tables.old.stops tables.old.ends tables.old.vehicles rounds total) }
-    ensures tables { Tables sheet.now tables.new.stops tables.new.ends tables.new.vehicles result total }
-    ensures as_long { AsLong tables.old.stops tables.old.ends tables.old.vehicles tables.new.stops tables.new.ends tables.new.vehicles }
+    requires { Limitable sheet.now tables.old.stops.now tables.old.ends.now tables.old.vehicles.now rounds total }
+    ensures total_after { outcome_in tables.new.stops.now tables.new.ends.now tables.new.vehicles.now result total ≡ limit_routes sheet.now greatest (outcome_in tables.old.stops.now tables.old.ends.now tables.old.vehicles.now rounds total) }
+    ensures tables { Tables sheet.now tables.new.stops.now tables.new.ends.now tables.new.vehicles.now result total }
+    ensures as_long { AsLong tables.old.stops.now tables.old.ends.now tables.old.vehicles.now tables.new.stops.now tables.new.ends.now tables.new.vehicles.now }
+    ensures lent { Lent tables.old tables.new }
 {
     let n = limit(sheet, greatest as usize, tables, rounds, total);
     let from = tables.start_of(n);
-    fleet_tables::order_aside(sheet, &mut tables.stops, from, total);
+    fleet_tables::order_aside(sheet, tables.stops, from, total);
     n
 }

@@ -9,7 +9,7 @@ use lib.Dec.{eqb}
 use lib.ListN.{length, get_or, take, replicate, length-replicate}
 use lib.Seq.{get_or-take}
 use borrow.Author.Tests.{eq-eqb, ne_eqb}
-use Rattle.lists.specs.Laws.Filter.{those_at, those_few}
+use Rattle.lists.specs.Laws.Filter.{those_at}
 use Rattle.wire.specs.Bytes.{write}
 use Rattle.wire.specs.Laws.Bytes.{length_write, take_write}
 use Rattle.wire.specs.Laws.Overwrite.{write_same}

@@ -4,6 +4,7 @@
 ghost use Rattle.std.specs.Prelude.{◌≡◌, true, false, ℕ, ◌-◌, ◌≤◌, ◌<◌, length};
 ghost use Rattle.lists.specs.Count.{count};
 ghost use Rattle.sheet.specs.Fields.{vehicles_of, method_of, header_size};
+ghost use Rattle.constructive.specs.Lent.{Lent};
 ghost use Rattle.constructive.specs.Stored.{Stored, Room, filled_by};
 ghost use Rattle.constructive.specs.Members.{part, Members};
 ghost use Rattle.multi_depot_offers.specs.ByDepot.{with_vehicle};
@@ -17,17 +18,18 @@ use sheet::{Sheet, method};
 // Savings with the depot's first vehicle, by way of the large tables; without one every stop is set aside, as it stands. Not
 // inlined, so that no other planning has its frame.
 #[inline(never)]
-pub fn by_savings<const N: usize>(
+pub fn by_savings(
     sheet: &Sheet,
     depot: usize,
-    tables: &mut RouteTables<N>,
+    tables: &mut RouteTables,
     filled: Filled,
     total: usize,
 ) -> Filled
-    requires ready { Ready sheet.now depot tables.old.stops tables.old.ends tables.old.vehicles filled total }
+    requires ready { Ready sheet.now depot tables.old.stops.now tables.old.ends.now tables.old.vehicles.now filled total }
     requires sheet_value { method_of sheet.now ≡ 0 }
-    ensures value { result ≡ filled_by filled (construct_at sheet.now depot (part tables.old.stops filled.routed total)).rounds }
-    ensures stored { Stored tables.old.stops tables.old.ends tables.old.vehicles filled (construct_at sheet.now depot (part tables.old.stops filled.routed total)) tables.new.stops tables.new.ends tables.new.vehicles }
+    ensures value { result ≡ filled_by filled (construct_at sheet.now depot (part tables.old.stops.now filled.routed total)).rounds }
+    ensures stored { Stored tables.old.stops.now tables.old.ends.now tables.old.vehicles.now filled (construct_at sheet.now depot (part tables.old.stops.now filled.routed total)) tables.new.stops.now tables.new.ends.now tables.new.vehicles.now }
+    ensures lent { Lent tables.old tables.new }
 {
     let mut fleet = [0u16; sheet::MOST_VEHICLES];
     if members::fleet_of(sheet, depot, &mut fleet) == 0 {
@@ -37,21 +39,22 @@ pub fn by_savings<const N: usize>(
 }
 
 // One vehicle for all rounds: savings of few members, insertion or sweep, by the method.
-fn with_vehicle<const N: usize>(
+fn with_vehicle(
     sheet: &Sheet,
     depot: usize,
     vehicle: u16,
-    tables: &mut RouteTables<N>,
+    tables: &mut RouteTables,
     filled: Filled,
     total: usize,
 ) -> Filled
-    requires members { Members sheet.now depot tables.old.stops filled.routed total }
-    requires room { Room tables.old.ends tables.old.vehicles filled total }
+    requires members { Members sheet.now depot tables.old.stops.now filled.routed total }
+    requires room { Room tables.old.ends.now tables.old.vehicles.now filled total }
     requires vehicle_bound { vehicle < vehicles_of sheet.now }
-    requires by_index { (x : ℕ) → count x (part tables.old.stops filled.routed total) ≤ 1 }
+    requires by_index { (x : ℕ) → count x (part tables.old.stops.now filled.routed total) ≤ 1 }
     requires routed_bound { method_of sheet.now ≡ 0 → total - filled.routed ≤ 24 }
-    ensures value { result ≡ filled_by filled (with_vehicle sheet.now depot (part tables.old.stops filled.routed total) vehicle).rounds }
-    ensures stored { Stored tables.old.stops tables.old.ends tables.old.vehicles filled (with_vehicle sheet.now depot (part tables.old.stops filled.routed total) vehicle) tables.new.stops tables.new.ends tables.new.vehicles }
+    ensures value { result ≡ filled_by filled (with_vehicle sheet.now depot (part tables.old.stops.now filled.routed total) vehicle).rounds }
+    ensures stored { Stored tables.old.stops.now tables.old.ends.now tables.old.vehicles.now filled (with_vehicle sheet.now depot (part tables.old.stops.now filled.routed total) vehicle) tables.new.stops.now tables.new.ends.now tables.new.vehicles.now }
+    ensures lent { Lent tables.old tables.new }
 {
     match sheet.method() {
         Method::Savings => clarke_wright::clarke_wright_few(
@@ -70,17 +73,18 @@ fn with_vehicle<const N: usize>(
 
 // Every other planning: the nearest neighbours with the depot's vehicles, the other methods with the first. Likewise.
 #[inline(never)]
-pub fn construct<const N: usize>(
+pub fn construct(
     sheet: &Sheet,
     depot: usize,
-    tables: &mut RouteTables<N>,
+    tables: &mut RouteTables,
     filled: Filled,
     total: usize,
 ) -> Filled
-    requires ready { Ready sheet.now depot tables.old.stops tables.old.ends tables.old.vehicles filled total }
+    requires ready { Ready sheet.now depot tables.old.stops.now tables.old.ends.now tables.old.vehicles.now filled total }
     requires routed_bound { method_of sheet.now ≡ 0 → total - filled.routed ≤ 24 }
-    ensures value { result ≡ filled_by filled (construct_at sheet.now depot (part tables.old.stops filled.routed total)).rounds }
-    ensures stored { Stored tables.old.stops tables.old.ends tables.old.vehicles filled (construct_at sheet.now depot (part tables.old.stops filled.routed total)) tables.new.stops tables.new.ends tables.new.vehicles }
+    ensures value { result ≡ filled_by filled (construct_at sheet.now depot (part tables.old.stops.now filled.routed total)).rounds }
+    ensures stored { Stored tables.old.stops.now tables.old.ends.now tables.old.vehicles.now filled (construct_at sheet.now depot (part tables.old.stops.now filled.routed total)) tables.new.stops.now tables.new.ends.now tables.new.vehicles.now }
+    ensures lent { Lent tables.old tables.new }
 {
     let mut table = [0u16; sheet::MOST_VEHICLES];
     let n = members::fleet_of(sheet, depot, &mut table);

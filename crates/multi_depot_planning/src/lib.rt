@@ -5,6 +5,7 @@ ghost use Rattle.std.specs.Prelude.{◌-◌, ◌≤◌, length};
 ghost use Rattle.sheet.specs.Depots.{depots_of};
 ghost use Rattle.sheet.specs.Fields.{rows_of};
 ghost use Rattle.sheet.specs.Stops.{all_stops};
+ghost use Rattle.constructive.specs.Lent.{Lent};
 ghost use Rattle.constructive.specs.Tables.{AsLong};
 ghost use Rattle.constructive.specs.TableContents.{HoldsOutcome};
 ghost use Rattle.constructive.specs.Members.{members_of};
@@ -17,19 +18,20 @@ use sheet::Sheet;
 
 // A depot with its members, which no other has, behind the rounds that the tables hold; without any it is not planned. Told
 // with how far the tables are filled is where the stops that it turns down end.
-fn lay_depot<const N: usize>(
+fn lay_depot(
     sheet: &Sheet,
     at: &[u16],
-    tables: &mut RouteTables<N>,
+    tables: &mut RouteTables,
     depot: usize,
     filled: Filled,
 ) -> (Filled, usize)
-    requires planning_tables { PlanningTables sheet.now at.now tables.old.stops tables.old.ends tables.old.vehicles }
+    requires planning_tables { PlanningTables sheet.now at.now tables.old.stops.now tables.old.ends.now tables.old.vehicles.now }
     requires next { Next sheet.now at.now depot filled }
-    ensures { DepotLaid tables.old.stops tables.old.ends tables.old.vehicles filled (planned_of sheet.now depot (members_of sheet.now at.now depot)) tables.new.stops tables.new.ends tables.new.vehicles result.0 result.1 }
+    ensures depot_laid { DepotLaid tables.old.stops.now tables.old.ends.now tables.old.vehicles.now filled (planned_of sheet.now depot (members_of sheet.now at.now depot)) tables.new.stops.now tables.new.ends.now tables.new.vehicles.now result.0 result.1 }
+    ensures lent { Lent tables.old tables.new }
 {
     let from = filled.routed;
-    let total = constructive::members::members_of(sheet, at, depot, &mut tables.stops, from);
+    let total = constructive::members::members_of(sheet, at, depot, tables.stops, from);
     if total == from {
         return (filled, total);
     }
@@ -42,35 +44,33 @@ fn lay_depot<const N: usize>(
 }
 
 // The same with the stops that it turns down marked.
-pub fn plan_depot<const N: usize>(
+pub fn plan_depot(
     sheet: &Sheet,
     at: &[u16],
     marks: &mut [u16],
-    tables: &mut RouteTables<N>,
+    tables: &mut RouteTables,
     depot: usize,
     filled: Filled,
 ) -> Filled
-    requires planning_tables { PlanningTables sheet.now at.now tables.old.stops tables.old.ends tables.old.vehicles }
+    requires planning_tables { PlanningTables sheet.now at.now tables.old.stops.now tables.old.ends.now tables.old.vehicles.now }
     requires next { Next sheet.now at.now depot filled × (rows_of sheet.now ≤ length marks.old) }
-    ensures added { Added marks.old tables.old.stops tables.old.ends tables.old.vehicles filled (planned_of sheet.now depot (members_of sheet.now at.now depot)) marks.new tables.new.stops tables.new.ends tables.new.vehicles result }
-    ensures as_long { AsLong tables.old.stops tables.old.ends tables.old.vehicles tables.new.stops tables.new.ends tables.new.vehicles }
+    ensures added { Added marks.old tables.old.stops.now tables.old.ends.now tables.old.vehicles.now filled (planned_of sheet.now depot (members_of sheet.now at.now depot)) marks.new tables.new.stops.now tables.new.ends.now tables.new.vehicles.now result }
+    ensures as_long { AsLong tables.old.stops.now tables.old.ends.now tables.old.vehicles.now tables.new.stops.now tables.new.ends.now tables.new.vehicles.now }
+    ensures lent { Lent tables.old tables.new }
 {
     let (done, total) = lay_depot(sheet, at, tables, depot, filled);
-    constructive::marks::mark(marks, &tables.stops, done.routed, total);
+    let stops = &mut *tables.stops;
+    constructive::marks::mark(marks, stops, done.routed, total);
     done
 }
 
 // Every depot in order.
-pub fn plan_depots<const N: usize>(
-    sheet: &Sheet,
-    at: &[u16],
-    marks: &mut [u16],
-    tables: &mut RouteTables<N>,
-) -> Filled
-    requires planning_tables { PlanningTables sheet.now at.now tables.old.stops tables.old.ends tables.old.vehicles }
+pub fn plan_depots(sheet: &Sheet, at: &[u16], marks: &mut [u16], tables: &mut RouteTables) -> Filled
+    requires planning_tables { PlanningTables sheet.now at.now tables.old.stops.now tables.old.ends.now tables.old.vehicles.now }
     requires sheet_in_bounds { rows_of sheet.now ≤ length marks.old }
-    ensures planned { Planned sheet.now marks.new tables.new.stops tables.new.ends tables.new.vehicles result (planned_at sheet.now at.now) }
-    ensures as_long { AsLong tables.old.stops tables.old.ends tables.old.vehicles tables.new.stops tables.new.ends tables.new.vehicles }
+    ensures planned { Planned sheet.now marks.new tables.new.stops.now tables.new.ends.now tables.new.vehicles.now result (planned_at sheet.now at.now) }
+    ensures as_long { AsLong tables.old.stops.now tables.old.ends.now tables.old.vehicles.now tables.new.stops.now tables.new.ends.now tables.new.vehicles.now }
+    ensures lent { Lent tables.old tables.new }
 {
     let depots = sheet.depots();
     marks.fill(0);
@@ -83,14 +83,11 @@ pub fn plan_depots<const N: usize>(
 }
 
 // One depot with every stop.
-pub fn one_depot<const N: usize>(
-    sheet: &Sheet,
-    at: &mut [u16],
-    tables: &mut RouteTables<N>,
-) -> Filled
-    requires { PlanningTables sheet.now at.old tables.old.stops tables.old.ends tables.old.vehicles }
-    ensures holds_outcome { HoldsOutcome tables.new.stops tables.new.ends tables.new.vehicles result (rows_of sheet.now - depots_of sheet.now) (planned_of sheet.now 0 (all_stops sheet.now)) }
-    ensures as_long { AsLong tables.old.stops tables.old.ends tables.old.vehicles tables.new.stops tables.new.ends tables.new.vehicles }
+pub fn one_depot(sheet: &Sheet, at: &mut [u16], tables: &mut RouteTables) -> Filled
+    requires { PlanningTables sheet.now at.old tables.old.stops.now tables.old.ends.now tables.old.vehicles.now }
+    ensures holds_outcome { HoldsOutcome tables.new.stops.now tables.new.ends.now tables.new.vehicles.now result (rows_of sheet.now - depots_of sheet.now) (planned_of sheet.now 0 (all_stops sheet.now)) }
+    ensures as_long { AsLong tables.old.stops.now tables.old.ends.now tables.old.vehicles.now tables.new.stops.now tables.new.ends.now tables.new.vehicles.now }
+    ensures lent { Lent tables.old tables.new }
 {
     at.fill(0);
     let filled = Filled::default();

@@ -3,6 +3,7 @@ ghost use Rattle.std.specs.Prelude.{◌≡◌, ◌++◌, ◌+◌, ◌<◌, lengt
 ghost use Rattle.wire.specs.Bytes.{write};
 ghost use Rattle.sheet.specs.Fields.{rows_of, vehicles_of};
 ghost use Rattle.sheet.specs.Values.{vehicle_of};
+ghost use Rattle.constructive.specs.Lent.{Lent};
 ghost use Rattle.constructive.specs.Stored.{Stored, Room, filled_by};
 ghost use Rattle.constructive.specs.Members.{part, Members, Fleet};
 ghost use Rattle.nearest_neighbor.specs.Greedy.{vehicle_round, greedy};
@@ -88,20 +89,21 @@ fn grow_round<R: Rule>(
 }
 
 // Lays down the rounds of the fleet over the members, which stand in `stops` from where the tables are filled up to `total`.
-pub fn lay_rounds<R: Rule, const N: usize>(
+pub fn lay_rounds<R: Rule>(
     sheet: &Sheet,
     depot: usize,
     rule: R,
     fleet: &[u16],
-    tables: &mut RouteTables<N>,
+    tables: &mut RouteTables,
     filled: Filled,
     total: usize,
 ) -> Filled
-    requires members { Members sheet.now depot tables.old.stops filled.routed total }
-    requires room { Room tables.old.ends tables.old.vehicles filled total }
+    requires members { Members sheet.now depot tables.old.stops.now filled.routed total }
+    requires room { Room tables.old.ends.now tables.old.vehicles.now filled total }
     requires fleet { Fleet sheet.now fleet.now }
-    ensures value { result ≡ filled_by filled (greedy (rule_of sheet.now depot (R.which rule)) depot fleet.now (part tables.old.stops filled.routed total)).rounds }
-    ensures stored { Stored tables.old.stops tables.old.ends tables.old.vehicles filled (greedy (rule_of sheet.now depot (R.which rule)) depot fleet.now (part tables.old.stops filled.routed total)) tables.new.stops tables.new.ends tables.new.vehicles }
+    ensures value { result ≡ filled_by filled (greedy (rule_of sheet.now depot (R.which rule)) depot fleet.now (part tables.old.stops.now filled.routed total)).rounds }
+    ensures stored { Stored tables.old.stops.now tables.old.ends.now tables.old.vehicles.now filled (greedy (rule_of sheet.now depot (R.which rule)) depot fleet.now (part tables.old.stops.now filled.routed total)) tables.new.stops.now tables.new.ends.now tables.new.vehicles.now }
+    ensures lent { Lent tables.old tables.new }
 {
     let mut done = filled;
     for &index in fleet {
@@ -111,7 +113,7 @@ pub fn lay_rounds<R: Rule, const N: usize>(
             depot,
             rule,
             index as usize,
-            &mut tables.stops,
+            tables.stops,
             start,
             total,
         );

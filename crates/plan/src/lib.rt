@@ -14,7 +14,7 @@ ghost use Rattle.constructive.specs.Tables.{RoundOf, Tables, RoundTables};
 ghost use Rattle.plan.specs.Plan.{first_of, round_record_at, row_record_at, visit_bytes, aside_bytes, with_visits, with_round, with_rounds, with_aside, price_after, price_of, priced_cost, plan_of};
 ghost use Rattle.plan.specs.Writable.{VisitWritable, VisitsWritable, RoundWritable, Writable, Chained};
 
-use constructive::tables::RouteTables;
+use constructive::tables::RouteTablesRef;
 use evaluation::limits;
 use evaluation::limits::RouteLimits;
 use evaluator::{Placed, Progress, Record};
@@ -133,16 +133,11 @@ fn write_priced(
 }
 
 // The rounds one after another, and what they cost.
-fn write_rounds<const N: usize>(
-    plan: &mut [u8],
-    sheet: &Sheet,
-    tables: &RouteTables<N>,
-    rounds: usize,
-) -> f64
-    requires round_tables { RoundTables sheet.now tables.now.stops tables.now.ends tables.now.vehicles rounds }
+fn write_rounds(plan: &mut [u8], sheet: &Sheet, tables: &RouteTablesRef, rounds: usize) -> f64
+    requires round_tables { RoundTables sheet.now tables.now.stops.now tables.now.ends.now tables.now.vehicles.now rounds }
     requires plan_len { length plan.old ≡ plan_length sheet.now }
-    ensures value { result ≡ price_of sheet.now price_start (rounds_in tables.now.stops tables.now.ends tables.now.vehicles rounds 0 0) }
-    ensures plan_after { plan.new ≡ with_rounds sheet.now 0 (rounds_in tables.now.stops tables.now.ends tables.now.vehicles rounds 0 0) plan.old }
+    ensures value { result ≡ price_of sheet.now price_start (rounds_in tables.now.stops.now tables.now.ends.now tables.now.vehicles.now rounds 0 0) }
+    ensures plan_after { plan.new ≡ with_rounds sheet.now 0 (rounds_in tables.now.stops.now tables.now.ends.now tables.now.vehicles.now rounds 0 0) plan.old }
 {
     let mut cost = evaluator::price_start();
     // by rounds: one stands in two tables, and its record at a place told by k
@@ -187,23 +182,22 @@ fn cost_of(priced: bool, price: f64) -> f64
 }
 
 // The plan of the outcome in the tables: `rounds` rounds, `total` stops with those set aside.
-pub fn write_plan<const N: usize>(
+pub fn write_plan(
     plan: &mut [u8],
     sheet: &Sheet,
-    tables: &RouteTables<N>,
+    tables: &RouteTablesRef,
     rounds: usize,
     total: usize,
     priced: bool,
 )
-    requires tables { Tables sheet.now tables.now.stops tables.now.ends tables.now.vehicles rounds total }
+    requires tables { Tables sheet.now tables.now.stops.now tables.now.ends.now tables.now.vehicles.now rounds total }
     requires plan_len { length plan.old ≡ plan_length sheet.now }
-    ensures { plan.new ≡ plan_of sheet.now (outcome_in tables.now.stops tables.now.ends tables.now.vehicles rounds total) priced }
+    ensures { plan.new ≡ plan_of sheet.now (outcome_in tables.now.stops.now tables.now.ends.now tables.now.vehicles.now rounds total) priced }
 {
     plan.fill(0);
     let price = write_rounds(plan, sheet, tables, rounds);
     let start = tables.start_of(rounds);
-    let stops = &tables.stops[..];
-    let aside = write_aside(plan, sheet, &stops[start..total]);
+    let aside = write_aside(plan, sheet, &tables.stops[start..total]);
     records::put_header(
         plan,
         rounds as u16,

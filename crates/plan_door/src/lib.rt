@@ -6,13 +6,14 @@ ghost use Rattle.std.specs.Prelude.{◌≡◌, ℕ, List, length};
 ghost use Rattle.sheet.specs.Accepted.{Sized};
 ghost use Rattle.sheet.specs.Fields.{plan_length};
 ghost use Rattle.sheet.specs.Told.{told};
+ghost use Rattle.constructive.specs.Lent.{Lent};
 ghost use Rattle.constructive.specs.Tables.{AsLong};
 ghost use Rattle.plan.specs.Read.{read_plan};
 ghost use Rattle.plan_reader.specs.Reading.{stop_count, ReadRight};
 ghost use Rattle.plan_reasons.specs.Reasons.{reasons_right};
 ghost use Rattle.plan_door.specs.Door.{unread_refusal, DoorTables, EntryAs};
 
-use constructive::tables::RouteTables;
+use constructive::tables::{RouteTables, RouteTablesRef};
 use sheet::refusal::Refusal;
 use sheet::{Sheet, customer};
 
@@ -41,13 +42,8 @@ pub fn stops_in(sheet: &[u8]) -> usize
 }
 
 // Whether the stops that the plan in the tables sets aside have reasons that there are.
-fn reasons_taken<const N: usize>(
-    sheet: &Sheet,
-    plan: &[u8],
-    tables: &RouteTables<N>,
-    rounds: usize,
-) -> bool
-    requires read_right { ReadRight sheet.now plan.now tables.now.stops tables.now.ends tables.now.vehicles rounds }
+fn reasons_taken(sheet: &Sheet, plan: &[u8], tables: &RouteTablesRef, rounds: usize) -> bool
+    requires read_right { ReadRight sheet.now plan.now tables.now.stops.now tables.now.ends.now tables.now.vehicles.now rounds }
     requires plan_len { length plan.now ≡ plan_length sheet.now }
     ensures { result ≡ reasons_right sheet.now plan.now (read_plan sheet.now plan.now).aside }
 {
@@ -57,23 +53,24 @@ fn reasons_taken<const N: usize>(
 }
 
 // The same, and the plan read: how many rounds are in the tables.
-pub fn enter<const N: usize>(
+pub fn enter(
     sheet: &[u8],
     plan: &[u8],
     room: bool,
     one: bool,
-    tables: &mut RouteTables<N>,
+    tables: &mut RouteTables,
 ) -> Result<usize, Refusal>
-    requires { DoorTables tables.old.stops tables.old.ends tables.old.vehicles }
-    ensures entry_as { EntryAs sheet.now plan.now room one result tables.new.stops tables.new.ends tables.new.vehicles }
-    ensures as_long { AsLong tables.old.stops tables.old.ends tables.old.vehicles tables.new.stops tables.new.ends tables.new.vehicles }
+    requires { DoorTables tables.old.stops.now tables.old.ends.now tables.old.vehicles.now }
+    ensures entry_as { EntryAs sheet.now plan.now room one result tables.new.stops.now tables.new.ends.now tables.new.vehicles.now }
+    ensures as_long { AsLong tables.old.stops.now tables.old.ends.now tables.old.vehicles.now tables.new.stops.now tables.new.ends.now tables.new.vehicles.now }
+    ensures lent { Lent tables.old tables.new }
 {
     unread_refusal(sheet, plan.len(), room, one)?;
     let sheet = Sheet::new(sheet);
     let Some(rounds) = plan_reader::read_plan(&sheet, plan, tables) else {
         return Err(Refusal::Plan);
     };
-    if !reasons_taken(&sheet, plan, tables, rounds) {
+    if !reasons_taken(&sheet, plan, &tables.as_ref(), rounds) {
         return Err(Refusal::Plan);
     }
     Ok(rounds)

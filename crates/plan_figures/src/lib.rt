@@ -9,7 +9,7 @@ ghost use Rattle.constructive.specs.Tables.{RoundOf, RoundTables};
 ghost use Rattle.plan_door.specs.Door.{door_refusal};
 ghost use Rattle.plan_figures.specs.Walked.{route_figures, Walked};
 
-use constructive::tables::RouteTables;
+use constructive::tables::{RouteArrays, RouteTables, RouteTablesRef};
 use evaluation::limits;
 use sheet::Sheet;
 use sheet::refusal::Refusal;
@@ -37,9 +37,9 @@ fn built(sheet: &Sheet, index: usize, route: &[u16]) -> RouteFigures
 }
 
 // The figures of the rounds in the tables, each in its place.
-fn walk_rounds<const N: usize>(sheet: &Sheet, tables: &RouteTables<N>, figures: &mut [RouteFigures])
-    requires { RoundTables sheet.now tables.now.stops tables.now.ends tables.now.vehicles (length figures.old) }
-    ensures { figures.new ≡ map (route_figures sheet.now) (rounds_in tables.now.stops tables.now.ends tables.now.vehicles (length figures.old) 0 0) }
+fn walk_rounds(sheet: &Sheet, tables: &RouteTablesRef, figures: &mut [RouteFigures])
+    requires { RoundTables sheet.now tables.now.stops.now tables.now.ends.now tables.now.vehicles.now (length figures.old) }
+    ensures { figures.new ≡ map (route_figures sheet.now) (rounds_in tables.now.stops.now tables.now.ends.now tables.now.vehicles.now (length figures.old) 0 0) }
 {
     // by places: a round stands in two tables, told by k; the loop of `plan` writes the bytes of what it makes
     for (k, place) in figures.iter_mut().enumerate() {
@@ -60,8 +60,13 @@ pub fn walk_plan(
     ensures in_bounds { IfOk result (λ rounds. rounds ≤ length figures.new) }
     ensures walked { IfOk result (λ rounds. Walked sheet.now plan.now room one (take rounds figures.new)) }
 {
-    let mut tables = RouteTables::<{ sheet::MOST_ROWS }>::new();
+    let mut arrays = RouteArrays::<{ sheet::MOST_ROWS }>::new();
+    let mut tables = RouteTables {
+        stops: &mut arrays.stops,
+        ends: &mut arrays.ends,
+        vehicles: &mut arrays.vehicles,
+    };
     let rounds = plan_door::enter(sheet, plan, room, one, &mut tables)?;
-    walk_rounds(&Sheet::new(sheet), &tables, &mut figures[..rounds]);
+    walk_rounds(&Sheet::new(sheet), &tables.as_ref(), &mut figures[..rounds]);
     Ok(rounds)
 }

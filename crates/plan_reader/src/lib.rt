@@ -4,6 +4,7 @@
 ghost use Rattle.std.specs.Prelude.{◌≡◌, ℕ, IfSome, unwrap_or, ◌+◌, ◌<◌, ◌≤◌, ◌++◌, T, length, take, get_or};
 ghost use Rattle.sheet.specs.Fields.{rows_of, vehicles_of, vehicle_at, id_field, plan_length, most_rows};
 ghost use Rattle.sheet.specs.Fleet.{index_of};
+ghost use Rattle.constructive.specs.Lent.{Lent};
 ghost use Rattle.constructive.specs.Right.{links_right, each_once};
 ghost use Rattle.constructive.specs.Tables.{AsLong};
 ghost use Rattle.plan.specs.Read.{rounds_at, next_at, chain_of};
@@ -66,23 +67,24 @@ fn follow(sheet: &Sheet, plan: &[u8], first: usize, stops: &mut [u16], from: usi
 }
 
 // The k-th round, its stops from `at` on.
-fn read_round<const N: usize>(
+fn read_round(
     sheet: &Sheet,
     plan: &[u8],
     k: usize,
-    tables: &mut RouteTables<N>,
+    tables: &mut RouteTables,
     at: usize,
 ) -> Option<usize>
-    requires reader_tables { ReaderTables sheet.now plan.now tables.old.stops tables.old.ends tables.old.vehicles }
+    requires reader_tables { ReaderTables sheet.now plan.now tables.old.stops.now tables.old.ends.now tables.old.vehicles.now }
     requires k_bound { (k < rounds_at plan.now) × (rounds_at plan.now ≤ rows_of sheet.now) }
-    requires rounds_read { RoundsRead sheet.now plan.now tables.old.stops tables.old.ends tables.old.vehicles k at }
-    ensures rounds_as { RoundsAs sheet.now plan.now (k + 1) result tables.new.stops tables.new.ends tables.new.vehicles }
-    ensures as_long { AsLong tables.old.stops tables.old.ends tables.old.vehicles tables.new.stops tables.new.ends tables.new.vehicles }
+    requires rounds_read { RoundsRead sheet.now plan.now tables.old.stops.now tables.old.ends.now tables.old.vehicles.now k at }
+    ensures rounds_as { RoundsAs sheet.now plan.now (k + 1) result tables.new.stops.now tables.new.ends.now tables.new.vehicles.now }
+    ensures as_long { AsLong tables.old.stops.now tables.old.ends.now tables.old.vehicles.now tables.new.stops.now tables.new.ends.now tables.new.vehicles.now }
+    ensures lent { Lent tables.old tables.new }
 {
     let place = plan::round_place(k);
     let index = index_of(sheet, wire::u32_at(plan, place))?;
     let first = wire::u16_at(plan, place + 8) as usize;
-    let end = follow(sheet, plan, first, &mut tables.stops, at)?;
+    let end = follow(sheet, plan, first, tables.stops, at)?;
     let filled = Filled {
         rounds: k,
         routed: at,
@@ -91,16 +93,12 @@ fn read_round<const N: usize>(
     Some(end)
 }
 
-fn read_rounds<const N: usize>(
-    sheet: &Sheet,
-    plan: &[u8],
-    rounds: usize,
-    tables: &mut RouteTables<N>,
-) -> Option<usize>
-    requires reader_tables { ReaderTables sheet.now plan.now tables.old.stops tables.old.ends tables.old.vehicles }
+fn read_rounds(sheet: &Sheet, plan: &[u8], rounds: usize, tables: &mut RouteTables) -> Option<usize>
+    requires reader_tables { ReaderTables sheet.now plan.now tables.old.stops.now tables.old.ends.now tables.old.vehicles.now }
     requires rounds_value { (rounds ≡ rounds_at plan.now) × (rounds_at plan.now ≤ rows_of sheet.now) }
-    ensures rounds_as { RoundsAs sheet.now plan.now (rounds_at plan.now) result tables.new.stops tables.new.ends tables.new.vehicles }
-    ensures as_long { AsLong tables.old.stops tables.old.ends tables.old.vehicles tables.new.stops tables.new.ends tables.new.vehicles }
+    ensures rounds_as { RoundsAs sheet.now plan.now (rounds_at plan.now) result tables.new.stops.now tables.new.ends.now tables.new.vehicles.now }
+    ensures as_long { AsLong tables.old.stops.now tables.old.ends.now tables.old.vehicles.now tables.new.stops.now tables.new.ends.now tables.new.vehicles.now }
+    ensures lent { Lent tables.old tables.new }
 {
     let mut at = 0;
     // Over numbers: a round is read into three tables, at k in two of them.
@@ -136,14 +134,11 @@ fn each_once(sheet: &Sheet, rows: &[u16]) -> bool
 }
 
 // The rounds, then the stops set aside.
-fn read_chains<const N: usize>(
-    sheet: &Sheet,
-    plan: &[u8],
-    tables: &mut RouteTables<N>,
-) -> Option<usize>
-    requires { ReaderTables sheet.now plan.now tables.old.stops tables.old.ends tables.old.vehicles }
-    ensures chains_as { ChainsAs sheet.now plan.now result tables.new.stops tables.new.ends tables.new.vehicles }
-    ensures as_long { AsLong tables.old.stops tables.old.ends tables.old.vehicles tables.new.stops tables.new.ends tables.new.vehicles }
+fn read_chains(sheet: &Sheet, plan: &[u8], tables: &mut RouteTables) -> Option<usize>
+    requires { ReaderTables sheet.now plan.now tables.old.stops.now tables.old.ends.now tables.old.vehicles.now }
+    ensures chains_as { ChainsAs sheet.now plan.now result tables.new.stops.now tables.new.ends.now tables.new.vehicles.now }
+    ensures as_long { AsLong tables.old.stops.now tables.old.ends.now tables.old.vehicles.now tables.new.stops.now tables.new.ends.now tables.new.vehicles.now }
+    ensures lent { Lent tables.old tables.new }
 {
     let rounds = wire::u16_at(plan, 0) as usize;
     if sheet.rows() < rounds {
@@ -151,21 +146,19 @@ fn read_chains<const N: usize>(
     }
     let start = read_rounds(sheet, plan, rounds, tables)?;
     let aside = wire::u16_at(plan, 2) as usize;
-    follow(sheet, plan, aside, &mut tables.stops, start)
+    follow(sheet, plan, aside, tables.stops, start)
 }
 
 // The outcome of a plan, into the tables.
-pub fn read_plan<const N: usize>(
-    sheet: &Sheet,
-    plan: &[u8],
-    tables: &mut RouteTables<N>,
-) -> Option<usize>
-    requires { ReaderTables sheet.now plan.now tables.old.stops tables.old.ends tables.old.vehicles }
-    ensures read_as { ReadAs sheet.now plan.now result tables.new.stops tables.new.ends tables.new.vehicles }
-    ensures as_long { AsLong tables.old.stops tables.old.ends tables.old.vehicles tables.new.stops tables.new.ends tables.new.vehicles }
+pub fn read_plan(sheet: &Sheet, plan: &[u8], tables: &mut RouteTables) -> Option<usize>
+    requires { ReaderTables sheet.now plan.now tables.old.stops.now tables.old.ends.now tables.old.vehicles.now }
+    ensures read_as { ReadAs sheet.now plan.now result tables.new.stops.now tables.new.ends.now tables.new.vehicles.now }
+    ensures as_long { AsLong tables.old.stops.now tables.old.ends.now tables.old.vehicles.now tables.new.stops.now tables.new.ends.now tables.new.vehicles.now }
+    ensures lent { Lent tables.old tables.new }
 {
     let total = read_chains(sheet, plan, tables)?;
-    let stops = &tables.stops[..];
+    // `&mut` though it is only read: of a field that was lent as `&` a proof knows no element afterwards
+    let stops: &[u16] = &mut *tables.stops;
     if !each_once(sheet, &stops[..total]) {
         return None;
     }

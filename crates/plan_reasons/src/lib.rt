@@ -10,7 +10,7 @@ ghost use Rattle.plan.specs.Writable.{Chained};
 ghost use Rattle.plan_reasons.specs.Reasons.{reason_place, with_reasons, reason_at, reasons_right};
 ghost use Rattle.plan_reasons.specs.Copying.{AllDropped, Copied};
 
-use constructive::tables::RouteTables;
+use constructive::tables::RouteTablesRef;
 use sheet::Sheet;
 
 // The limiter's reason for each stop that it drops: no reason is above it.
@@ -18,18 +18,17 @@ pub const DROPPED: u16 = 8;
 
 // The stops set aside, of the outcome in the tables.
 #[tactic(auto, unfolding(constructive::specs::Outcome::outcome_in))]
-pub fn aside_of<'a, const N: usize>(
+pub fn aside_of<'a>(
     _sheet: &Sheet,
-    tables: &'a RouteTables<N>,
+    tables: &RouteTablesRef<'a>,
     rounds: usize,
     total: usize,
 ) -> &'a [u16]
-    requires { Tables _sheet.now tables.now.stops tables.now.ends tables.now.vehicles rounds total }
-    ensures value { result.now ≡ (outcome_in tables.now.stops tables.now.ends tables.now.vehicles rounds total).aside }
+    requires { Tables _sheet.now tables.now.stops.now tables.now.ends.now tables.now.vehicles.now rounds total }
+    ensures value { result.now ≡ (outcome_in tables.now.stops.now tables.now.ends.now tables.now.vehicles.now rounds total).aside }
     ensures chained { Chained _sheet.now result.now }
 {
-    let stops = &tables.stops[..];
-    &stops[tables.start_of(rounds)..total]
+    &tables.stops[tables.start_of(rounds)..total]
 }
 
 // The reason of a row, as it stands in a plan.

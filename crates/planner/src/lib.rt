@@ -13,7 +13,7 @@ ghost use Rattle.planner.specs.Answer.{priced, plan_for, Answered, Once, Feasibl
 ghost use Rattle.planner.specs.Limited.{LimitAnswered, LimitOnce, LimitFew, LimitStood, LimitAside};
 ghost use Rattle.planner.specs.Reasoned.{Reasoned, LimitReasoned};
 
-use constructive::tables::RouteTables;
+use constructive::tables::{RouteArrays, RouteTables};
 use sheet::Sheet;
 use sheet::refusal::Refusal;
 use tariff::Rates;
@@ -47,9 +47,15 @@ fn fill(sheet: &Sheet, plan: &mut [u8])
 {
     let mut at = [0u16; sheet::MOST_ROWS];
     let mut marks = [0u16; sheet::MOST_ROWS];
-    let mut tables = RouteTables::<{ sheet::MOST_ROWS }>::new();
+    let mut arrays = RouteArrays::<{ sheet::MOST_ROWS }>::new();
+    let mut tables = RouteTables {
+        stops: &mut arrays.stops,
+        ends: &mut arrays.ends,
+        vehicles: &mut arrays.vehicles,
+    };
     let total = plan_door::stops_in(sheet.bytes());
     let filled = multi_depot::outcome(sheet, &mut at, &mut marks, &mut tables);
+    let tables = tables.as_ref();
     plan::write_plan(plan, sheet, &tables, filled.rounds, total, is_priced(sheet));
     let aside = plan_reasons::aside_of(sheet, &tables, filled.rounds, total);
     plan_reasons::write_reasons(plan, sheet, aside, |row| reason_number(sheet, row));

@@ -4,13 +4,14 @@
 ghost use Rattle.std.specs.Prelude.{◌≡◌, length};
 ghost use Rattle.sheet.specs.Fields.{plan_length};
 ghost use Rattle.sheet.specs.Told.{told};
+ghost use Rattle.constructive.specs.Lent.{Lent};
 ghost use Rattle.constructive.specs.Outcome.{outcome_in};
 ghost use Rattle.plan.specs.Read.{read_plan};
 ghost use Rattle.plan_reader.specs.Reading.{stop_count};
 ghost use Rattle.fleet_limiter.specs.Limitable.{Limitable};
 ghost use Rattle.planner_limiting.specs.Limiting.{limited_plan, LimitDone};
 
-use constructive::tables::RouteTables;
+use constructive::tables::{RouteArrays, RouteTables};
 use sheet::Sheet;
 use sheet::refusal::Refusal;
 
@@ -21,22 +22,24 @@ fn limit_read(
     plan_in: &[u8],
     greatest: u32,
     plan_out: &mut [u8],
-    tables: &mut RouteTables<{ sheet::MOST_ROWS }>,
+    tables: &mut RouteTables,
     rounds: usize,
 )
-    requires limitable { Limitable sheet.now tables.old.stops tables.old.ends tables.old.vehicles rounds (stop_count sheet.now) }
-    requires outcome { outcome_in tables.old.stops tables.old.ends tables.old.vehicles rounds (stop_count sheet.now) ≡ read_plan sheet.now plan_in.now }
+    requires limitable { Limitable sheet.now tables.old.stops.now tables.old.ends.now tables.old.vehicles.now rounds (stop_count sheet.now) }
+    requires outcome { outcome_in tables.old.stops.now tables.old.ends.now tables.old.vehicles.now rounds (stop_count sheet.now) ≡ read_plan sheet.now plan_in.now }
     requires plan_in_len { length plan_in.now ≡ plan_length sheet.now }
     requires plan_out_len { length plan_out.old ≡ plan_length sheet.now }
-    ensures { plan_out.new ≡ limited_plan sheet.now plan_in.now greatest }
+    ensures plan_out_after { plan_out.new ≡ limited_plan sheet.now plan_in.now greatest }
+    ensures lent { Lent tables.old tables.new }
 {
     let mut why = [plan_reasons::DROPPED; sheet::MOST_ROWS];
     let total = plan_door::stops_in(sheet.bytes());
-    let earlier = plan_reasons::aside_of(sheet, tables, rounds, total);
+    let earlier = plan_reasons::aside_of(sheet, &tables.as_ref(), rounds, total);
     plan_reasons::copy_reasons(sheet, plan_in, earlier, &mut why);
     let left = fleet_limiter::limit_routes(sheet, greatest, tables, rounds, total);
-    plan::write_plan(plan_out, sheet, tables, left, total, true);
-    let aside = plan_reasons::aside_of(sheet, tables, left, total);
+    let tables = tables.as_ref();
+    plan::write_plan(plan_out, sheet, &tables, left, total, true);
+    let aside = plan_reasons::aside_of(sheet, &tables, left, total);
     plan_reasons::write_reasons(plan_out, sheet, aside, |row| why[row as usize]);
 }
 
@@ -49,7 +52,12 @@ pub fn limit(
 ) -> Result<(), Refusal>
     ensures { LimitDone sheet.now plan_in.now greatest plan_out.old (told result) plan_out.new }
 {
-    let mut tables = RouteTables::<{ sheet::MOST_ROWS }>::new();
+    let mut arrays = RouteArrays::<{ sheet::MOST_ROWS }>::new();
+    let mut tables = RouteTables {
+        stops: &mut arrays.stops,
+        ends: &mut arrays.ends,
+        vehicles: &mut arrays.vehicles,
+    };
     let room = plan_out.len() == plan_in.len();
     let rounds = plan_door::enter(sheet, plan_in, room, true, &mut tables)?;
     let sheet = Sheet::new(sheet);

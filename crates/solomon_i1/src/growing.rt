@@ -3,6 +3,7 @@ ghost use Rattle.std.specs.Prelude.{◌≡◌, [], ◌+◌, ◌-◌, ◌≤◌, 
 ghost use Rattle.sheet.specs.Fields.{most_rows};
 ghost use Rattle.lists.specs.Moved.{without};
 ghost use Rattle.wire.specs.Bytes.{write};
+ghost use Rattle.constructive.specs.Lent.{Lent};
 ghost use Rattle.constructive.specs.Members.{part};
 ghost use Rattle.constructive.specs.Outcome.{stops_of};
 ghost use Rattle.constructive.specs.Stored.{Room};
@@ -72,35 +73,35 @@ fn open_round(
 
 // Lays down the rounds of the members, which stand in the table of stops from where the tables are filled up to `total`: the
 // rounds then stand first, and the stops set aside after them, in the order met.
-pub fn lay_rounds<const N: usize>(
+pub fn lay_rounds(
     sheet: &Sheet,
     terms: Terms,
-    tables: &mut RouteTables<N>,
+    tables: &mut RouteTables,
     filled: Filled,
     total: usize,
     trial: &mut [u16],
 ) -> Filled
-    requires joinable { Joinable sheet.now terms [] (part tables.old.stops filled.routed total) }
+    requires joinable { Joinable sheet.now terms [] (part tables.old.stops.now filled.routed total) }
     requires total_bound { (total ≤ most_rows) × (filled.routed ≤ total) }
-    requires total_in_bounds { (total ≤ length tables.old.stops) × (total - filled.routed ≤ length trial.old) }
-    requires room { Room tables.old.ends tables.old.vehicles filled total }
-    ensures entered { Entered tables.old.ends tables.old.vehicles filled (plan_on sheet.now terms (length (part tables.old.stops filled.routed total)) (part tables.old.stops filled.routed total)).rounds tables.new.ends tables.new.vehicles result }
-    ensures stops_after { tables.new.stops ≡ write tables.old.stops filled.routed (stops_of (plan_on sheet.now terms (length (part tables.old.stops filled.routed total)) (part tables.old.stops filled.routed total))) }
+    requires total_in_bounds { (total ≤ length tables.old.stops.now) × (total - filled.routed ≤ length trial.old) }
+    requires room { Room tables.old.ends.now tables.old.vehicles.now filled total }
+    ensures entered { Entered tables.old.ends.now tables.old.vehicles.now filled (plan_on sheet.now terms (length (part tables.old.stops.now filled.routed total)) (part tables.old.stops.now filled.routed total)).rounds tables.new.ends.now tables.new.vehicles.now result }
+    ensures stops_after { tables.new.stops.now ≡ write tables.old.stops.now filled.routed (stops_of (plan_on sheet.now terms (length (part tables.old.stops.now filled.routed total)) (part tables.old.stops.now filled.routed total))) }
+    ensures lent { Lent tables.old tables.new }
 {
     let mut done = filled;
     let mut at = filled.routed;
     let mut end = total;
     // two ends move towards each other: which one is told by the stop between
     while at < end {
-        let stops = &tables.stops[..];
+        let stops = &mut *tables.stops;
         let seed = seed::farthest(sheet, terms.depot, &stops[at..end]);
         if !seed::goes_alone(sheet, terms, stops[at + seed]) {
-            tables::send_last(&mut tables.stops[..total], at + seed);
+            tables::send_last(&mut stops[0..total], at + seed);
             end = end - 1;
             continue;
         }
-        let left = &mut tables.stops[..];
-        at = at + open_round(sheet, terms, &mut left[at..end], seed, trial);
+        at = at + open_round(sheet, terms, &mut stops[at..end], seed, trial);
         done = tables.close_round(done, terms.vehicle, at);
     }
     done

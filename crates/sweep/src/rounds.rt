@@ -5,6 +5,7 @@ ghost use Rattle.wire.specs.Bytes.{write};
 ghost use Rattle.sheet.specs.Values.{demand_of};
 ghost use Rattle.evaluation.specs.Routed.{Routed};
 ghost use Rattle.constructive.specs.Load.{load_of};
+ghost use Rattle.constructive.specs.Lent.{Lent};
 ghost use Rattle.constructive.specs.Stored.{Stored, Room, filled_by};
 ghost use Rattle.constructive.specs.Members.{part, Members};
 ghost use Rattle.sweep.specs.Sweep.{unservable, closes, swept_by};
@@ -73,30 +74,32 @@ fn set_aside(stops: &mut [u16], at: usize, total: usize)
 }
 
 // The next stop is set aside, begins a round, or joins the one that is being filled.
-fn meet<const N: usize>(
+fn meet(
     sheet: &Sheet,
     terms: Terms,
-    tables: &mut RouteTables<N>,
+    tables: &mut RouteTables,
     packing: Packing,
     total: usize,
 ) -> Packing
-    requires members { Members sheet.now terms.depot tables.old.stops packing.filled.routed total }
-    requires room { Room tables.old.ends tables.old.vehicles packing.filled total }
-    requires midway { Midway sheet.now tables.old.stops packing total }
-    ensures { Met sheet.now terms total tables.old.stops tables.old.ends tables.old.vehicles packing tables.new.stops tables.new.ends tables.new.vehicles result }
+    requires members { Members sheet.now terms.depot tables.old.stops.now packing.filled.routed total }
+    requires room { Room tables.old.ends.now tables.old.vehicles.now packing.filled total }
+    requires midway { Midway sheet.now tables.old.stops.now packing total }
+    ensures met { Met sheet.now terms total tables.old.stops.now tables.old.ends.now tables.old.vehicles.now packing tables.new.stops.now tables.new.ends.now tables.new.vehicles.now result }
+    ensures lent { Lent tables.old tables.new }
 {
     let filled = packing.filled;
     let end = packing.end;
-    let demand = sheet.demand(tables.stops[end] as usize);
-    if is_unservable(sheet, terms, &tables.stops, end, demand) {
-        set_aside(&mut tables.stops, end, total);
+    let stops = &mut *tables.stops;
+    let demand = sheet.demand(stops[end] as usize);
+    if is_unservable(sheet, terms, stops, end, demand) {
+        set_aside(stops, end, total);
         return Packing {
             mid: packing.mid - 1,
             ..packing
         };
     }
     let load = packing.load + demand;
-    if is_closing(sheet, terms, &tables.stops, filled.routed, end, load) {
+    if is_closing(sheet, terms, stops, filled.routed, end, load) {
         let closed = tables.close_round(filled, terms.vehicle, end);
         return Packing {
             filled: closed,
@@ -113,17 +116,18 @@ fn meet<const N: usize>(
 }
 
 // Packs the stops from where the tables are filled up to `total`.
-pub fn pack<const N: usize>(
+pub fn pack(
     sheet: &Sheet,
     terms: Terms,
-    tables: &mut RouteTables<N>,
+    tables: &mut RouteTables,
     filled: Filled,
     total: usize,
 ) -> Filled
-    requires members { Members sheet.now terms.depot tables.old.stops filled.routed total }
-    requires room { Room tables.old.ends tables.old.vehicles filled total }
-    ensures value { result ≡ filled_by filled (swept_by sheet.now terms (part tables.old.stops filled.routed total)).rounds }
-    ensures stored { Stored tables.old.stops tables.old.ends tables.old.vehicles filled (swept_by sheet.now terms (part tables.old.stops filled.routed total)) tables.new.stops tables.new.ends tables.new.vehicles }
+    requires members { Members sheet.now terms.depot tables.old.stops.now filled.routed total }
+    requires room { Room tables.old.ends.now tables.old.vehicles.now filled total }
+    ensures value { result ≡ filled_by filled (swept_by sheet.now terms (part tables.old.stops.now filled.routed total)).rounds }
+    ensures stored { Stored tables.old.stops.now tables.old.ends.now tables.old.vehicles.now filled (swept_by sheet.now terms (part tables.old.stops.now filled.routed total)) tables.new.stops.now tables.new.ends.now tables.new.vehicles.now }
+    ensures lent { Lent tables.old tables.new }
 {
     let mut packing = Packing {
         filled,

@@ -5,7 +5,7 @@ use Rattle.clarke_wright_merging.proofs.Merging.{goes_on, ends}
 use Rattle.clarke_wright_merging.proofs.merge_all.Goals as goal
 
 pub loop-entry-preserved : goal.loop-entry-preserved
-loop-entry-preserved g c =
+loop-entry-preserved c =
     let i = c.loop-entry.invariant in
     let m = c.merge.ensures in
     let kept = m.count_kept ∙ i.counted in
@@ -14,7 +14,8 @@ loop-entry-preserved g c =
       merging = goes_on i.merging c.loop-entry-test.true (rw kept at m.slotted_2) (rw (kept, i.counted) at m.lens_after);
       long = c.merge.auto.trial ∙ i.long;
       as_long = search rules;
+      lent = search rules;
     }
 
 pub returns-clause-lens_after : goal.returns-clause-lens_after
-returns-clause-lens_after g c = let i = c.loop-entry.invariant in rw i.counted (ends i.merging c.loop-entry-test.false)
+returns-clause-lens_after c = let i = c.loop-entry.invariant in rw i.counted (ends i.merging c.loop-entry-test.false)

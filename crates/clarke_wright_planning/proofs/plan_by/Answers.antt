@@ -1,7 +1,6 @@
 -- `clarke_wright_planning::plan_by` meets its contract. Assumes nothing.
 use mathlib.Core.Path.{sym, subst}
 use native.Mathlib.Omega.{arith}
-use Rattle.std.proofs.Common.{rules}
 use Rattle.evaluation.specs.Routed.{Routed}
 use Rattle.constructive.specs.Terms.{terms_of}
 use Rattle.constructive.specs.Members.{part}
@@ -11,14 +10,23 @@ use Rattle.clarke_wright_planning.proofs.Planned.{members_long, laying, aside_fi
 use Rattle.clarke_wright_planning.proofs.plan_by.Goals as goal
 
 pub returns-clause-value : goal.returns-clause-value
-returns-clause-value g c = planned_count c.requires.members c.requires.room c.directed_of-terms.result c.merge_members-aside.ensures.slotted c.merge_members-aside.ensures.lens_after c.merge_members-aside.ensures.value c.args.vehicle c.directed_of-terms.ensures c.lay.ensures.value
+returns-clause-value c = planned_count c.requires.members c.requires.room c.directed_of-terms.result c.merge_members-aside.ensures.slotted c.merge_members-aside.ensures.lens_after c.merge_members-aside.ensures.value c.args.vehicle c.directed_of-terms.ensures c.lay.ensures.value
 
 pub returns-clause-stored : goal.returns-clause-stored
-returns-clause-stored g c = planned_laid c.requires.members c.requires.room c.directed_of-terms.result c.merge_members-aside.ensures.slotted c.merge_members-aside.ensures.lens_after c.merge_members-aside.ensures.value c.args.vehicle c.directed_of-terms.ensures c.lay.ensures.stored
+returns-clause-stored c = planned_laid c.requires.members c.requires.room c.directed_of-terms.result c.merge_members-aside.ensures.slotted c.merge_members-aside.ensures.lens_after c.merge_members-aside.ensures.value c.args.vehicle c.directed_of-terms.ensures c.lay.ensures.stored
 
 pub merge_members-aside-requires : goal.merge_members-aside-requires
 unfolding directed_of terms_of
-merge_members-aside-requires g c = (search rules, (search rules, (subst (λ (t : Directed). Routed c.args.sheet.now t.common.depot (part c.args.tables.now.stops c.args.filled.routed c.args.total)) (sym c.directed_of-terms.ensures) c.requires.members.routed, (c.requires.by_index, (rw (members_long c.requires.members) c.requires.members_in_bounds, (rw (members_long c.requires.members) c.requires.roomy, omega arith))))))
+merge_members-aside-requires c = record {
+  routed = subst (λ (t : Directed). Routed c.args.sheet.now t.common.depot (part c.args.tables.now.stops.now c.args.filled.routed c.args.total)) (sym c.directed_of-terms.ensures) c.requires.members.routed;
+  by_index = c.requires.by_index;
+  space = rw (members_long c.requires.members) c.requires.space;
+  roomy = rw (members_long c.requires.members) c.requires.roomy;
+  most_rows_in_bounds = omega arith;
+}
 
 pub lay-requires : goal.lay-requires
-lay-requires g c = (search rules, (search rules, (laying c.requires.members c.requires.room c.directed_of-terms.result c.merge_members-aside.ensures.slotted c.merge_members-aside.ensures.lens_after, aside_fits c.requires.members c.requires.room c.directed_of-terms.result c.merge_members-aside.ensures.slotted c.merge_members-aside.ensures.lens_after c.merge_members-aside.ensures.value)))
+lay-requires c = record {
+  laying = laying c.requires.members c.requires.room c.directed_of-terms.result c.merge_members-aside.ensures.slotted c.merge_members-aside.ensures.lens_after;
+  aside_in_bounds = aside_fits c.requires.members c.requires.room c.directed_of-terms.result c.merge_members-aside.ensures.slotted c.merge_members-aside.ensures.lens_after c.merge_members-aside.ensures.value;
+}

@@ -4,7 +4,7 @@ use Rattle.fleet_cheapest.proofs.Rounds.{Inserting}
 use Rattle.fleet_cheapest.proofs.cheapest_insertion.Given as goal
 
 abbrev pub invariant-loop-i : goal.invariant-loop-i
-invariant-loop-i g l = Inserting l.sheet l.tables.stops l.tables.ends l.tables.vehicles l.n l.windows.soft l.row l.initial.trial l.trial l.best l.i
+invariant-loop-i l = Inserting l.sheet l.tables.stops.now l.tables.ends.now l.tables.vehicles.now l.n l.windows.soft l.row l.initial.trial l.trial l.best l.i
 
 abbrev pub decreases-loop-i : goal.decreases-loop-i
-decreases-loop-i g l = l.n - l.i
+decreases-loop-i l = l.n - l.i

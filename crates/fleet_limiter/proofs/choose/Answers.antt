@@ -3,4 +3,4 @@ use Rattle.fleet_limiter.proofs.Choosing.{picked}
 use Rattle.fleet_limiter.proofs.choose.Goals as goal
 
 pub returns : goal.returns
-returns g c = picked c.requires.tables c.start_of-routed.ensures _ c.cheapest.ensures
+returns c = picked c.requires.tables c.start_of-routed.ensures _ c.cheapest.ensures

@@ -4,14 +4,15 @@ use Rattle.fleet_limiter.proofs.Dropping.{leaves, after_tables, drops, stays}
 use Rattle.fleet_limiter.proofs.drop_round.Goals as goal
 
 pub take_out-requires : goal.take_out-requires
-take_out-requires g c = (search rules, leaves c.requires.tables c.requires.n_nonzero.0 c.victim-round.ensures)
+take_out-requires c = leaves c.requires.tables c.requires.n_nonzero.0 (rw (c.as_ref.ensures.stops, c.as_ref.ensures.ends) at c.victim-round.ensures)
 
 pub refit-requires : goal.refit-requires
-refit-requires g c = (search rules, (after_tables c.requires.tables c.requires.n_nonzero.0 c.victim-round.ensures c.requires.n_nonzero.1 c.take_out.ensures.held, c.requires.triable))
+refit-requires c = record { tables = after_tables c.requires.tables c.requires.n_nonzero.0 (rw (c.as_ref.ensures.stops, c.as_ref.ensures.ends) at c.victim-round.ensures) c.requires.n_nonzero.1 c.take_out.ensures.held; triable = c.requires.triable }
 
 pub returns : goal.returns
-returns g c = record {
+returns c = record {
   as_long = search rules;
-  held = drops c.requires.tables c.requires.n_nonzero.0 c.victim-round.ensures c.requires.n_nonzero.1 c.take_out.ensures.held _ c.refit.ensures.held;
-  behind_kept = stays c.requires.tables c.requires.n_nonzero.0 c.victim-round.ensures c.requires.n_nonzero.1 c.take_out.ensures.held _ c.take_out.ensures.behind_kept c.refit.ensures.behind_kept;
+  lent = search rules;
+  held = drops c.requires.tables c.requires.n_nonzero.0 (rw (c.as_ref.ensures.stops, c.as_ref.ensures.ends) at c.victim-round.ensures) c.requires.n_nonzero.1 c.take_out.ensures.held _ c.refit.ensures.held;
+  behind_kept = stays c.requires.tables c.requires.n_nonzero.0 (rw (c.as_ref.ensures.stops, c.as_ref.ensures.ends) at c.victim-round.ensures) c.requires.n_nonzero.1 c.take_out.ensures.held _ c.take_out.ensures.behind_kept c.refit.ensures.behind_kept;
 }

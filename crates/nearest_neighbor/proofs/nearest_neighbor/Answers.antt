@@ -5,4 +5,4 @@ use Rattle.nearest_neighbor.proofs.nearest_neighbor.Goals as goal
 
 pub returns : goal.returns
 unfolding nearest_neighbor rule_of
-returns g c = record { value = c.lay_rounds.ensures.value; stored = c.lay_rounds.ensures.stored }
+returns c = record { value = c.lay_rounds.ensures.value; stored = c.lay_rounds.ensures.stored; lent = c.lay_rounds.ensures.lent }

@@ -4,4 +4,4 @@ use Rattle.plan_figures.proofs.Walking.{Walking}
 use Rattle.plan_figures.proofs.walk_rounds.Given as goal
 
 abbrev pub invariant-loop-k : goal.invariant-loop-k
-invariant-loop-k g l = Walking l.tables.stops l.tables.ends l.tables.vehicles l.sheet (length l.initial.figures) l.figures l.k
+invariant-loop-k l = Walking l.tables.stops.now l.tables.ends.now l.tables.vehicles.now l.sheet (length l.initial.figures) l.figures l.k

@@ -4,4 +4,4 @@ use Rattle.std.proofs.Common.{rules}
 use Rattle.plan_reader.proofs.read_rounds.Goals as goal
 
 pub loop-k-init : goal.loop-k-init
-loop-k-init g c = let a = c.args in record { as_long = search rules; read = begins a.sheet.now a.plan.now a.tables.now.stops a.tables.now.ends a.tables.now.vehicles }
+loop-k-init c = let a = c.args in record { as_long = search rules; lent = search rules; read = begins a.sheet.now a.plan.now a.tables.now.stops.now a.tables.now.ends.now a.tables.now.vehicles.now }

@@ -8,4 +8,4 @@ write_reasons-requires c κs within = (search rules, (c.aside_of-aside.ensures.c
 
 pub returns : goal.returns
 unfolding plan_for
-returns c = rw (c.write_reasons.ensures, c.aside_of-aside.ensures.value, c.write_plan.ensures, c.stops_in-total.ensures, c.bytes.ensures.value, c.is_priced.ensures, c.outcome-filled.ensures.outcome_stored.outcome)
+returns c = rw (c.write_reasons.ensures, c.aside_of-aside.ensures.value, c.write_plan.ensures, c.as_ref-tables.ensures.stops, c.as_ref-tables.ensures.ends, c.as_ref-tables.ensures.vehicles, c.stops_in-total.ensures, c.bytes.ensures.value, c.is_priced.ensures, c.outcome-filled.ensures.outcome_stored.outcome)

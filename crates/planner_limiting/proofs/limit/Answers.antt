@@ -19,4 +19,4 @@ limit_read-requires c =
     }
 
 pub returns : goal.returns
-returns c = limit_done _ _ _ c.in_ok-rounds.ensures.entry_as _ _ (rw c.new-sheet.ensures at c.limit_read.ensures)
+returns c = limit_done _ _ _ c.in_ok-rounds.ensures.entry_as _ _ (rw c.new-sheet.ensures at c.limit_read.ensures.plan_out_after)
