@@ -45,6 +45,17 @@ impl<const CELLS: usize> SlotArrays<CELLS> {
             slots: [0; sheet::MOST_ROWS],
         }
     }
+
+    // The stops of slot k: `RouteSlots::route` for who has the arrays to be read alone, and can't lend them to be written.
+    pub fn route(&self, k: usize) -> &[u16]
+        requires celled { (k < most_rows) × (k * most_rows + most_rows ≤ length self.now.cells) }
+        requires long { get_or self.now.lens k 0 ≤ most_rows }
+        ensures { result.now ≡ slot_at self.now.cells self.now.lens k }
+    {
+        let start = k * sheet::MOST_ROWS;
+        let cells = &self.cells[..];
+        &cells[start..start + self.lens[k] as usize]
+    }
 }
 
 // Copies a round over the front of a table, last stop first. By a loop: `copy_from_slice` and `reverse` take twice the time.
@@ -126,5 +137,20 @@ impl RouteSlots<'_> {
         self.lens[from] = 0;
         self.loads[into] += self.loads[from];
         self.loads[from] = 0;
+    }
+}
+
+#[cfg(test)]
+mod tests {
+    use super::*;
+
+    #[test]
+    fn reads_the_stops_of_a_slot(rt: HostRuntime) {
+        let mut arrays = SlotArrays::<202>::new();
+        // the second slot begins at place 101
+        arrays.cells[101] = 7;
+        arrays.cells[102] = 9;
+        arrays.lens[1] = 2;
+        assert!(rt; arrays.route(1) == [7u16, 9].as_slice());
     }
 }

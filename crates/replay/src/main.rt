@@ -31,7 +31,7 @@ fn main(rt: HostRuntime) {
     let mut out = io::writer(&rt);
     for _ in 0..u64::MAX {
         if let Err(stop) = replay_record(&mut input, &mut out) {
-            if !line::print_stop(&mut out, stop) {
+            if !line::stop_at_ending(&mut out, stop) {
                 break;
             }
         }

@@ -2,6 +2,8 @@
 use Rattle.std.specs.Prelude.{ℕ, suc, ◌/◌, ◌%◌, false, List, [], ◌∷◌, ◌++◌, take, ℤ, pos, negsuc, codes, if◌then◌else◌, ◌==◌}
 use Rattle.std.specs.List.{flat_map}
 use Rattle.std.specs.Fmt.{decimal, digit_glyph}
+use Rattle.replay_io.specs.declared.record.Ending.{Ending}
+use Rattle.replay_io.specs.declared.record.Ending.TheVariants.{Done, Cut, Unknown, Unwritten}
 
 -- a number in decimal, and the line's end
 abbrev pub number_line : ℕ → List ℕ
@@ -28,3 +30,10 @@ answer_line number bytes = if number == 0 then bytes_line bytes else refused_lin
 abbrev pub counted_line : ℤ → List ℕ → List ℕ
 counted_line (pos n) room = bytes_line (take n room)
 counted_line (negsuc n) room = refused_line (suc n)
+
+-- what is printed where a run ends: at the end of its input, and where no more can be written, nothing
+abbrev pub ending_line : Ending → List ℕ
+ending_line Done = []
+ending_line Cut = codes "cut" ++ (10 ∷ [])
+ending_line (Unknown kind) = codes "unknown kind " ++ number_line kind
+ending_line Unwritten = []

@@ -1,7 +1,7 @@
 // The lines that are printed.
 ghost use Rattle.std.specs.Prelude.{◌≡◌, false, OnOk};
 ghost use Rattle.std.specs.Io.KnownBytes.{Appends};
-ghost use Rattle.replay_io.specs.Lines.{number_line, refused_line, bytes_line, answer_line, counted_line};
+ghost use Rattle.replay_io.specs.Lines.{number_line, refused_line, bytes_line, answer_line, counted_line, ending_line};
 
 use crate::record::Ending;
 use std::io;
@@ -23,8 +23,19 @@ pub fn stop_at_unknown<W: Write>(out: &mut W, kind: u8) -> bool
     false
 }
 
-// What is printed where a run ends. Answers that it does not go on.
-pub fn print_stop<W: Write>(out: &mut W, stop: Ending) -> bool
+// What is printed where a run ends. Fails where it can't be written.
+pub fn print_stop<W: Write>(out: &mut W, stop: Ending) -> io::Result<()>
+    ensures { OnOk result (Appends (W.contents out.old) (W.contents out.new) (ending_line stop)) }
+{
+    match stop {
+        Ending::Done | Ending::Unwritten => Ok(()),
+        Ending::Cut => out.write_all(b"cut\n"),
+        Ending::Unknown(kind) => writeln!(out, "unknown kind {kind}"),
+    }
+}
+
+// Ends a run, whatever ended it: cannot fail, and answers that it does not go on.
+pub fn stop_at_ending<W: Write>(out: &mut W, stop: Ending) -> bool
     ensures { result ≡ false }
 {
     match stop {
@@ -74,4 +85,31 @@ pub fn print_counted<W: Write>(out: &mut W, answer: i32, room: &[u8]) -> io::Res
         return print_refused(out, answer.unsigned_abs());
     }
     print_bytes(out, &room[..room.len().min(answer as usize)])
+}
+
+#[cfg(test)]
+mod tests {
+    use super::*;
+    use std::io::Cursor;
+
+    #[test]
+    fn prints_where_a_run_ends(rt: HostRuntime) {
+        let mut out = Cursor::new([0u8; 21]);
+        assert!(rt; print_stop(&mut out, Ending::Done).is_ok());
+        assert!(rt; print_stop(&mut out, Ending::Cut).is_ok());
+        assert!(rt; print_stop(&mut out, Ending::Unwritten).is_ok());
+        assert!(rt; print_stop(&mut out, Ending::Unknown(200)).is_ok());
+        assert!(rt; out.into_inner() == *b"cut\nunknown kind 200\n");
+    }
+
+    // Who prints is told where it can't be written; a run ends all the same.
+    #[test]
+    fn tells_where_there_is_no_room(rt: HostRuntime) {
+        for stop in [Ending::Cut, Ending::Unknown(7)] {
+            let mut out = Cursor::new([0u8; 3]);
+            assert!(rt; print_stop(&mut out, stop).is_err());
+        }
+        let mut out = Cursor::new([0u8; 3]);
+        assert!(rt; !stop_at_ending(&mut out, Ending::Cut));
+    }
 }
